@@ -1,0 +1,8 @@
+-- What every crate shares: the sizes, and general definitions with their laws.
+pub mod Sizes
+pub mod Bools
+pub mod All
+pub mod Over
+pub mod Rows
+pub mod Lists
+pub mod Sums

@@ -1,0 +1,32 @@
+// The sizes, each once, and a byte made wider. specs/Sizes.antt has the same numbers; the rest of specs/ holds the
+// definitions and laws that every crate shares.
+ghost use mathlib.Core.Path.{_≡_};
+ghost use Prim.Native.Nat.{_<_};
+
+// Sites of a network at most.
+pub const SITES: usize = 16;
+// Net-inputs of a site.
+pub const INPUTS: usize = 5;
+// Net-outputs of a site.
+pub const OUTPUTS: usize = 5;
+// Ports of a site that a channel may join: 1 to 4.
+pub const PORTS: usize = 4;
+// Places of a queue.
+pub const QUEUE: usize = 8;
+// Codes of RUN.
+pub const CODES: usize = 13;
+// The channel byte of an output that is joined to nothing.
+pub const NO_CHANNEL: u8 = 255;
+// Stored sends at most.
+pub const SENDS: usize = 255;
+// Packets accepted at most.
+pub const PACKETS: u8 = 255;
+// Bits of a set of sites.
+pub const SET: usize = 64;
+
+// The same number, as an index.
+pub fn wide(x: u8) -> usize
+    ensures { λ r. ⌜ (r ≡ x) × (r < 256) ⌝ }
+{
+    x as usize
+}

@@ -1,0 +1,2 @@
+-- The laws of draws.
+pub mod Laws

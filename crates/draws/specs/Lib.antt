@@ -1,0 +1,2 @@
+-- The definitions of draws.
+pub mod Draws

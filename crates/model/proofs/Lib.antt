@@ -1,0 +1,6 @@
+-- The theorems about the definitions of edition 1, and what they rest on.
+pub mod Examples
+pub mod Networks
+pub mod Refusals
+pub mod Pairs
+pub mod Played

@@ -1,0 +1,94 @@
+-- Document 01, single events: SEND and RUN with their refusals, "single events 3, 6, 7, 13, 9, 10, 12, 11"; and what a list of events leaves behind.
+use Prim.Native.Nat.{ℕ, zero, suc, _+_}
+use mathlib.Core.List.{List, [], _∷_}
+use mathlib.Core.Bool.{Bool, true, false, cond, not, _&&_}
+use lib.Dec.{eqb, ltb, leb}
+use Rattle.base.specs.Sizes.{codeCount, packetsMost}
+use Rattle.base.specs.Bools.{count}
+use Rattle.sets.specs.Sets.{targets}
+use Rattle.model.specs.Types.{Site, State, Network, Sent, Accepted, SendRefused, Ran, Nothing, Changed, Serviced, RunRefused, AfterSend, AfterRun, siteAt}
+use Rattle.model.specs.Network.{networkRefusal}
+use Rattle.model.specs.Range.{inRange}
+use Rattle.model.specs.Steps.{Stepped, run, enqueue}
+
+-- the network's own refusals 3, 6, 7, then "13: state not in range", then those of the event
+abbrev pub refusalThen : Network → State → ℕ → ℕ
+refusalThen n st own = cond (eqb (networkRefusal n) 0) (cond (inRange n st) own 13) (networkRefusal n)
+
+-- "9: RUN or SEND: no such site or code"
+abbrev pub runFault : Network → ℕ → ℕ → ℕ
+runFault n s code = cond (ltb s (n .sites) && ltb code codeCount) 0 9
+
+-- "9 .. no such site"; "10: SEND: set empty or outside S"; "12: 255 packets already accepted"; "11: out-queue full"
+abbrev pub sendFault : Network → State → ℕ → ℕ → ℕ
+sendFault n st s X =
+    cond (ltb s (n .sites))
+    (cond (targets (n .sites) X)
+    (cond (ltb (st .counter) packetsMost)
+    (cond (ltb (siteAt (st .sites) s .outgoing .count) (n .depth)) 0 11)
+    12)
+    10)
+    9
+
+unfoldable pub runRefusal : Network → State → ℕ → ℕ → ℕ
+runRefusal n st s code = refusalThen n st (runFault n s code)
+
+unfoldable pub sendRefusal : Network → State → ℕ → ℕ → ℕ
+sendRefusal n st s X = refusalThen n st (sendFault n st s X)
+
+-- nothing refused: RUN's answer and state; SEND "takes the counter as packet number, adds one", "The answer is the packet number."
+abbrev pub runs : Network → State → ℕ → ℕ → AfterRun
+runs n st s code =
+    let r = run n (st .sites) s code in
+    record { answer = r .answer; state = record { sites = r .sites; counter = st .counter } }
+
+abbrev pub sends : State → ℕ → ℕ → AfterSend
+sends st s X = record { answer = Accepted (st .counter); state = record { sites = enqueue (st .sites) s (st .counter) X; counter = st .counter + 1 } }
+
+-- the single events: a refusal gives its number and hands the state back
+unfoldable pub ran : Network → State → ℕ → ℕ → AfterRun
+ran n st s code = cond (eqb (runRefusal n st s code) 0) (runs n st s code) (record { answer = RunRefused (runRefusal n st s code); state = st })
+
+unfoldable pub sent : Network → State → ℕ → ℕ → AfterSend
+sent n st s X = cond (eqb (sendRefusal n st s X) 0) (sends st s X) (record { answer = SendRefused (sendRefusal n st s X); state = st })
+
+pub data Event : Type 0 where
+  Send : ℕ → ℕ → Event
+  Run : ℕ → ℕ → Event
+
+abbrev pub after : Network → State → Event → State
+after n st (Send s X) = sent n st s X .state
+after n st (Run s code) = ran n st s code .state
+
+-- the state after a list of events
+unfoldable pub final : Network → State → List Event → State
+final n st [] = st
+final n st (e ∷ es) = final n (after n st e) es
+
+-- the sets of the accepted packets, in the order of their numbers
+abbrev pub ifAccepted : Sent → ℕ → List ℕ → List ℕ
+ifAccepted (Accepted q) X l = X ∷ l
+ifAccepted (SendRefused k) X l = l
+
+abbrev pub acceptedBy : Network → State → Event → List ℕ → List ℕ
+acceptedBy n st (Send s X) l = ifAccepted (sent n st s X .answer) X l
+acceptedBy n st (Run s code) l = l
+
+unfoldable pub accepted : Network → State → List Event → List ℕ
+accepted n st [] = []
+accepted n st (e ∷ es) = acceptedBy n st e (accepted n (after n st e) es)
+
+-- how often packet p was serviced at site t: by an answer, by an event, by a list of them
+abbrev pub hits : ℕ → ℕ → Ran → ℕ
+hits p t Nothing = 0
+hits p t Changed = 0
+hits p t (Serviced q s) = cond (eqb p q) (cond (eqb t s) 1 0) 0
+hits p t (RunRefused k) = 0
+
+abbrev pub servicedBy : Network → State → Event → ℕ → ℕ → ℕ
+servicedBy n st (Send s X) p t = 0
+servicedBy n st (Run s code) p t = hits p t (ran n st s code .answer)
+
+unfoldable pub serviced : Network → State → List Event → ℕ → ℕ → ℕ
+serviced n st [] p t = 0
+serviced n st (e ∷ es) p t = servicedBy n st e p t + serviced n (after n st e) es p t

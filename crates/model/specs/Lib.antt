@@ -1,0 +1,12 @@
+pub mod Types
+pub mod Numbers
+pub mod Network
+pub mod Phases
+pub mod Range
+pub mod Router
+pub mod NetInput
+pub mod Places
+pub mod Steps
+pub mod Events
+pub mod Owing
+pub mod Runs

@@ -1,0 +1,80 @@
+-- Document 01, "Network and state": channels, route lists, and which networks are valid, as the refusal number 3, 6, 7 or none.
+-- Room beyond S sites is not looked at.
+use Prim.Native.Nat.{ℕ, zero, suc, _+_, _-_, _*_, _/_, _%_}
+use mathlib.Core.List.{List, [], _∷_}
+use mathlib.Core.Bool.{Bool, true, false, cond, not, _&&_, _||_}
+use lib.Dec.{eqb, ltb, leb}
+use lib.ListN.{getD}
+use Rattle.base.specs.Sizes.{sitesMost, portCount, queueRoom, noChannel}
+use Rattle.base.specs.Bools.{implies}
+use Rattle.base.specs.All.{all}
+use Rattle.model.specs.Types.{Network}
+
+-- "per site and port 1..4 a channel byte, 255 for none, else 4 x site + port - 1 of the input": that of output j + 1 of site s
+abbrev pub channelByte : Network → ℕ → ℕ
+channelByte n c = getD (n .channels) c 0
+
+abbrev pub channel : Network → ℕ → ℕ → ℕ
+channel n s j = channelByte n (portCount * s + j)
+
+abbrev pub joined : Network → ℕ → ℕ → Bool
+joined n s j = not (eqb (channel n s j) noChannel)
+
+-- the site at a channel's end, and one less than the input's port there
+abbrev pub endSite : ℕ → ℕ
+endSite b = b / portCount
+
+abbrev pub endPort : ℕ → ℕ
+endPort b = b % portCount
+
+-- "for each from-site and to-site a 2-byte route, four hex digits, the first choice highest"
+abbrev pub routeOf : Network → ℕ → ℕ → ℕ
+routeOf n s t = getD (n .routes) (s * n .sites + t) 0
+
+abbrev pub choices : ℕ → List ℕ
+choices r = r / 4096 ∷ r / 256 % 16 ∷ r / 16 % 16 ∷ r % 16 ∷ []
+
+abbrev pub listOf : Network → ℕ → ℕ → List ℕ
+listOf n s t = choices (routeOf n s t)
+
+-- "S sites, 1 to 16"; "T, 1 to 255" (a byte: at most 255); "D, 1 to 8"
+abbrev pub sizesOk : Network → Bool
+sizesOk n = leb 1 (n .sites) && leb (n .sites) sitesMost && leb 1 (n .tries) && leb 1 (n .depth) && leb (n .depth) queueRoom
+
+-- "channel byte neither 255 nor below 4S, or an input fed twice" is what is turned down
+abbrev pub channelOk : Network → ℕ → Bool
+channelOk n c =
+    eqb (channelByte n c) noChannel
+    || ltb (channelByte n c) (portCount * n .sites)
+    && all (λ d. not (eqb (channelByte n d) (channelByte n c))) c
+
+abbrev pub channelsOk : Network → Bool
+channelsOk n = all (channelOk n) (portCount * n .sites)
+
+-- "one to four different ports with channels"; "zeros only after the last port". choice k of the list l
+abbrev pub choice : List ℕ → ℕ → ℕ
+choice l k = getD l k 0
+
+abbrev pub portOk : Network → ℕ → ℕ → Bool
+portOk n s p = eqb p 0 || leb p portCount && joined n s (p - 1)
+
+abbrev pub differs : List ℕ → ℕ → Bool
+differs l k = eqb (choice l k) 0 || all (λ i. not (eqb (choice l i) (choice l k))) k
+
+abbrev pub listOk : Network → ℕ → List ℕ → Bool
+listOk n s l =
+    not (eqb (choice l 0) 0)
+    && all (λ k. portOk n s (choice l k)) portCount
+    && all (λ k. implies (eqb (choice l k) 0) (eqb (choice l (k + 1)) 0)) (portCount - 1)
+    && all (differs l) portCount
+
+-- "For each ordered pair of different sites a route list"; "all zero from a site to itself"
+abbrev pub routeOk : Network → ℕ → ℕ → Bool
+routeOk n s t = eqb s t && eqb (routeOf n s t) 0 || not (eqb s t) && listOk n s (listOf n s t)
+
+abbrev pub routesOk : Network → Bool
+routesOk n = all (λ s. all (routeOk n s) (n .sites)) (n .sites)
+
+-- "3: S, T or D outside its limits"; "6: channel byte .."; "7: a route not as described"; 0 for a valid network
+unfoldable pub networkRefusal : Network → ℕ
+networkRefusal n = cond (sizesOk n) (cond (channelsOk n) (cond (routesOk n) 0 7) 6) 3

@@ -1,0 +1,69 @@
+-- Document 01's number for each case of an enum, and its numbers for each answer.
+use Prim.Native.Nat.{ℕ}
+use mathlib.Core.List.{List, [], _∷_}
+use Rattle.model.specs.Types.{Connection, Unicast, Passthru, AllRemote, SomeLocal, Handed, Received, gotEnd, gotAbort, Terminator, tNone, tEnd, tAbort, tKeep, Phase, Free, Seek, Open, Wait, Done, Last, Aborted, FinAbort, Sent, Accepted, SendRefused, Ran, Nothing, Changed, Serviced, RunRefused}
+
+-- "connection (0 none, 1 unicast, 2 passthru, 3 all-remote, 4 some-local, 5 handed)"
+abbrev pub connectionNumber : Connection → ℕ
+connectionNumber Unicast = 1
+connectionNumber Passthru = 2
+connectionNumber AllRemote = 3
+connectionNumber SomeLocal = 4
+connectionNumber Handed = 5
+
+-- "terminator (0 none, 1 end, 2 abort)" of a net-input
+abbrev pub receivedNumber : Received → ℕ
+receivedNumber gotEnd = 1
+receivedNumber gotAbort = 2
+
+-- "terminator (0 to 2, or 3 keep-local)" of an output or an in-queue entry
+abbrev pub terminatorNumber : Terminator → ℕ
+terminatorNumber tNone = 0
+terminatorNumber tEnd = 1
+terminatorNumber tAbort = 2
+terminatorNumber tKeep = 3
+
+-- "state number (0 free, 1 seek, 2 open, 3 wait, 4 done, 5 last, 6 abort, 7 fin-abort)"
+abbrev pub stateNumber : Phase → ℕ
+stateNumber Free = 0
+stateNumber Seek = 1
+stateNumber (Open c) = 2
+stateNumber (Wait c) = 3
+stateNumber (Done c r) = 4
+stateNumber (Last c r) = 5
+stateNumber (Aborted c) = 6
+stateNumber (FinAbort c r) = 7
+
+-- a net-input's connection and terminator, as numbers
+abbrev pub connectionOf : Phase → ℕ
+connectionOf Free = 0
+connectionOf Seek = 0
+connectionOf (Open c) = connectionNumber c
+connectionOf (Wait c) = connectionNumber c
+connectionOf (Done c r) = connectionNumber c
+connectionOf (Last c r) = connectionNumber c
+connectionOf (Aborted c) = connectionNumber c
+connectionOf (FinAbort c r) = connectionNumber c
+
+abbrev pub terminatorOf : Phase → ℕ
+terminatorOf Free = 0
+terminatorOf Seek = 0
+terminatorOf (Open c) = 0
+terminatorOf (Wait c) = 0
+terminatorOf (Done c r) = receivedNumber r
+terminatorOf (Last c r) = receivedNumber r
+terminatorOf (Aborted c) = 0
+terminatorOf (FinAbort c r) = receivedNumber r
+
+-- SEND: the refusal number, the packet. "A refusal's other numbers are zero."
+abbrev pub sentNumbers : Sent → List ℕ
+sentNumbers (Accepted q) = 0 ∷ q ∷ []
+sentNumbers (SendRefused k) = k ∷ 0 ∷ []
+
+-- RUN: the refusal number, the answer, packet and site. "The answer is 2 with packet and site where the operator serviced,
+-- else 1 if anything in the state changed, else 0."
+abbrev pub ranNumbers : Ran → List ℕ
+ranNumbers Nothing = 0 ∷ 0 ∷ 0 ∷ 0 ∷ []
+ranNumbers Changed = 0 ∷ 1 ∷ 0 ∷ 0 ∷ []
+ranNumbers (Serviced q s) = 0 ∷ 2 ∷ q ∷ s ∷ []
+ranNumbers (RunRefused k) = k ∷ 0 ∷ 0 ∷ 0 ∷ []

@@ -1,0 +1,92 @@
+-- Document 01, "In range means: ..", clause by clause, and no more than it says. Tests are joined without a branch, place by place.
+-- What a type already says is no clause: packets, tries, feeders and the counter are bytes; a connection exists exactly in the states 2 to 7,
+-- a received terminator exactly in 4, 5 and 7; arrays have their lengths.
+use Prim.Native.Nat.{ℕ, zero, suc, _+_, _-_}
+use mathlib.Core.List.{List, [], _∷_}
+use mathlib.Core.Bool.{Bool, true, false, not, _&&_, _||_}
+use lib.Dec.{eqb, ltb, leb}
+use Rattle.base.specs.Sizes.{sitesMost, inputCount, outputCount, portCount, queueRoom}
+use Rattle.base.specs.Bools.{implies, pick, alike}
+use Rattle.base.specs.All.{all, any}
+use Rattle.sets.specs.Sets.{targets}
+use Rattle.model.specs.Types.{Phase, Input, Output, OutEntry, InEntry, OutQueue, InQueue, Site, State, Network, siteAt, inAt, outOf, outAt, mark, outEntry, inEntry}
+use Rattle.model.specs.Phases.{isFree, connected, splitting, aborting, isNone, isKeep}
+
+-- "sets non-empty and within S wherever a place is used, packets below the counter". S sites; k is the counter
+abbrev pub tagOk : ℕ → ℕ → ℕ → ℕ → Bool
+tagOk S k q z = ltb q k && targets S z
+
+abbrev pub anyMark : List Bool → Bool
+anyMark bs = any (mark bs) outputCount
+
+abbrev pub anyRemote : List Bool → Bool
+anyRemote bs = any (λ j. mark bs (suc j)) portCount
+
+-- "fields of an empty place .. are zero"
+abbrev pub zeroInput : Input → Bool
+zeroInput y = isFree (y .phase) && eqb (y .packet) 0 && eqb (y .set) 0 && not (anyMark (y .outputs)) && eqb (y .tries) 0
+
+abbrev pub zeroOutput : Output → Bool
+zeroOutput o = not (o .used) && eqb (o .packet) 0 && eqb (o .set) 0 && eqb (o .input) 0 && not (o .head) && isNone (o .terminator)
+
+abbrev pub zeroOutEntry : OutEntry → Bool
+zeroOutEntry d = eqb (d .packet) 0 && eqb (d .set) 0 && not (d .started)
+
+abbrev pub zeroInEntry : InEntry → Bool
+zeroInEntry a = eqb (a .packet) 0 && eqb (a .set) 0 && isNone (a .terminator)
+
+-- "each connected output in use, fed by that input and without a terminator"
+abbrev pub fedBy : ℕ → Output → Bool
+fedBy i o = o .used && eqb (o .input) i && isNone (o .terminator)
+
+-- net-input i, with the site's outputs os; T limits tries
+abbrev pub inputOk : ℕ → ℕ → ℕ → List Output → ℕ → Input → Bool
+inputOk S T k os i y =
+    leb (y .tries) T  -- "tries up to T"
+    && pick (isFree (y .phase)) (zeroInput y) (tagOk S k (y .packet) (y .set))
+    && alike (anyMark (y .outputs)) (connected (y .phase))  -- "its connected outputs likewise"
+    && all (λ j. implies (mark (y .outputs) j) (fedBy i (outOf os j))) outputCount
+    && implies (splitting (y .phase)) (mark (y .outputs) 0)  -- "output 0 among them for connections 3 and 4"
+    && implies (aborting (y .phase)) (splitting (y .phase) && not (anyRemote (y .outputs)))  -- "and alone, with one of those two, in abort and fin-abort"
+
+-- net-output j: "input that feeds it", 0 to 4; "keep-local only at output 0 and in in-queues"
+abbrev pub outputOk : ℕ → ℕ → ℕ → Output → Bool
+outputOk S k j o =
+    pick (o .used)
+    (tagOk S k (o .packet) (o .set) && ltb (o .input) inputCount && implies (isKeep (o .terminator)) (eqb j 0))
+    (zeroOutput o)
+
+-- entry m of a queue that has c: "only the front may be started"; "room beyond a queue's count" is zero
+abbrev pub outEntryOk : ℕ → ℕ → ℕ → ℕ → OutEntry → Bool
+outEntryOk S k c m d = pick (ltb m c) (tagOk S k (d .packet) (d .set) && implies (d .started) (eqb m 0)) (zeroOutEntry d)
+
+abbrev pub inEntryOk : ℕ → ℕ → ℕ → ℕ → InEntry → Bool
+inEntryOk S k c m a = pick (ltb m c) (tagOk S k (a .packet) (a .set)) (zeroInEntry a)
+
+-- "queue counts at most D"
+abbrev pub outQueueOk : ℕ → ℕ → ℕ → OutQueue → Bool
+outQueueOk S D k q = leb (q .count) D && all (λ m. outEntryOk S k (q .count) m (outEntry q m)) queueRoom
+
+abbrev pub inQueueOk : ℕ → ℕ → ℕ → InQueue → Bool
+inQueueOk S D k q = leb (q .count) D && all (λ m. inEntryOk S k (q .count) m (inEntry q m)) queueRoom
+
+abbrev pub siteOk : ℕ → ℕ → ℕ → ℕ → Site → Bool
+siteOk S T D k x =
+    all (λ i. inputOk S T k (x .outputs) i (inAt x i)) inputCount
+    && all (λ j. outputOk S k j (outAt x j)) outputCount
+    && outQueueOk S D k (x .outgoing)
+    && inQueueOk S D k (x .incoming)
+
+-- "room .. beyond S sites" is zero
+abbrev pub zeroSite : Site → Bool
+zeroSite x =
+    all (λ i. zeroInput (inAt x i)) inputCount
+    && all (λ j. zeroOutput (outAt x j)) outputCount
+    && (eqb (x .outgoing .count) 0 && all (λ m. zeroOutEntry (outEntry (x .outgoing) m)) queueRoom)
+    && (eqb (x .incoming .count) 0 && all (λ m. zeroInEntry (inEntry (x .incoming) m)) queueRoom)
+
+abbrev pub placeOk : ℕ → ℕ → ℕ → ℕ → ℕ → Site → Bool
+placeOk S T D k s x = pick (ltb s S) (siteOk S T D k x) (zeroSite x)
+
+unfoldable pub inRange : Network → State → Bool
+inRange n st = all (λ s. placeOk (n .sites) (n .tries) (n .depth) (st .counter) s (siteAt (st .sites) s)) sitesMost

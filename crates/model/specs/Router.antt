@@ -1,0 +1,98 @@
+-- Document 01, "Router at site s with set X; the choice stops at the first output that serves, and only empty outputs serve."
+-- A choice gives each output its set; 0 for an output that is not chosen.
+use Prim.Native.Nat.{ℕ, zero, suc, _+_}
+use mathlib.Core.List.{List, [], _∷_}
+use mathlib.Core.Bool.{Bool, true, false, cond, not, _&&_, _||_}
+use lib.Dec.{eqb, leb}
+use lib.ListN.{getD, set, replicate}
+use Rattle.base.specs.Sizes.{outputCount, portCount}
+use Rattle.base.specs.Bools.{count}
+use Rattle.base.specs.Sums.{sum}
+use Rattle.sets.specs.Sets.{has, only, plus, minus, size, lowest}
+use Rattle.model.specs.Types.{Connection, Unicast, Passthru, AllRemote, SomeLocal, Handed, Output, Network, outOf}
+use Rattle.model.specs.Network.{listOf}
+
+pub data Choice : Type 0 where
+  Chosen : Connection → List ℕ → Choice
+  Unserved : Choice
+
+abbrev pub unchosen : List ℕ
+unchosen = replicate outputCount 0
+
+abbrev pub isChosen : List ℕ → ℕ → Bool
+isChosen sets p = not (eqb (getD sets p 0) 0)
+
+abbrev pub isEmpty : List Output → ℕ → Bool
+isEmpty os j = not (outOf os j .used)
+
+-- "empty or already chosen for this packet": port p, with the sets chosen so far
+abbrev pub serves : List Output → List ℕ → ℕ → Bool
+serves os sets p = leb 1 p && leb p portCount && (isEmpty os p || isChosen sets p)
+
+-- "the first output in its list that ..", 0 if there is none
+unfoldable pub firstPort : (ℕ → Bool) → List ℕ → ℕ
+firstPort ok [] = 0
+firstPort ok (p ∷ ps) = let later = firstPort ok ps in cond (ok p) p later
+
+-- the whole X goes to output p
+abbrev pub oneOutput : Connection → ℕ → ℕ → Choice
+oneOutput c X p = Chosen c (set unchosen p X)
+
+-- "output 0, unicast"
+abbrev pub toOwn : List Output → ℕ → Choice
+toOwn os X = cond (isEmpty os 0) (oneOutput Unicast X 0) Unserved
+
+-- "the first empty output in t's list"
+abbrev pub onPort : Connection → ℕ → ℕ → Choice
+onPort c X p = cond (eqb p 0) Unserved (oneOutput c X p)
+
+abbrev pub toOther : Network → ℕ → List Output → Connection → ℕ → ℕ → Choice
+toOther n s os c X t = onPort c X (firstPort (serves os unchosen) (listOf n s t))
+
+-- "for each t other than s, ascending, the first output in its list that is empty or already chosen for this packet":
+-- for the targets in Y among the k sites from t on; port p gets the target t too
+pub data Gathered : Type 0 where
+  Every : List ℕ → Gathered
+  Missing : Gathered
+
+abbrev pub gets : List ℕ → ℕ → ℕ → List ℕ
+gets sets p t = set sets p (plus t (getD sets p 0))
+
+module _ (n : Network) (s : ℕ) (os : List Output) (Y : ℕ) where
+  unfoldable pub gatherFrom : ℕ → ℕ → List ℕ → Gathered
+  gatherFrom zero t sets = Every sets
+  gatherFrom (suc k) t sets =
+      let p = firstPort (serves os sets) (listOf n s t) in
+      let on = gatherFrom k (t + 1) (gets sets p t) in
+      let found = cond (eqb p 0) Missing on in
+      let past = gatherFrom k (t + 1) sets in
+      cond (has t Y) found past
+
+unfoldable pub gather : Network → ℕ → List Output → ℕ → Gathered
+gather n s os Y = gatherFrom n s os Y (n .sites) 0 unchosen
+
+-- "where a single remote output was chosen and s isn't in X, passthru on it with X, output 0 not taken. Otherwise split: each remote output
+-- gets its own targets, output 0 gets the whole X; some-local if s is in X, else all-remote."
+abbrev pub chosenCount : List ℕ → ℕ
+chosenCount sets = sum (λ z. count (not (eqb z 0))) sets
+
+abbrev pub firstChosen : List ℕ → ℕ
+firstChosen sets = firstPort (isChosen sets) (1 ∷ 2 ∷ 3 ∷ 4 ∷ [])
+
+unfoldable pub spread : ℕ → ℕ → Gathered → Choice
+spread s X Missing = Unserved
+spread s X (Every sets) =
+    cond (eqb (chosenCount sets) 1 && not (has s X)) (oneOutput Passthru X (firstChosen sets))
+    (Chosen (cond (has s X) SomeLocal AllRemote) (set sets 0 X))
+
+unfoldable pub orElse : Choice → Choice → Choice
+orElse (Chosen c sets) other = Chosen c sets
+orElse Unserved other = other
+
+-- the router's rules but the last
+unfoldable pub route : Network → ℕ → List Output → ℕ → Choice
+route n s os X =
+    cond (eqb X (only s)) (toOwn os X)  -- "X = {s}: output 0, unicast."
+    (cond (eqb (size X) 1) (toOther n s os Unicast X (lowest X))  -- "X = {t}, another site: the first empty output in t's list, unicast."
+    (orElse (cond (isEmpty os 0) (spread s X (gather n s os (minus s X))) Unserved)  -- "Two or more targets and output 0 empty: .."
+    (toOther n s os Passthru X (lowest (minus s X)))))  -- "Otherwise, .. passthru of the whole X to the first empty output in the list of the lowest t other than s."

@@ -1,0 +1,5 @@
+-- The laws of sets, by subject: members and bounds, sizes, the lowest member, members as numbers.
+pub mod Laws
+pub mod LawsSize
+pub mod LawsLowest
+pub mod LawsBit

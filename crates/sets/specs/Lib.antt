@@ -1,0 +1,2 @@
+-- The definitions of sets.
+pub mod Sets
