@@ -2,5 +2,7 @@
 pub mod Examples
 pub mod Networks
 pub mod Refusals
+pub mod RouterGather
+pub mod RouterLaws
 pub mod Pairs
 pub mod Played
