@@ -6,18 +6,22 @@ use mathlib.Core.List.{List, [], _∷_, _++_, map}
 use mathlib.Core.Bool.{Bool, true, false, cond, not, _&&_}
 use native.Mathlib.Omega.{arith}
 use borrow.Author.Tests.{lt-ltb, eq-eqb}
-use lib.Dec.{eqb, ltb}
-use lib.ListN.{length}
-use Rattle.base.specs.Sizes.{codeCount}
-use Rattle.base.specs.Bools.{cond-ok}
+use lib.Dec.{eqb, ltb, leb}
+use lib.ListN.{length, getD}
+use Rattle.base.specs.Sizes.{codeCount, sendsMost}
+use Rattle.base.specs.Bools.{cond-ok, first-of, second-of}
 use Rattle.base.specs.Sums.{sum, sum-append}
-use Rattle.sets.specs.Sets.{size}
+use Rattle.sets.specs.Sets.{size, bit}
 use Rattle.draws.proofs.Laws.{site-below, code-below}
 use Rattle.model.specs.Types.{Site, State, Network, Run as StoredRun, StoredSend, Sent, Accepted, SendRefused, Ran, Nothing, Changed, Serviced, RunRefused, AfterSend, AfterRun, noState}
-use Rattle.model.specs.Network.{networkRefusal}
+use Rattle.model.specs.Network.{sizesOk, channelsOk, routesOk, networkRefusal}
 use Rattle.model.specs.Range.{inRange}
 use Rattle.model.specs.Events.{Event, Send, Run, refusalThen, runFault, sendFault, runRefusal, sendRefusal, runs, sends, ran, sent, after, final, accepted, ifAccepted, acceptedBy, hits, servicedBy, serviced}
-use Rattle.model.specs.Runs.{Timed, Service, Played, unplayed, marked, atDraw, sendsAt, drawAt, scriptTo, script, sendPlayed, entered, runPlayed, trySend, advance, advanceSingly, played, playedRun, playedSingly}
+use Rattle.model.specs.Owing.{owed}
+use Rattle.model.specs.Runs.{Timed, Service, Played, unplayed, marked, atDraw, sendsAt, drawAt, scriptTo, script, storedRefusal, sendPlayed, entered, runPlayed, trySend, advance, advanceSingly, played, playedRun, playedSingly}
+use Rattle.model.proofs.Networks.{valid-ok}
+use Rattle.model.proofs.RangeKept.{Shaped, empty-shaped, shaped-kept, empty-in-range, range-kept}
+use Rattle.model.proofs.Demand3.{once}
 
 abbrev pub events : List Timed → List Event
 events es = map (λ e. e .event) es
@@ -155,3 +159,50 @@ module _ (n : Network) (v : networkRefusal n ≡ 0) where
   same-step : (p : Played) (d : ℕ) (e : Event) → inRange n (p .state) ≡ true → Named (n .sites) e → advance n p d e ≡ advanceSingly n p d e
   same-step p d (Send s X) h m = ap (λ (a : AfterSend). sendPlayed p X a (a .answer)) (same-send (p .state) s X h)
   same-step p d (Run s code) h m = ap (runPlayed p d) (same-run (p .state) s code h (m .0) (m .1))
+
+  -- from a state in range on, step by step
+  pub same-played : (p : Played) (es : List Timed) → Shaped (p .state) → inRange n (p .state) ≡ true → AllNamed (n .sites) es → played n p es ≡ playedSingly n p es
+  unfolding played playedSingly
+  same-played p [] sh h m = refl
+  same-played p (e ∷ es) sh h m =
+      let q = advanceSingly n p (e .draw) (e .event) in
+      let at = step-state n p (e .draw) (e .event) in
+      ap (λ (w : Played). played n w es) (same-step p (e .draw) (e .event) h (m .0))
+      ∙ same-played q es (rw at (shaped-kept n (p .state) sh (e .event))) (rw at (range-kept n (p .state) sh h (e .event))) (m .1)
+
+-- ---- the theorem
+
+-- a valid run has a valid network
+pub stored-network : (r : StoredRun) → storedRefusal r ≡ 0 → networkRefusal (r .network) ≡ 0
+unfolding storedRefusal networkRefusal
+stored-network r h =
+    let a = first-of (sizesOk (r .network)) _ 3 0 (λ e. omega arith) h in
+    let b = second-of (eqb (r .seed) 0) 4 _ 0 (λ e. omega arith) (a .1) in
+    let c = first-of (leb (r .count) sendsMost) _ 5 0 (λ e. omega arith) (b .1) in
+    let d = first-of (channelsOk (r .network)) _ 6 0 (λ e. omega arith) (c .1) in
+    let e = first-of (routesOk (r .network)) _ 7 0 (λ e. omega arith) (d .1) in
+    rw (a .0, d .0, e .0) refl
+
+-- a run played, with its state, book and counts, is the public single events applied in order from the empty state
+pub played-singly : (r : StoredRun) → storedRefusal r ≡ 0 → playedRun r ≡ playedSingly (r .network) unplayed (script r)
+unfolding playedRun
+played-singly r h =
+    let v = stored-network r h in
+    same-played (r .network) v unplayed (script r) empty-shaped (empty-in-range (r .network)) (script-named r (valid-ok (r .network) v .some))
+
+-- its state is the one that demand 3 and range kept speak of
+pub played-final : (r : StoredRun) → storedRefusal r ≡ 0 → playedRun r .state ≡ final (r .network) noState (events (script r))
+played-final r h = ap (λ (p : Played). p .state) (played-singly r h) ∙ singly-state (r .network) unplayed (script r)
+
+-- demand 3 of a run: how often a packet stands in the book at a site, and the places that owe it there
+pub played-once : (r : StoredRun) → storedRefusal r ≡ 0 → (p t : ℕ)
+    → inBook p t (playedRun r .book) + owed (playedRun r .state .sites) p t ≡ bit (getD (accepted (r .network) noState (events (script r))) p 0) t
+unfolding sum
+played-once r h p t =
+    omega (
+      arith,
+      once (r .network) (events (script r)) p t,
+      singly-book (r .network) p t unplayed (script r),
+      ap (λ (w : Played). inBook p t (w .book)) (played-singly r h),
+      ap (λ (w : State). owed (w .sites) p t) (played-final r h),
+    )

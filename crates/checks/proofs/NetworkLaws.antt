@@ -1,0 +1,132 @@
+-- The test of a route over a table of digits is the model's; the table of the inputs that are fed already. Assumes nothing.
+use mathlib.Core.Path.{_≡_, refl, sym, ap, _∙_}
+use mathlib.Core.Bool.{Bool, true, false, cond, not, _&&_, _||_, and-true}
+use mathlib.Core.List.{List, [], _∷_}
+use Prim.Native.Nat.{ℕ, zero, suc, _+_, _-_, _*_, _/_, _%_, _≤_, _<_}
+use native.Mathlib.Nat.{mul-le-mul, le-refl, suc-mul}
+use native.Mathlib.Omega.{arith}
+use borrow.Author.Tests.{eq-eqb, ne-eqb, lt-leb, lt-ltb, le-ltb, eqb-true, eqb-false, leb-true}
+use lib.Dec.{eqb, ltb, leb}
+use lib.ListN.{length, getD, set, replicate, getD-replicate}
+use lib.Seq.{getD-set-same, getD-set-other}
+use Rattle.base.specs.Sizes.{sitesMost, portCount, queueRoom, noChannel}
+use Rattle.base.specs.Bools.{both}
+use Rattle.base.specs.All.{all, all-none, all-more, all-next, all-fails, all-same}
+use Rattle.base.specs.Lists.{same-at}
+use Rattle.model.specs.declared.Network.{Network}
+use Rattle.model.specs.Network.{sizesOk, portOk, listOk, routeOf, routeOk, choice, choices}
+use Rattle.checks.specs.Network.{portsOf, listBy, routeBy}
+
+-- ---- S and D of a network within its limits
+
+pub sizes-few : (n : Network) → sizesOk n ≡ true → (n .sites ≤ sitesMost) × (n .depth ≤ queueRoom)
+sizes-few n h =
+    let a = both _ (leb (n .depth) queueRoom) h in
+    let b = both _ (leb 1 (n .depth)) (a .0) in
+    let c = both _ (leb 1 (n .tries)) (b .0) in
+    let d = both (leb 1 (n .sites)) (leb (n .sites) sitesMost) (c .0) in
+    (leb-true _ _ (d .1), leb-true _ _ (a .1))
+
+-- ---- routes
+
+-- the place of a route
+pub place-below : (s t n m : ℕ) → s < n → t < n → n ≤ m → s * n + t < m * m
+place-below s t n m hs ht hn = let a : suc s * n ≤ m * m = mul-le-mul (omega arith) hn in omega (arith, suc-mul s n)
+
+-- a digit that may stand in a list is one that the model's test takes
+digit-ok : (n : Network) (s p : ℕ) → getD (portsOf n s) p false ≡ portOk n s p
+digit-ok n s zero = refl
+digit-ok n s (suc zero) = refl
+digit-ok n s (suc (suc zero)) = refl
+digit-ok n s (suc (suc (suc zero))) = refl
+digit-ok n s (suc (suc (suc (suc zero)))) = refl
+digit-ok n s (suc (suc (suc (suc (suc p))))) =
+    let q = suc (suc (suc (suc (suc p)))) in
+    same-at 11 p false ∙ sym (rw (ne-eqb q 0 (λ e. omega arith), lt-leb q portCount (omega arith)) refl)
+
+list-by : (n : Network) (s : ℕ) (l : List ℕ) → listBy (portsOf n s) l ≡ listOk n s l
+list-by n s l =
+    let a = all-same (λ k. getD (portsOf n s) (choice l k) false) (λ k. portOk n s (choice l k)) portCount
+    (λ k h. digit-ok n s (choice l k)) in
+    rw a refl
+
+pub route-by : (n : Network) (s t : ℕ) → routeBy (portsOf n s) s t (routeOf n s t) ≡ routeOk n s t
+unfolding routeBy
+route-by n s t =
+    ap (λ (y : Bool). eqb s t && eqb (routeOf n s t) 0 || not (eqb s t) && y) (list-by n s (choices (routeOf n s t)))
+
+-- a row of them
+pub row-by : (n : Network) (s m : ℕ) (ports : List Bool) → ports ≡ portsOf n s
+    → all (λ t. routeBy ports s t (routeOf n s t)) m ≡ all (routeOk n s) m
+row-by n s m ports e =
+    rw e (all-same (λ t. routeBy (portsOf n s) s t (routeOf n s t)) (routeOk n s) m (λ t h. route-by n s t))
+
+-- ---- channels
+
+-- the byte at place c of the channels cs, and the model's test of it among e places
+abbrev pub byteAt : List ℕ → ℕ → ℕ
+byteAt cs c = getD cs c 0
+
+abbrev pub channelIn : List ℕ → ℕ → ℕ → Bool
+channelIn cs e c =
+    eqb (byteAt cs c) noChannel || ltb (byteAt cs c) e && all (λ d. not (eqb (byteAt cs d) (byteAt cs c))) c
+
+-- fed has a mark at each input that a channel before c feeds
+abbrev pub Fed : List ℕ → List Bool → ℕ → Type 0
+Fed cs fed c = (x : ℕ) → x < portCount * sitesMost → all (λ d. not (eqb (byteAt cs d) x)) c ≡ not (getD fed x false)
+
+pub fed-none : (cs : List ℕ) → Fed cs (replicate (portCount * sitesMost) false) 0
+fed-none cs x h = all-none (λ d. not (eqb (byteAt cs d) x)) ∙ ap not (sym (same-at 64 x false))
+
+-- a byte that is no channel
+pub fed-skip : (cs : List ℕ) (fed : List Bool) (c : ℕ) → Fed cs fed c → byteAt cs c ≡ noChannel → Fed cs fed (c + 1)
+fed-skip cs fed c f e x h =
+    let q : not (eqb (byteAt cs c) x) ≡ true = ap not (ne-eqb (byteAt cs c) x (λ z. omega arith)) in
+    sym (all-next (λ d. not (eqb (byteAt cs d) x)) c _ true refl (sym q)) ∙ and-true _ ∙ f x h
+
+-- a channel to an input, which is marked
+pub fed-set : (cs : List ℕ) (fed : List Bool) (c : ℕ) → Fed cs fed c → length fed ≡ portCount * sitesMost
+    → byteAt cs c < portCount * sitesMost → Fed cs (set fed (byteAt cs c) true) (c + 1)
+fed-set cs fed c f l b x h = go (eqb (byteAt cs c) x) refl
+  where
+    go : (t : Bool) → eqb (byteAt cs c) x ≡ t
+        → all (λ d. not (eqb (byteAt cs d) x)) (c + 1) ≡ not (getD (set fed (byteAt cs c) true) x false)
+    go true q =
+        all-fails (λ d. not (eqb (byteAt cs d) x)) c (c + 1) (omega arith) (ap not q)
+        ∙ ap not
+        (sym
+        (ap (λ (y : ℕ). getD (set fed (byteAt cs c) true) y false) (sym (eqb-true (byteAt cs c) x q))
+        ∙ getD-set-same fed (byteAt cs c) true false (omega arith)))
+    go false q =
+        sym (all-next (λ d. not (eqb (byteAt cs d) x)) c _ true refl (sym (ap not q)))
+        ∙ and-true _
+        ∙ f x h
+        ∙ ap not (sym (getD-set-other fed (byteAt cs c) x true false (λ e. eqb-false (byteAt cs c) x q (sym e))))
+
+-- ---- a turn of the loop over the channels; v is the byte at c
+
+module _ (cs : List ℕ) (fed : List Bool) (e c v : ℕ) (ev : v ≡ byteAt cs c) where
+  pub no-channel : all (channelIn cs e) c ≡ true → byteAt cs c ≡ noChannel → all (channelIn cs e) (c + 1) ≡ true
+  no-channel h q = all-more (channelIn cs e) c h (rw (eq-eqb (byteAt cs c) noChannel q) refl)
+
+  pub too-high : c < e → (byteAt cs c ≡ noChannel → ⊥) → e ≤ v → false ≡ all (channelIn cs e) e
+  too-high h q l =
+      sym (all-fails (channelIn cs e) c e h (rw (ne-eqb (byteAt cs c) noChannel q, le-ltb (byteAt cs c) e (omega arith)) refl))
+
+  module _ (f : Fed cs fed c) (n : length fed ≡ portCount * sitesMost) (h : c < e) (q : byteAt cs c ≡ noChannel → ⊥) (l : v < e) (m : e ≤ portCount * sitesMost) where
+    said : all (λ d. not (eqb (byteAt cs d) (byteAt cs c))) c ≡ not (getD fed v false)
+    said = f (byteAt cs c) (omega arith) ∙ ap (λ (x : ℕ). not (getD fed x false)) (sym ev)
+
+    pub fed-twice : getD fed v false ≡ true → false ≡ all (channelIn cs e) e
+    fed-twice t =
+        sym
+        (all-fails (channelIn cs e) c e h
+        (rw (ne-eqb (byteAt cs c) noChannel q, lt-ltb (byteAt cs c) e (omega arith)) (said ∙ ap not t)))
+
+    pub fed-once : getD fed v false ≡ false → all (channelIn cs e) c ≡ true → all (channelIn cs e) (c + 1) ≡ true
+    fed-once t k =
+        all-more (channelIn cs e) c k
+        (rw (ne-eqb (byteAt cs c) noChannel q, lt-ltb (byteAt cs c) e (omega arith)) (said ∙ ap not t))
+
+    pub fed-now : Fed cs (set fed v true) (c + 1)
+    fed-now = rw ev (fed-set cs fed c f n (omega arith))

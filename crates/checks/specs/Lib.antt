@@ -1,0 +1,2 @@
+-- What the functions of this crate compute on the way to the model's tests.
+pub mod Network

@@ -1,0 +1,28 @@
+-- The model's test of a route, over a table of the hex digits that may stand in a list. Assumes nothing.
+use mathlib.Core.Bool.{Bool, true, false, not, _&&_, _||_}
+use mathlib.Core.List.{List, [], _∷_}
+use Prim.Native.Nat.{ℕ, _+_, _-_}
+use lib.Dec.{eqb}
+use lib.ListN.{getD}
+use Rattle.base.specs.Sizes.{portCount}
+use Rattle.base.specs.Bools.{implies}
+use Rattle.base.specs.All.{all}
+use Rattle.model.specs.declared.Network.{Network}
+use Rattle.model.specs.Network.{joined, choice, choices, differs}
+
+-- the digits 0 to 15 that may stand in a list of site s: 0, and the ports with a channel
+abbrev pub portsOf : Network → ℕ → List Bool
+portsOf n s =
+    true ∷ joined n s 0 ∷ joined n s 1 ∷ joined n s 2 ∷ joined n s 3
+    ∷ false ∷ false ∷ false ∷ false ∷ false ∷ false ∷ false ∷ false ∷ false ∷ false ∷ false ∷ []
+
+-- listOk and routeOk with such a table for portOk
+abbrev pub listBy : List Bool → List ℕ → Bool
+listBy ports l =
+    not (eqb (choice l 0) 0)
+    && all (λ k. getD ports (choice l k) false) portCount
+    && all (λ k. implies (eqb (choice l k) 0) (eqb (choice l (k + 1)) 0)) (portCount - 1)
+    && all (differs l) portCount
+
+unfoldable pub routeBy : List Bool → ℕ → ℕ → ℕ → Bool
+routeBy ports s t r = eqb s t && eqb r 0 || not (eqb s t) && listBy ports (choices r)
