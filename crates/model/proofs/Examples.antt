@@ -7,9 +7,9 @@ use lib.Count.{trailingZeros}
 use Rattle.base.specs.Sizes.{noChannel}
 use Rattle.base.specs.All.{all, any}
 use Rattle.base.specs.Over.{over}
-use Rattle.base.specs.Sums.{sum}
+use Rattle.base.specs.Sums.{sum, isum}
 use Rattle.sets.specs.Sets.{has, plus, minus, sizeIn, lowest}
-use Rattle.draws.specs.Draws.{drawn, drawnSite, drawnCode}
+use Rattle.draws.specs.Draws.{drawn, valueAfter, drawnSite, drawnCode}
 use Rattle.model.specs.Types.{Site, State, Network, StoredSend, Run as StoredRun, noState, siteAt, inAt, outAt, outEntry, sendD}
 use Rattle.model.specs.Numbers.{stateNumber, terminatorNumber, sentNumbers, ranNumbers}
 use Rattle.model.specs.Network.{networkRefusal}
@@ -19,7 +19,8 @@ use Rattle.model.specs.NetInput.{hears, give, occupy, marksOf, seek, inS
 use Rattle.model.specs.Places.{localOutput, deliver, channelOutput, outQueue, operate, cutAt}
 use Rattle.model.specs.Steps.{netOutput, act, run, enqueue}
 use Rattle.model.specs.Events.{Event, Send, Run, ran, sent, runRefusal, sendRefusal, after, final}
-use Rattle.model.specs.Runs.{storedRefusal}
+use Rattle.model.specs.Owing.{owedPairs}
+use Rattle.model.specs.Runs.{storedRefusal, marked, scriptTo, script, played, playedRun, countsOf}
 
 -- "one site"
 abbrev one : ℕ → Network
@@ -106,3 +107,18 @@ table =
 pub examples : map (λ row. row .0) table ≡ map (λ row. row .1) table
 unfolding table drawn seedless look front p5 p6 p7 changed at answers final ran sent runRefusal sendRefusal networkRefusal inRange all any over sum has plus minus sizeIn lowest trailingZeros firstPort gatherFrom gather spread orElse route hears give occupy marksOf seek inState localOutput deliver channelOutput outQueue operate cutAt netOutput act run enqueue storedRefusal
 examples = refl
+
+-- ---- run R: "00 18 01 01 03 01 00 00 00 01 00 02 01 FF FF FF FF 00 00 00 00 00 00 01", "accepted 1 pairs 1 serviced 0 owed 1"
+
+pub runR : StoredRun
+runR = record { network = one 1; seed = 1; draws = 2; count = 1; sends = record { set = 1; draw = 0; site = 0 } ∷ replicate 254 sendD }
+
+-- its one send before draw 0, then the two draws, which are P2's codes
+pub runR-script : script runR
+    ≡ record { draw = 0; event = Send 0 1 } ∷ record { draw = 0; event = Run 0 8 } ∷ record { draw = 1; event = Run 0 5 } ∷ []
+unfolding runR script scriptTo marked valueAfter drawn
+runR-script = refl
+
+pub runR-counts : countsOf (playedRun runR) ≡ record { accepted = 1; pairs = 1; serviced = 0; owed = 1 }
+unfolding runR playedRun played script scriptTo marked valueAfter drawn owedPairs sum isum all any over has plus minus sizeIn lowest trailingZeros firstPort gatherFrom gather spread orElse route hears give occupy marksOf seek inState localOutput deliver channelOutput outQueue operate cutAt netOutput act run enqueue
+runR-counts = refl

@@ -1,0 +1,27 @@
+//! Draws: Marsaglia's 32 bit xorshift with shifts 13, 17, 5, and the event that a draw names.
+
+use crate::network::CODES;
+
+pub struct Draws(u32);
+
+impl Draws {
+    pub fn new(seed: u32) -> Draws {
+        Draws(seed)
+    }
+
+    /// Advances, and gives the value.
+    #[inline]
+    pub fn next_value(&mut self) -> u32 {
+        self.0 ^= self.0 << 13;
+        self.0 ^= self.0 >> 17;
+        self.0 ^= self.0 << 5;
+        self.0
+    }
+}
+
+/// The site and code that a value names in a network of `sites` sites.
+#[inline]
+pub fn event(value: u32, sites: usize) -> (usize, usize) {
+    let m = value % (CODES * sites) as u32;
+    ((m / CODES as u32) as usize, (m % CODES as u32) as usize)
+}

@@ -1,0 +1,12 @@
+//! Making things to test with: networks, runs, damaged archives, states. Everything follows from a seed.
+
+pub mod cases;
+pub mod clauses;
+pub mod corpus;
+pub mod damage;
+pub mod graphs;
+pub mod rng;
+pub mod routes;
+pub mod runs;
+pub mod spoil;
+pub mod states;

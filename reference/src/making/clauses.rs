@@ -1,0 +1,129 @@
+//! Faults aimed at the clauses of in range that a random change seldom meets alone.
+
+use super::rng::Rng;
+use crate::network::{Network, DEPTH, PORTS, SITES};
+use crate::state::{Connection, Input, Output, Phase, State, Terminator};
+
+/// A fault at a site; false if the site has no place for it.
+type Fault = fn(&mut Rng, &Network, &mut State, usize) -> bool;
+
+const FAULTS: [Fault; 9] = [
+    empty_connected,
+    stop_connected,
+    abort_with_others,
+    split_without_local,
+    abort_unsplit,
+    start_second,
+    overfill,
+    keep_local_remote,
+    copy_beyond,
+];
+
+/// Breaks one clause at one site, if some try finds a place for it.
+pub fn break_clause(rng: &mut Rng, network: &Network, state: &mut State) {
+    for _ in 0..40 {
+        let site = rng.below((network.sites as usize).clamp(1, SITES));
+        if rng.pick(&FAULTS)(rng, network, state, site) {
+            return;
+        }
+    }
+}
+
+/// An input of the site for which this holds, net-input 0 before the others.
+fn input_where(state: &mut State, site: usize, holds: impl Fn(&Input) -> bool) -> Option<&mut Input> {
+    state.inputs[PORTS * site..][..PORTS].iter_mut().find(|input| holds(input))
+}
+
+fn splits(input: &Input) -> bool {
+    matches!(input.connection, Connection::AllRemote | Connection::SomeLocal)
+}
+
+fn aborts(input: &Input) -> bool {
+    matches!(input.phase, Phase::Abort | Phase::FinAbort)
+}
+
+/// A connected output is empty.
+fn empty_connected(_: &mut Rng, _: &Network, state: &mut State, site: usize) -> bool {
+    let Some(input) = input_where(state, site, |i| i.outputs != 0) else { return false };
+    let port = input.outputs.trailing_zeros() as usize;
+    state.outputs[PORTS * site + port] = Output::default();
+    true
+}
+
+/// A connected output has a terminator.
+fn stop_connected(rng: &mut Rng, _: &Network, state: &mut State, site: usize) -> bool {
+    let Some(input) = input_where(state, site, |i| i.outputs != 0) else { return false };
+    let port = input.outputs.trailing_zeros() as usize;
+    state.outputs[PORTS * site + port].terminator = rng.pick(&[Terminator::End, Terminator::Abort]);
+    true
+}
+
+/// A split on several outputs is aborting.
+fn abort_with_others(_: &mut Rng, _: &Network, state: &mut State, site: usize) -> bool {
+    let Some(input) = input_where(state, site, |i| splits(i) && i.outputs > 1) else { return false };
+    input.phase = if input.received == Terminator::None { Phase::Abort } else { Phase::FinAbort };
+    true
+}
+
+/// A split is not connected to output 0.
+fn split_without_local(_: &mut Rng, _: &Network, state: &mut State, site: usize) -> bool {
+    let Some(input) = input_where(state, site, |i| splits(i) && i.outputs > 1) else { return false };
+    input.outputs &= !1;
+    true
+}
+
+/// An aborting input is under another connection.
+fn abort_unsplit(rng: &mut Rng, _: &Network, state: &mut State, site: usize) -> bool {
+    let Some(input) = input_where(state, site, aborts) else { return false };
+    input.connection = rng.pick(&[Connection::Unicast, Connection::Passthru, Connection::Handed]);
+    true
+}
+
+/// An entry after the front is started.
+fn start_second(rng: &mut Rng, _: &Network, state: &mut State, site: usize) -> bool {
+    let queue = &mut state.out_queues[site];
+    if queue.count < 2 {
+        return false;
+    }
+    queue.entries[rng.within(1, queue.count as usize - 1)].started = true;
+    true
+}
+
+/// A queue has good entries beyond D.
+fn overfill(rng: &mut Rng, network: &Network, state: &mut State, site: usize) -> bool {
+    let depth = network.depth as usize;
+    let (out, inn) = (&mut state.out_queues[site], &mut state.in_queues[site]);
+    if depth >= DEPTH || out.count == 0 || inn.count == 0 {
+        return false;
+    }
+    if rng.one_in(2) {
+        let entry = crate::state::OutEntry { started: false, ..out.entries[0] };
+        (out.count as usize..=depth).for_each(|_| out.push(entry));
+    } else {
+        let entry = inn.entries[0];
+        (inn.count as usize..=depth).for_each(|_| inn.push(entry));
+    }
+    true
+}
+
+/// An output 1 to 4 has keep-local.
+fn keep_local_remote(_: &mut Rng, _: &Network, state: &mut State, site: usize) -> bool {
+    let remote = &mut state.outputs[PORTS * site + 1..][..PORTS - 1];
+    let Some(output) = remote.iter_mut().find(|o| o.terminator != Terminator::None) else { return false };
+    output.terminator = Terminator::KeepLocal;
+    true
+}
+
+/// A site beyond S holds what a site within holds.
+fn copy_beyond(rng: &mut Rng, network: &Network, state: &mut State, site: usize) -> bool {
+    let sites = network.sites as usize;
+    if sites >= SITES || state.is_zero_site(site) {
+        return false;
+    }
+    let to = rng.pick(&[sites, sites, SITES - 1]);
+    state.inputs.copy_within(PORTS * site..PORTS * (site + 1), PORTS * to);
+    state.outputs.copy_within(PORTS * site..PORTS * (site + 1), PORTS * to);
+    state.out_queues[to] = state.out_queues[site];
+    state.in_queues[to] = state.in_queues[site];
+    true
+}

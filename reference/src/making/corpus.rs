@@ -1,0 +1,44 @@
+//! The corpus: archives by name, made anew from the recipes here. A name says what its file is about.
+
+mod bounds;
+mod faults;
+mod loads;
+mod searched;
+
+pub use searched::UNREACHED;
+
+use crate::archive::{Run, Send};
+use crate::making::{graphs, routes};
+
+/// A name and the bytes of the archive.
+pub type Named = (String, Vec<u8>);
+
+/// The whole corpus, sorted by name.
+pub fn all() -> Vec<Named> {
+    let mut all = bounds::all();
+    all.extend(faults::all());
+    all.extend(loads::all());
+    all.extend(searched::all());
+    all.sort();
+    all
+}
+
+/// Run R of document 01.
+pub fn run_r() -> Vec<u8> {
+    let head = [0x00, 0x18, 1, 1, 3, 1, 0, 0, 0, 1, 0, 2, 1];
+    let rest = [0xff, 0xff, 0xff, 0xff, 0, 0, 0, 0, 0, 0, 1];
+    [&head[..], &rest[..]].concat()
+}
+
+/// Two sites joined on ports 1 both ways; three sends, the last two marked with the number of draws, 400.
+fn two_sites() -> Run {
+    let mut network = graphs::ring(2, false);
+    routes::nearest(&mut network, 1);
+    (network.tries, network.depth) = (2, 2);
+    let send = |draw, site, set| Send { draw, site, set };
+    Run { network, seed: 1, draws: 400, sends: vec![send(0, 0, 3), send(400, 1, 3), send(400, 0, 2)] }
+}
+
+fn named(name: &str, bytes: Vec<u8>) -> Named {
+    (format!("{name}.bin"), bytes)
+}

@@ -1,0 +1,112 @@
+//! Runs found by search over seeds: for each rule one that shows it, and runs that end where each kind of
+//! place owes.
+
+use super::Named;
+use crate::archive::Run;
+use crate::making::{rng::Rng, runs};
+use crate::owing::DEBTS;
+use crate::player::Play;
+use crate::watch::{Rule, Tally, RULES};
+
+/// Rules that no run from the empty state reaches; the single event cases have them.
+pub const UNREACHED: [Rule; 4] =
+    [Rule::FinAbortStays, Rule::OutputNoChannel, Rule::TerminatorRefused, Rule::KeepLocalDropped];
+
+/// Rules that every run shows, without files of their own.
+const PLAIN: [Rule; 30] = [
+    Rule::SendTaken,
+    Rule::InputIdle,
+    Rule::OpenStays,
+    Rule::OpenToWait,
+    Rule::WaitStays,
+    Rule::LastStays,
+    Rule::DoneUnicast,
+    Rule::UnicastLocal,
+    Rule::UnicastFirst,
+    Rule::OneMoreTry,
+    Rule::OutputEmpty,
+    Rule::HeadQueued,
+    Rule::HeadPassed,
+    Rule::HeadInputBusy,
+    Rule::TerminatorNone,
+    Rule::TerminatorNotReady,
+    Rule::EndToOpen,
+    Rule::AbortToOpen,
+    Rule::EndQueued,
+    Rule::OutQueueEmpty,
+    Rule::FrontTaken,
+    Rule::FrontWaits,
+    Rule::FrontEndOpen,
+    Rule::FrontEndWaits,
+    Rule::InQueueEmpty,
+    Rule::InQueueWaits,
+    Rule::OperatorAbort,
+    Rule::EndServiced,
+    Rule::TimeoutNoEntry,
+    Rule::TimeoutNoOutput,
+];
+
+/// Runs that a search looks at before it gives up.
+const SEARCHED: usize = 20_000;
+
+/// Small valid runs, one after another.
+fn small_runs(seed: u64) -> impl Iterator<Item = Run> {
+    let mut rng = Rng::new(seed);
+    std::iter::repeat_with(move || runs::any_run(&mut rng, false))
+        .take(SEARCHED)
+        .filter(|run| run.network.sites <= 6 && run.sends.len() <= 20 && run.draws <= 1_500)
+}
+
+/// The first small run that takes the rule and services something twice after that.
+fn showing(rule: Rule) -> Run {
+    let shows = |run: &Run| {
+        let wiring = run.network.wiring().expect("a valid network");
+        let mut play = Play::start(run, &wiring, Tally::default());
+        let mut services_before = None;
+        for _ in 0..run.draws {
+            play.draw();
+            if services_before.is_none() && play.watch.count(rule) > 0 {
+                services_before = Some(play.counts.serviced);
+            }
+        }
+        services_before.is_some_and(|before| play.counts.serviced >= before + 2)
+    };
+    small_runs(1_000 + rule as u64).find(shows).expect("every other rule is reached")
+}
+
+/// The first small run, from this seed, with a moment at which a place of this kind owes, cut there.
+fn ending(kind: usize, seed: u64) -> Run {
+    small_runs(seed)
+        .find_map(|run| {
+            let moments = runs::moments(&run).swap_remove(kind);
+            let middle = moments.get(moments.len() / 2).copied()?;
+            Some(runs::cut(run, middle))
+        })
+        .expect("every kind of place owes at some time")
+}
+
+/// `OpenToWait` as `open-to-wait`.
+fn kebab(name: &str) -> String {
+    let mut words = String::new();
+    for c in name.chars() {
+        if c.is_uppercase() && !words.is_empty() {
+            words.push('-');
+        }
+        words.extend(c.to_lowercase());
+    }
+    words
+}
+
+pub fn all() -> Vec<Named> {
+    let mut all = Vec::new();
+    for (rule, _) in RULES.iter().filter(|(rule, _)| !UNREACHED.contains(rule) && !PLAIN.contains(rule)) {
+        all.push((format!("rule-{}.bin", kebab(&format!("{rule:?}"))), showing(*rule).bytes()));
+    }
+    for (kind, (debt, _)) in DEBTS.iter().enumerate() {
+        for turn in 1..=2 {
+            let name = format!("ends-{}-{turn}.bin", kebab(&format!("{debt:?}")));
+            all.push((name, ending(kind, 9_000 * turn + kind as u64).bytes()));
+        }
+    }
+    all
+}

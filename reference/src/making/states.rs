@@ -1,0 +1,157 @@
+//! Random states in range, reachable or not.
+
+use super::{rng::Rng, runs};
+use crate::network::{Network, PORTS};
+use crate::player::Play;
+use crate::state::{Connection, InEntry, Input, OutEntry, Output, Phase, State, Terminator};
+
+/// What the places of one state are filled with.
+struct Filling<'a> {
+    rng: &'a mut Rng,
+    network: &'a Network,
+    counter: u8,
+    /// Of a hundred places, how many are used.
+    fullness: usize,
+}
+
+/// A state in range for the valid network, nearly always one that no run reaches.
+pub fn any_state(rng: &mut Rng, network: &Network) -> State {
+    let mut state = State::empty();
+    let random = rng.within(1, 255) as u8;
+    state.counter = rng.pick(&[0, 1, 2, 3, 9, 253, 254, 254, 255, 255, random, random, random]);
+    if state.counter == 0 {
+        return state;
+    }
+    let fullness = rng.pick(&[10, 30, 50, 50, 70, 90, 100]);
+    let mut filling = Filling { network, counter: state.counter, fullness, rng };
+    for site in 0..network.sites as usize {
+        filling.outputs(&mut state.outputs[PORTS * site..][..PORTS]);
+        let (inputs, outputs) = (&mut state.inputs[PORTS * site..], &mut state.outputs[PORTS * site..]);
+        filling.inputs(&mut inputs[..PORTS], &mut outputs[..PORTS]);
+        filling.queues(&mut state, site);
+    }
+    state
+}
+
+/// A network, and a state that one of its runs reaches.
+pub fn reached(rng: &mut Rng) -> (Network, State) {
+    let run = runs::any_run(rng, false);
+    let wiring = run.network.wiring().expect("a valid network");
+    let mut play = Play::start(&run, &wiring, ());
+    for _ in 0..run.draws {
+        play.draw();
+    }
+    play.sends();
+    let state = play.state;
+    (run.network, state)
+}
+
+impl Filling<'_> {
+    fn is_used(&mut self) -> bool {
+        self.rng.below(100) < self.fullness
+    }
+
+    fn packet(&mut self) -> u8 {
+        self.rng.below(self.counter as usize) as u8
+    }
+
+    fn set(&mut self) -> u64 {
+        self.rng.target_set(self.network.sites as usize)
+    }
+
+    fn tries(&mut self) -> u8 {
+        let limit = self.network.tries;
+        let random = self.rng.within(0, limit as usize) as u8;
+        self.rng.pick(&[0, limit, limit, random])
+    }
+
+    fn output(&mut self, terminator: Terminator) -> Output {
+        let (packet, set) = (self.packet(), self.set());
+        let (input, head) = (self.rng.below(PORTS) as u8, !self.rng.one_in(3));
+        Output { used: true, packet, set, input, head, terminator }
+    }
+
+    fn outputs(&mut self, outputs: &mut [Output]) {
+        use Terminator::{Abort, End, KeepLocal, None};
+        for (port, output) in outputs.iter_mut().enumerate() {
+            if self.is_used() {
+                let remote = [None, None, End, Abort];
+                let local = [None, None, None, End, Abort, KeepLocal];
+                let terminator = self.rng.pick(if port == 0 { &local[..] } else { &remote });
+                *output = self.output(terminator);
+            }
+        }
+    }
+
+    /// Inputs in any order; each takes the outputs that it is connected to from those not yet taken.
+    fn inputs(&mut self, inputs: &mut [Input], outputs: &mut [Output]) {
+        let mut order = [0, 1, 2, 3, 4];
+        self.rng.shuffle(&mut order);
+        let mut taken = 0;
+        for port in order {
+            if self.is_used() {
+                inputs[port] = self.input(port, outputs, &mut taken);
+            }
+        }
+    }
+
+    fn input(&mut self, port: usize, outputs: &mut [Output], taken: &mut u8) -> Input {
+        use Phase::{Abort, Done, FinAbort, Last, Open, Seek, Wait};
+        let (packet, set, tries) = (self.packet(), self.set(), self.tries());
+        let phase = self.rng.pick(&[Seek, Seek, Open, Open, Wait, Done, Done, Last, Abort, FinAbort]);
+        let seeking = Input { phase: Seek, packet, set, tries, ..Input::default() };
+        let aborting = matches!(phase, Abort | FinAbort);
+        let split = aborting || self.rng.one_in(3);
+        let connection = self.connection(split);
+        let splits = matches!(connection, Connection::AllRemote | Connection::SomeLocal);
+        let mut wanted = 0;
+        if splits {
+            wanted = if aborting { 1 } else { 1 | self.rng.below(32) as u8 & self.rng.below(32) as u8 };
+        } else if phase != Seek {
+            wanted = 1 << self.rng.below(PORTS) | self.rng.below(32) as u8 & self.rng.below(32) as u8;
+        }
+        let connected = wanted & !*taken;
+        if phase == Seek || connected == 0 || splits && connected & 1 == 0 {
+            return seeking;
+        }
+        *taken |= connected;
+        for p in (0..PORTS).filter(|p| connected >> p & 1 == 1) {
+            if !outputs[p].used {
+                outputs[p] = self.output(Terminator::None);
+            }
+            outputs[p].input = port as u8;
+            outputs[p].terminator = Terminator::None;
+        }
+        let receives = matches!(phase, Done | Last | FinAbort);
+        let kinds = [Terminator::End, Terminator::End, Terminator::Abort];
+        let received = if receives { self.rng.pick(&kinds) } else { Terminator::None };
+        Input { phase, connection, received, outputs: connected, ..seeking }
+    }
+
+    fn connection(&mut self, splits: bool) -> Connection {
+        use Connection::{AllRemote, Handed, Passthru, SomeLocal, Unicast};
+        if splits {
+            self.rng.pick(&[AllRemote, SomeLocal])
+        } else {
+            self.rng.pick(&[Unicast, Passthru, Handed])
+        }
+    }
+
+    fn queues(&mut self, state: &mut State, site: usize) {
+        let depth = self.network.depth as usize;
+        let count = |rng: &mut Rng| {
+            let random = rng.within(0, depth);
+            rng.pick(&[0, 1, depth, depth, random])
+        };
+        for place in 0..count(self.rng) {
+            let (packet, set) = (self.packet(), self.set());
+            let started = place == 0 && self.rng.one_in(2);
+            state.out_queues[site].push(OutEntry { packet, set, started });
+        }
+        for _ in 0..count(self.rng) {
+            let (packet, set) = (self.packet(), self.set());
+            let terminator = self.rng.pick(&crate::state::TERMINATORS);
+            state.in_queues[site].push(InEntry { packet, set, terminator });
+        }
+    }
+}

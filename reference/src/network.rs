@@ -1,0 +1,144 @@
+//! The network as handed in, its refusals 3, 6 and 7, and the wiring made from one that passes.
+//!
+//! `Network` can hold anything; a `Wiring` can only be had from a network that is not refused.
+
+use crate::refusal::Refusal;
+
+/// Sites that a network can have at most.
+pub const SITES: usize = 16;
+/// Net-inputs, and net-outputs, of a site; port 0 is local.
+pub const PORTS: usize = 5;
+/// Places in each queue at most.
+pub const DEPTH: usize = 8;
+/// Event codes of a site.
+pub const CODES: usize = 13;
+/// The channel byte of an output without a channel.
+pub const NO_CHANNEL: u8 = 255;
+/// In a wiring: no input at the end of this output.
+pub const NO_INPUT: u8 = 255;
+
+/// A network as it stands in an archive; room beyond S sites is not looked at.
+#[derive(Clone, PartialEq, Eq, Debug)]
+pub struct Network {
+    pub sites: u8,
+    pub tries: u8,
+    pub depth: u8,
+    /// At 4 * site + port - 1: 255, or 4 * site + port - 1 of the input that the channel feeds.
+    pub channels: [u8; 4 * SITES],
+    /// At S * from + to: four hex digits, first choice highest.
+    pub routes: [u16; SITES * SITES],
+}
+
+/// What the rules ask of a valid network.
+#[derive(Clone)]
+pub struct Wiring {
+    pub sites: usize,
+    pub tries: u8,
+    pub depth: usize,
+    /// For each output place, the input place that its channel feeds, or `NO_INPUT`.
+    pub far: [u8; PORTS * SITES],
+    /// At 16 * from + to: the route list.
+    lists: [u16; SITES * SITES],
+}
+
+impl Wiring {
+    /// The route list from a site to another one.
+    #[inline]
+    pub fn list(&self, from: usize, to: usize) -> u16 {
+        self.lists[(from * SITES + to) % (SITES * SITES)]
+    }
+}
+
+/// The ports of a route list, first choice first.
+#[inline]
+pub fn ports(list: u16) -> impl Iterator<Item = usize> {
+    let mut rest = list;
+    std::iter::from_fn(move || {
+        let port = (rest >> 12) as usize;
+        rest <<= 4;
+        (port != 0).then_some(port)
+    })
+}
+
+impl Network {
+    pub fn blank() -> Network {
+        Network { sites: 0, tries: 0, depth: 0, channels: [0; 4 * SITES], routes: [0; SITES * SITES] }
+    }
+
+    /// Refusal 3: S 1 to 16, T 1 to 255, D 1 to 8.
+    pub fn check_limits(&self) -> Result<(), Refusal> {
+        let good = (1..=SITES as u8).contains(&self.sites)
+            && self.tries >= 1
+            && (1..=DEPTH as u8).contains(&self.depth);
+        good.then_some(()).ok_or(Refusal::Limits)
+    }
+
+    /// Refusal 6, for S within its limits: each byte 255 or below 4S, no input fed twice.
+    pub fn check_channels(&self) -> Result<(), Refusal> {
+        let ends = 4 * self.sites as usize;
+        let mut fed = 0u64;
+        for &end in &self.channels[..ends] {
+            if end == NO_CHANNEL {
+                continue;
+            }
+            if end as usize >= ends || fed >> end & 1 == 1 {
+                return Err(Refusal::Channel);
+            }
+            fed |= 1 << end;
+        }
+        Ok(())
+    }
+
+    /// Refusal 7, for S within its limits.
+    pub fn check_routes(&self) -> Result<(), Refusal> {
+        let sites = self.sites as usize;
+        for from in 0..sites {
+            for to in 0..sites {
+                let route = self.routes[sites * from + to];
+                let good = if from == to { route == 0 } else { self.is_list(from, route) };
+                if !good {
+                    return Err(Refusal::Route);
+                }
+            }
+        }
+        Ok(())
+    }
+
+    /// One to four different ports with channels, zeros only after the last port.
+    fn is_list(&self, from: usize, route: u16) -> bool {
+        let digits = [route >> 12, route >> 8 & 15, route >> 4 & 15, route & 15];
+        let length = digits.iter().position(|&d| d == 0).unwrap_or(4);
+        let (list, rest) = digits.split_at(length);
+        let joined = |d: u16| d <= 4 && self.channels[4 * from + d as usize - 1] != NO_CHANNEL;
+        length >= 1
+            && rest.iter().all(|&d| d == 0)
+            && list.iter().all(|&d| joined(d))
+            && list.iter().enumerate().all(|(i, d)| !list[..i].contains(d))
+    }
+
+    /// The wiring, or the first of the refusals 3, 6, 7.
+    pub fn wiring(&self) -> Result<Wiring, Refusal> {
+        self.check_limits()?;
+        self.check_channels()?;
+        self.check_routes()?;
+        Ok(self.wired())
+    }
+
+    fn wired(&self) -> Wiring {
+        let sites = self.sites as usize;
+        let mut far = [NO_INPUT; PORTS * SITES];
+        let mut lists = [0; SITES * SITES];
+        for site in 0..sites {
+            for port in 1..PORTS {
+                let end = self.channels[4 * site + port - 1];
+                if end != NO_CHANNEL {
+                    far[PORTS * site + port] = end / 4 * PORTS as u8 + end % 4 + 1;
+                }
+            }
+            let row = &self.routes[sites * site..][..sites];
+            lists[SITES * site..][..sites].copy_from_slice(row);
+        }
+        let (tries, depth) = (self.tries, self.depth as usize);
+        Wiring { sites, tries, depth, far, lists }
+    }
+}

@@ -1,0 +1,85 @@
+//! Owing: which place owes which targets of which packet, place by place.
+
+use crate::network::SITES;
+use crate::sets::{only, size, Set};
+use crate::state::{Phase, State, Terminator};
+
+/// The kinds of place that can owe.
+#[derive(Clone, Copy, PartialEq, Eq, Debug)]
+pub enum Debt {
+    OutQueue,
+    OutQueueStarted,
+    InputDone,
+    InputLast,
+    InputFinAbort,
+    LocalEnd,
+    LocalKeepLocal,
+    RemoteEnd,
+    InQueueEnd,
+    InQueueKeepLocal,
+}
+
+/// Every kind with its words, in the order of the enum.
+pub const DEBTS: [(Debt, &str); 10] = [
+    (Debt::OutQueue, "out-queue entry, not started"),
+    (Debt::OutQueueStarted, "out-queue entry, started"),
+    (Debt::InputDone, "net-input done with end"),
+    (Debt::InputLast, "net-input last with end"),
+    (Debt::InputFinAbort, "net-input fin-abort with end"),
+    (Debt::LocalEnd, "output 0 with end"),
+    (Debt::LocalKeepLocal, "output 0 with keep-local"),
+    (Debt::RemoteEnd, "output 1 to 4 with end"),
+    (Debt::InQueueEnd, "in-queue entry with end"),
+    (Debt::InQueueKeepLocal, "in-queue entry with keep-local"),
+];
+
+/// What a place with this terminator owes of its set.
+fn due(terminator: Terminator, set: Set, site: usize) -> Set {
+    match terminator {
+        Terminator::End => set,
+        Terminator::KeepLocal => set & only(site),
+        Terminator::Abort | Terminator::None => 0,
+    }
+}
+
+/// Calls `owes(kind, packet, targets)` for every place that owes something.
+pub fn each(state: &State, mut owes: impl FnMut(Debt, u8, Set)) {
+    let mut tell = |kind, packet, targets| {
+        if targets != 0 {
+            owes(kind, packet, targets)
+        }
+    };
+    for site in 0..SITES {
+        for e in state.out_queues[site].items() {
+            tell(if e.started { Debt::OutQueueStarted } else { Debt::OutQueue }, e.packet, e.set);
+        }
+        for i in state.inputs_of(site) {
+            let kind = match i.phase {
+                Phase::Last => Debt::InputLast,
+                Phase::FinAbort => Debt::InputFinAbort,
+                _ => Debt::InputDone,
+            };
+            tell(kind, i.packet, due(i.received, i.set, site));
+        }
+        for (port, o) in state.outputs_of(site).iter().enumerate() {
+            let kind = match (port, o.terminator) {
+                (0, Terminator::KeepLocal) => Debt::LocalKeepLocal,
+                (0, _) => Debt::LocalEnd,
+                _ => Debt::RemoteEnd,
+            };
+            tell(kind, o.packet, due(o.terminator, o.set, site));
+        }
+        for e in state.in_queues[site].items() {
+            let keeps = e.terminator == Terminator::KeepLocal;
+            let kind = if keeps { Debt::InQueueKeepLocal } else { Debt::InQueueEnd };
+            tell(kind, e.packet, due(e.terminator, e.set, site));
+        }
+    }
+}
+
+/// The owed pairs, counted over the state.
+pub fn owed(state: &State) -> u32 {
+    let mut pairs = 0;
+    each(state, |_, _, targets| pairs += size(targets));
+    pairs
+}

@@ -1,0 +1,36 @@
+//! The numbers given back when something is turned down, by name.
+
+/// The refusals of document 01; `number` gives the number of its table.
+#[derive(Clone, Copy, PartialEq, Eq, PartialOrd, Ord, Debug)]
+#[repr(u8)]
+pub enum Refusal {
+    /// Fewer than 13 bytes, or the length field is not the slice's length.
+    Length = 1,
+    Version = 2,
+    /// S, T or D outside its limits.
+    Limits = 3,
+    Seed = 4,
+    /// The length is not 13 + 4S + 2S² + 5N; in the writer, more than 255 sends.
+    Size = 5,
+    Channel = 6,
+    Route = 7,
+    Send = 8,
+    /// RUN or SEND: no such site or code.
+    Address = 9,
+    /// SEND: set empty or outside S.
+    Set = 10,
+    /// The out-queue is full.
+    Full = 11,
+    /// 255 packets already accepted.
+    Spent = 12,
+    /// The state is not in range.
+    Range = 13,
+    /// The lent output is too short.
+    Room = 14,
+}
+
+impl Refusal {
+    pub fn number(self) -> u8 {
+        self as u8
+    }
+}

@@ -1,0 +1,86 @@
+//! Single SEND and RUN, for any network, state and numbers. Refusals in the order 3, 6, 7, 13, 9, 10, 12, 11.
+//!
+//! A refusal leaves the state as it was handed in.
+
+use crate::network::{Network, Wiring, CODES};
+use crate::range::in_range;
+use crate::refusal::Refusal;
+use crate::sets::{is_target_set, Set};
+use crate::state::{OutEntry, State};
+use crate::step::{Answer, Machine};
+use crate::watch::{Rule, Watch};
+
+/// A SEND or a RUN with any numbers.
+#[derive(Clone, Copy, PartialEq, Eq, Debug)]
+pub enum Event {
+    Send { site: u64, set: Set },
+    Run { site: u64, code: u64 },
+}
+
+/// SEND (site, set): the packet number, or the refusal.
+pub fn send(network: &Network, state: &mut State, site: u64, set: Set) -> Result<u8, Refusal> {
+    send_seen(network, state, site, set, &mut ())
+}
+
+/// RUN (site, code): the answer, or the refusal.
+pub fn run(network: &Network, state: &mut State, site: u64, code: u64) -> Result<Answer, Refusal> {
+    run_seen(network, state, site, code, &mut ())
+}
+
+/// SEND with a watch.
+pub fn send_seen(
+    network: &Network,
+    state: &mut State,
+    site: u64,
+    set: Set,
+    watch: &mut impl Watch,
+) -> Result<u8, Refusal> {
+    let wiring = checked(network, state)?;
+    if site >= wiring.sites as u64 {
+        return Err(Refusal::Address);
+    }
+    if !is_target_set(set, wiring.sites) {
+        return Err(Refusal::Set);
+    }
+    let packet = accept(&wiring, state, site as usize, set)?;
+    watch.saw(Rule::SendTaken);
+    Ok(packet)
+}
+
+/// RUN with a watch.
+pub fn run_seen(
+    network: &Network,
+    state: &mut State,
+    site: u64,
+    code: u64,
+    watch: &mut impl Watch,
+) -> Result<Answer, Refusal> {
+    let wiring = checked(network, state)?;
+    if site >= wiring.sites as u64 || code >= CODES as u64 {
+        return Err(Refusal::Address);
+    }
+    Ok(Machine { wiring: &wiring, state, watch }.run(site as usize, code as usize))
+}
+
+fn checked(network: &Network, state: &State) -> Result<Wiring, Refusal> {
+    let wiring = network.wiring()?;
+    if !in_range(&wiring, state) {
+        return Err(Refusal::Range);
+    }
+    Ok(wiring)
+}
+
+/// The end of SEND, for a site and a target set of the network: refusals 12, 11, else the packet number.
+pub fn accept(wiring: &Wiring, state: &mut State, site: usize, set: Set) -> Result<u8, Refusal> {
+    let packet = state.counter;
+    let queue = &mut state.out_queues[site];
+    if packet == 255 {
+        return Err(Refusal::Spent);
+    }
+    if queue.is_full(wiring.depth) {
+        return Err(Refusal::Full);
+    }
+    queue.push(OutEntry { packet, set, started: false });
+    state.counter = packet + 1;
+    Ok(packet)
+}

@@ -1,0 +1,79 @@
+//! The rules of a net-output, codes 5 to 9: the head first, the terminator at a later step.
+
+use super::{deliver, take_packet, takes_terminator, Answer, Machine};
+use crate::network::{NO_INPUT, PORTS};
+use crate::state::{InEntry, Output, Phase, Terminator};
+use crate::watch::{Rule, Watch};
+
+impl<W: Watch> Machine<'_, W> {
+    /// Output 0, which ends at the in-queue.
+    pub(super) fn local_output(&mut self, site: usize) -> Answer {
+        let Output { used, head, packet, set, terminator, .. } = self.state.outputs[PORTS * site];
+        let queue = &mut self.state.in_queues[site];
+        if !used {
+            return self.nothing(Rule::OutputEmpty);
+        }
+        if !head {
+            if queue.is_full(self.wiring.depth) {
+                return self.nothing(Rule::HeadQueueFull);
+            }
+            queue.push(InEntry { packet, set, terminator: Terminator::None });
+            self.state.outputs[PORTS * site].head = true;
+            return self.changed(Rule::HeadQueued);
+        }
+        if terminator == Terminator::None {
+            return self.nothing(Rule::TerminatorNone);
+        }
+        match queue.last_mut() {
+            Some(last) if last.terminator == Terminator::None => last.terminator = terminator,
+            _ => return self.nothing(Rule::TerminatorRefused),
+        }
+        self.state.outputs[PORTS * site] = Output::default();
+        self.changed(match terminator {
+            Terminator::End => Rule::EndQueued,
+            Terminator::Abort => Rule::AbortQueued,
+            _ => Rule::KeepLocalQueued,
+        })
+    }
+
+    /// Outputs 1 to 4, which end at an input, of any site, if they have a channel.
+    pub(super) fn remote_output(&mut self, site: usize, port: usize) -> Answer {
+        let place = PORTS * site + port;
+        let Output { used, head, packet, set, terminator, .. } = self.state.outputs[place];
+        if !used {
+            return self.nothing(Rule::OutputEmpty);
+        }
+        let far = self.wiring.far[place];
+        if far == NO_INPUT {
+            return self.nothing(Rule::OutputNoChannel);
+        }
+        let input = &mut self.state.inputs[far as usize];
+        if !head {
+            if input.phase != Phase::Free {
+                return self.nothing(Rule::HeadInputBusy);
+            }
+            take_packet(input, packet, set);
+            self.state.outputs[place].head = true;
+            if terminator == Terminator::Abort {
+                self.watch.saw(Rule::HeadPassedAborted);
+            }
+            let own = far as usize / PORTS == site;
+            return self.changed(if own { Rule::HeadPassedSelf } else { Rule::HeadPassed });
+        }
+        if terminator == Terminator::None {
+            return self.nothing(Rule::TerminatorNone);
+        }
+        if !takes_terminator(input) {
+            return self.nothing(Rule::TerminatorNotReady);
+        }
+        let open = input.phase == Phase::Open;
+        deliver(input, terminator);
+        self.state.outputs[place] = Output::default();
+        self.changed(match (terminator, open) {
+            (Terminator::End, true) => Rule::EndToOpen,
+            (Terminator::End, false) => Rule::EndToAbort,
+            (_, true) => Rule::AbortToOpen,
+            (_, false) => Rule::AbortToAbort,
+        })
+    }
+}

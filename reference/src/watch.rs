@@ -1,0 +1,144 @@
+//! What happened: every rule of document 01 by name, each way in which it acts or leaves things alone.
+//!
+//! The step tells a `Watch` which rule it took. The watch `()` costs nothing; a `Tally` counts.
+
+/// Sees each rule as it is taken.
+pub trait Watch {
+    fn saw(&mut self, rule: Rule);
+}
+
+impl Watch for () {
+    #[inline(always)]
+    fn saw(&mut self, _: Rule) {}
+}
+
+impl<W: Watch> Watch for &mut W {
+    fn saw(&mut self, rule: Rule) {
+        (**self).saw(rule);
+    }
+}
+
+/// Keeps the rules in order.
+impl Watch for Vec<Rule> {
+    fn saw(&mut self, rule: Rule) {
+        self.push(rule);
+    }
+}
+
+macro_rules! rules {
+    ($($name:ident $words:literal)*) => {
+        #[derive(Clone, Copy, PartialEq, Eq, Debug)]
+        pub enum Rule { $($name),* }
+        /// Every rule with its words, in the order of the enum.
+        pub const RULES: &[(Rule, &str)] = &[$((Rule::$name, $words)),*];
+    };
+}
+
+rules! {
+    SendTaken "SEND: accepted"
+    InputIdle "net-input: free or abort, no rule"
+    OpenStays "net-input: open stays, all ready"
+    OpenToWait "net-input: open to wait"
+    WaitStays "net-input: wait stays"
+    WaitToOpen "net-input: wait to open"
+    LastStays "net-input: last stays"
+    LastToDone "net-input: last to done"
+    DoneToLast "net-input: done to last"
+    DoneAbort "net-input: done, received abort, not split"
+    DoneAbortSplit "net-input: done, received abort at a split"
+    DoneUnicast "net-input: done, end, unicast"
+    DonePassthru "net-input: done, end, passthru"
+    DoneHanded "net-input: done, end, handed"
+    DoneAllRemote "net-input: done, end, all-remote"
+    DoneSomeLocal "net-input: done, end, some-local"
+    FinAbortStays "net-input: fin-abort stays, output 0 not ready"
+    FinAbortEnd "net-input: fin-abort gives end"
+    FinAbortAbort "net-input: fin-abort gives abort"
+    UnicastLocal "router: own site, unicast to output 0"
+    UnicastFirst "router: one other target, first choice"
+    UnicastLater "router: one other target, later choice"
+    SplitAllRemote "router: split, all-remote"
+    SplitSomeLocal "router: split, some-local"
+    SplitOneRemote "router: split, some-local with one remote output"
+    SplitShared "router: an output already chosen serves again"
+    PassthruSingle "router: single remote output, passthru"
+    PassthruBusy "router: output 0 in use, passthru"
+    PassthruPartial "router: output 0 empty, some target without output, passthru"
+    OneMoreTry "router: failed below T, one more try"
+    OneMoreTryRoom "router: failed below T with output 0 empty"
+    Handed "router: failed at T, handed"
+    FailedAtT "router: failed at T, output 0 in use"
+    OutputEmpty "net-output: empty"
+    HeadQueued "net-output: head into the in-queue"
+    HeadQueueFull "net-output: head, in-queue full"
+    HeadPassed "net-output: head to the channel's input"
+    HeadPassedSelf "net-output: head to an input of its own site"
+    HeadPassedAborted "net-output: head of an aborted branch passed"
+    HeadInputBusy "net-output: head, input not free"
+    OutputNoChannel "net-output: in use, no channel"
+    TerminatorNone "net-output: head taken, no terminator yet"
+    TerminatorNotReady "net-output: terminator, not ready"
+    EndToOpen "net-output: end delivered, open to done"
+    AbortToOpen "net-output: abort delivered, open to done"
+    EndToAbort "net-output: end delivered, abort to fin-abort"
+    AbortToAbort "net-output: abort delivered, abort to fin-abort"
+    EndQueued "net-output: end to the in-queue"
+    AbortQueued "net-output: abort to the in-queue"
+    KeepLocalQueued "net-output: keep-local to the in-queue"
+    TerminatorRefused "net-output: in-queue empty or its last entry has one"
+    OutQueueEmpty "out-queue: empty"
+    FrontTaken "out-queue: front into net-input 0"
+    FrontWaits "out-queue: front waits, net-input 0 not free"
+    FrontEndOpen "out-queue: end, net-input 0 open to done"
+    FrontEndAbort "out-queue: end, net-input 0 abort to fin-abort"
+    FrontEndWaits "out-queue: started front waits"
+    InQueueEmpty "operator: in-queue empty"
+    InQueueWaits "operator: front without terminator"
+    OperatorAbort "operator: abort, discarded"
+    KeepLocalServiced "operator: keep-local, serviced"
+    KeepLocalDropped "operator: keep-local, own site not in the set"
+    EndServiced "operator: end, serviced, no rest"
+    EndServicedRest "operator: end, serviced, rest requeued"
+    EndRest "operator: end, own site not in the set, requeued"
+    EndBlocked "operator: end with a rest, out-queue full"
+    TimeoutOpen "timeout: open to abort"
+    TimeoutWait "timeout: wait to abort"
+    TimeoutDone "timeout: done to fin-abort"
+    TimeoutLast "timeout: last to fin-abort"
+    TimeoutAllRemote "timeout: at an all-remote split"
+    TimeoutSomeLocal "timeout: at a some-local split"
+    TimeoutNoEntry "timeout: ignored, no last entry without terminator"
+    TimeoutNoOutput "timeout: ignored, output 0 not in use, head not taken or with terminator"
+    TimeoutPhase "timeout: ignored, the feeding input's state"
+    TimeoutConnection "timeout: ignored, the feeding input's connection"
+}
+
+/// Counts every rule.
+#[derive(Clone)]
+pub struct Tally {
+    counts: Vec<u64>,
+}
+
+impl Default for Tally {
+    fn default() -> Tally {
+        Tally { counts: vec![0; RULES.len()] }
+    }
+}
+
+impl Watch for Tally {
+    fn saw(&mut self, rule: Rule) {
+        self.counts[rule as usize] += 1;
+    }
+}
+
+impl Tally {
+    pub fn count(&self, rule: Rule) -> u64 {
+        self.counts[rule as usize]
+    }
+
+    pub fn add(&mut self, other: &Tally) {
+        for (sum, count) in self.counts.iter_mut().zip(&other.counts) {
+            *sum += count;
+        }
+    }
+}

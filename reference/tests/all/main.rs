@@ -1,0 +1,13 @@
+//! The second model's own tests. Expected values are typed from document 01 and its readings.
+
+mod bounds;
+mod examples;
+mod helpers;
+mod kept;
+mod orders;
+mod ranges;
+mod readings;
+mod router;
+mod stored;
+mod texts;
+mod typed;

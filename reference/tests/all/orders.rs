@@ -1,0 +1,143 @@
+//! The order of the refusals: reader, writer, player and single events, each pair of neighbours.
+
+use crate::helpers::{one_site, two_sites};
+use reference::archive::{read, write, Run, Send};
+use reference::player::play;
+use reference::refusal::Refusal::{self, *};
+use reference::single::{run, send};
+use reference::state::{OutEntry, State};
+
+/// A run with one fault for each refusal of `faults` that it can hold (3, 4, 5, 6, 7, 8).
+fn faulty(faults: &[Refusal]) -> Run {
+    let send = Send { draw: 0, site: 0, set: 1 };
+    let mut run = Run { network: two_sites(), seed: 1, draws: 2, sends: vec![send; 3] };
+    for fault in faults {
+        match fault {
+            Limits => run.network.tries = 0,
+            Seed => run.seed = 0,
+            Size => run.sends.resize(256, send),
+            Channel => run.network.channels[7] = 8,
+            Route => run.network.routes[0] = 1,
+            Send => run.sends[0].site = 2,
+            _ => (),
+        }
+    }
+    run
+}
+
+/// The bytes of it, with the faults that only bytes can hold (1, 2, 5).
+fn faulty_bytes(faults: &[Refusal]) -> Vec<u8> {
+    let others: Vec<Refusal> = faults.iter().copied().filter(|f| *f != Size).collect();
+    let mut bytes = faulty(&others).bytes();
+    for fault in faults {
+        match fault {
+            Length => bytes[1] += 1,
+            Version => bytes[2] = 7,
+            Size => bytes[12] += 1,
+            _ => (),
+        }
+    }
+    bytes
+}
+
+#[test]
+fn reader_and_player_1_to_8_then_14() {
+    let order = [Length, Version, Limits, Seed, Size, Channel, Route, Send];
+    assert!(read(&faulty_bytes(&[])).is_ok());
+    for (at, first) in order.iter().enumerate() {
+        assert_eq!(read(&faulty_bytes(&[*first])), Err(*first));
+        assert_eq!(read(&faulty_bytes(&order[at..])), Err(*first));
+        for later in &order[at + 1..] {
+            assert_eq!(read(&faulty_bytes(&[*first, *later])), Err(*first), "{first:?} {later:?}");
+        }
+        let mut book = [5; 3];
+        assert_eq!(play(&faulty_bytes(&[*first]), &mut book), Err(*first));
+        assert_eq!(book, [5; 3]);
+    }
+    assert_eq!(play(&faulty_bytes(&[]), &mut [5; 3]), Err(Room));
+}
+
+#[test]
+fn writer_3_to_8_then_14() {
+    let order = [Limits, Seed, Size, Channel, Route, Send];
+    for (at, first) in order.iter().enumerate() {
+        let mut room = [5; 10];
+        assert_eq!(write(&faulty(&[*first]), &mut room), Err(*first));
+        assert_eq!(write(&faulty(&order[at..]), &mut room), Err(*first));
+        assert_eq!(room, [5; 10]);
+    }
+    assert_eq!(write(&faulty(&[]), &mut [5; 10]), Err(Room));
+}
+
+/// Single events: 3, 6, 7, 13, 9, 10, 12, 11.
+const SINGLE: [Refusal; 8] = [Full, Spent, Set, Address, Range, Route, Channel, Limits];
+
+/// The place in the reverse order: a fault's rank is above those that come after it.
+fn rank(fault: Refusal) -> usize {
+    SINGLE.iter().position(|f| *f == fault).expect("a refusal of single events")
+}
+
+#[test]
+fn single_send() {
+    for last in SINGLE {
+        // All faults that come before `last` in the order are left out.
+        let absent = |fault: Refusal| rank(fault) > rank(last);
+        assert_eq!(send_without(absent), Err(last));
+    }
+}
+
+/// SEND with every fault but those that are absent.
+fn send_without(absent: impl Fn(Refusal) -> bool) -> Result<u8, Refusal> {
+    let mut network = two_sites();
+    let mut state = State { counter: 1, ..State::empty() };
+    network.depth = 1;
+    let here = |fault: Refusal| !absent(fault);
+    network.tries = if here(Limits) { 0 } else { 1 };
+    network.channels[7] = if here(Channel) { 8 } else { 255 };
+    network.routes[0] = here(Route) as u16;
+    state.inputs[79].tries = here(Range) as u8;
+    let site = if here(Address) { 2 } else { 0 };
+    let set = if here(Set) { 0 } else { 1 };
+    state.counter = if here(Spent) { 255 } else { 1 };
+    if here(Full) {
+        state.out_queues[0].push(OutEntry { set: 1, ..OutEntry::default() });
+    }
+    let before = state.clone();
+    let answer = send(&network, &mut state, site, set);
+    assert!(answer.is_ok() || state == before);
+    answer
+}
+
+#[test]
+fn single_run() {
+    let network = two_sites();
+    let mut state = State::empty();
+    assert_eq!(run(&network, &mut state, 2, 0), Err(Address));
+    assert_eq!(run(&network, &mut state, 0, 13), Err(Address));
+    assert_eq!(run(&network, &mut state, 256, 0), Err(Address));
+    assert_eq!(run(&network, &mut state, 0, 256), Err(Address));
+    state.inputs[0].tries = 1;
+    let before = state.clone();
+    assert_eq!(run(&network, &mut state, 2, 13), Err(Range));
+    let mut bad = network.clone();
+    bad.routes[0] = 1;
+    assert_eq!(run(&bad, &mut state, 2, 13), Err(Route));
+    bad.channels[0] = 9;
+    assert_eq!(run(&bad, &mut state, 2, 13), Err(Channel));
+    bad.depth = 9;
+    assert_eq!(run(&bad, &mut state, 2, 13), Err(Limits));
+    assert_eq!(state, before);
+}
+
+#[test]
+fn single_send_numbers() {
+    let network = one_site();
+    let mut state = State { counter: 254, ..State::empty() };
+    assert_eq!(send(&network, &mut state, 1, 1), Err(Address));
+    assert_eq!(send(&network, &mut state, 0, 0), Err(Set));
+    assert_eq!(send(&network, &mut state, 0, 2), Err(Set));
+    assert_eq!(send(&network, &mut state, 0, 1 << 63 | 1), Err(Set));
+    assert_eq!(send(&network, &mut state, 0, 1), Ok(254));
+    assert_eq!(state.counter, 255);
+    assert_eq!(send(&network, &mut state, 0, 1), Err(Spent));
+}

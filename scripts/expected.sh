@@ -1,0 +1,59 @@
+#!/bin/sh
+# Makes the corpus and its expected outputs anew under target/ and compares them with the committed ones.
+# With --write the committed ones are replaced instead (not corpus/typed, which is typed by hand).
+# It needs cargo; nothing is fetched.
+set -eu
+export LC_ALL=C
+root=$(CDPATH= cd -- "$(dirname -- "$0")/.." && pwd)
+export CARGO_TARGET_DIR="$root/target/reference"
+programs="$CARGO_TARGET_DIR/release"
+fresh="$root/target/corpus"
+
+(cd "$root/reference" && cargo build --release --offline --quiet)
+rm -rf "$fresh"
+mkdir -p "$fresh"
+"$programs/corpus" "$fresh"
+
+if [ "${1:-}" = --write ]; then
+    rm -f "$root"/corpus/*.bin
+    cp "$fresh"/*.bin "$root/corpus/"
+    (cd "$root/corpus" && ls -- *.bin | "$programs/batch" --services > expected.txt)
+    echo "expected: written, $(tail -n 1 "$root/corpus/expected.txt")"
+    exit 0
+fi
+
+bad=0
+differs() {
+    echo "expected: $1" >&2
+    bad=1
+}
+
+# The committed archives are those that the recipes make.
+for file in "$fresh"/*.bin; do
+    name=${file##*/}
+    cmp -s "$file" "$root/corpus/$name" || differs "corpus/$name is not what the recipes make"
+done
+for file in "$root"/corpus/*.bin; do
+    name=${file##*/}
+    [ -e "$fresh/$name" ] || differs "corpus/$name has no recipe"
+done
+
+# The committed outputs are those of the second model.
+(cd "$root/corpus" && ls -- *.bin | "$programs/batch" --services) > "$root/target/expected.txt"
+if ! cmp -s "$root/target/expected.txt" "$root/corpus/expected.txt"; then
+    differs "corpus/expected.txt is not what the second model prints:"
+    diff "$root/corpus/expected.txt" "$root/target/expected.txt" | head -n 20 >&2 || true
+fi
+
+# The outputs typed from document 01 are those of the second model.
+typed=0
+for file in "$root"/corpus/typed/*.out; do
+    name=${file##*/}
+    name=${name%.out}
+    "$programs/play" < "$root/corpus/$name.bin" | cmp -s - "$file" ||
+        differs "corpus/typed/$name.out is not what the second model prints"
+    typed=$((typed + 1))
+done
+
+[ "$bad" = 0 ] || exit 1
+echo "expected: $(tail -n 1 "$root/corpus/expected.txt"), $typed typed by hand"
