@@ -68,6 +68,12 @@ zeroth = true ∷ false ∷ false ∷ false ∷ false ∷ []
 first : List Bool
 first = false ∷ true ∷ false ∷ false ∷ false ∷ []
 
+fourth : List Bool
+fourth = false ∷ false ∷ false ∷ false ∷ true ∷ []
+
+ends : List Bool
+ends = true ∷ false ∷ false ∷ false ∷ true ∷ []
+
 -- packet 0 to {0, 1}: input 0 of site 0 open, split on outputs 0 and 1, both heads taken; input 1 of site 1 seeks
 pub split : State
 split =
@@ -94,7 +100,9 @@ cases =
     -- a started front though input 0 is free; unicast on two outputs; handed on a remote one; wait, done and last
     ∷ (at 0 (input 0 noInput), true)
     ∷ (at 0 (input 0 (inp (Open Unicast) 0 1 both 0)), true)
+    ∷ (at 0 (input 0 (inp (Open Passthru) 0 3 first 0)), true)
     ∷ (at 0 (input 0 (inp (Open Handed) 0 3 first 0)), true)
+    ∷ (λ st. at 0 (output 4 (out 0 1 0 false tNone)) (at 0 (input 0 (inp (Open Unicast) 0 3 fourth 0)) st), true)
     ∷ (at 0 (input 0 (inp (Wait SomeLocal) 0 3 both 0)), true)
     ∷ (at 0 (input 0 (inp (Done AllRemote gotEnd) 0 3 both 0)), true)
     ∷ (at 0 (input 0 (inp (Last SomeLocal gotAbort) 0 3 both 0)), true)
@@ -103,6 +111,7 @@ cases =
     -- outputs that no input is connected to; keep-local at output 0 and in the in-queue; queues of D; an early entry
     -- without a terminator
     ∷ (λ st. at 0 (output 1 (out 0 2 4 false tEnd)) (left st), true)
+    ∷ (λ st. at 0 (output 1 (out 0 2 0 true tAbort)) (left st), true)
     ∷ (λ st. at 0 (output 0 (out 0 3 0 true tKeep)) (right st), true)
     ∷ (at 0 (incoming 0 (arrived 0 3 tKeep) 1), true)
     ∷ (at 0 (incoming 1 (arrived 0 3 tEnd) 2), true)
@@ -117,6 +126,7 @@ cases =
     ∷ (at 0 (input 2 (inp Free 1 0 none 0)), false)
     ∷ (at 0 (input 2 (inp Free 0 1 none 0)), false)
     ∷ (at 0 (input 2 (inp Free 0 0 none 1)), false)
+    ∷ (at 0 (input 4 (inp Free 1 0 none 0)), false)
     -- "its connected outputs likewise": some in free or seek, none in another state
     ∷ (at 0 (input 0 (inp Free 0 0 zeroth 0)), false)
     ∷ (at 0 (input 0 (inp Seek 0 3 both 0)), false)
@@ -128,12 +138,17 @@ cases =
     ∷ (at 0 (output 1 noOutput), false)
     ∷ (at 0 (output 1 (out 0 2 3 true tNone)), false)
     ∷ (at 0 (output 1 (out 0 2 0 true tEnd)), false)
-    ∷ (at 0 (input 0 (inp (Open SomeLocal) 0 3 (true ∷ false ∷ false ∷ false ∷ true ∷ []) 0)), false)
+    ∷ (at 0 (output 1 (out 0 2 0 true tAbort)), false)
+    ∷ (at 0 (output 0 (out 0 3 0 true tKeep)), false)
+    ∷ (at 0 (input 0 (inp (Open SomeLocal) 0 3 ends 0)), false)
     -- "output 0 among them for connections 3 and 4"
     ∷ (at 0 (input 0 (inp (Open AllRemote) 0 3 first 0)), false)
+    ∷ (at 0 (input 0 (inp (Wait SomeLocal) 0 3 first 0)), false)
+    ∷ (at 0 (input 0 (inp (Done AllRemote gotEnd) 0 3 first 0)), false)
     ∷ (at 0 (input 0 (inp (Last SomeLocal gotEnd) 0 3 first 0)), false)
     -- "and alone, with one of those two, in abort and fin-abort"
     ∷ (at 0 (input 0 (inp (Aborted SomeLocal) 0 3 both 0)), false)
+    ∷ (λ st. at 0 (output 4 (out 0 1 0 false tNone)) (at 0 (input 0 (inp (Aborted SomeLocal) 0 3 ends 0)) st), false)
     ∷ (at 0 (input 0 (inp (FinAbort AllRemote gotEnd) 0 3 both 0)), false)
     ∷ (at 0 (input 0 (inp (Aborted Handed) 0 3 zeroth 0)), false)
     ∷ (at 0 (input 0 (inp (FinAbort Unicast gotEnd) 0 3 zeroth 0)), false)
@@ -149,6 +164,7 @@ cases =
     ∷ (at 0 (output 3 (empty 0 0 1 false tNone)), false)
     ∷ (at 0 (output 3 (empty 0 0 0 true tNone)), false)
     ∷ (at 0 (output 3 (empty 0 0 0 false tAbort)), false)
+    ∷ (at 0 (output 4 (empty 1 0 0 false tNone)), false)
     -- the out-queue: packet, set, "only the front may be started", the room beyond its count, at most D
     ∷ (at 0 (outgoing 1 (leaving 1 1 false) 2), false)
     ∷ (at 0 (outgoing 1 (leaving 0 0 false) 2), false)
@@ -168,6 +184,7 @@ cases =
     ∷ (λ st. at 0 (incoming 2 (arrived 0 3 tNone) 3) (at 0 (incoming 1 (arrived 0 3 tNone) 2) st), false)
     -- "room .. beyond S sites": the last site of the network is none, the next and the last are
     ∷ (at 1 (input 0 (inp Seek 0 1 none 0)), true)
+    ∷ (at 2 (input 0 (inp Seek 0 1 none 0)), false)
     ∷ (at 2 (input 0 (inp Seek 0 0 none 0)), false)
     ∷ (at 2 (input 0 (inp Free 1 0 none 0)), false)
     ∷ (at 2 (input 4 (inp Free 0 1 none 0)), false)
@@ -180,11 +197,11 @@ cases =
     ∷ (at 2 (output 0 (empty 0 0 0 true tNone)), false)
     ∷ (at 2 (output 0 (empty 0 0 0 false tEnd)), false)
     ∷ (at 2 (outgoing 0 (leaving 0 0 false) 1), false)
-    ∷ (at 2 (outgoing 0 (leaving 0 1 false) 0), false)
+    ∷ (at 2 (outgoing 7 (leaving 0 1 false) 0), false)
     ∷ (at 2 (incoming 0 (arrived 0 0 tNone) 1), false)
     ∷ (at 15 (incoming 7 (arrived 0 1 tNone) 0), false)
     ∷ []
 
 pub in-range : map (λ c. inRange two (c .0 split)) cases ≡ map (λ c. c .1) cases
-unfolding cases split left right counted at input output outgoing incoming inp out empty leaving arrived none both zeroth first inRange all any
+unfolding cases split left right counted at input output outgoing incoming inp out empty leaving arrived none both zeroth first fourth ends inRange all any
 in-range = refl

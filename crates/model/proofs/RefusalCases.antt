@@ -19,7 +19,7 @@ net : ℕ → ℕ → ℕ → List ℕ → List ℕ → Network
 net S T D cs rs =
     record { sites = S; depth = D; tries = T; channels = cs ++ replicate 56 9; routes = rs ++ replicate 252 9 }
 
--- joined on all ports, on ports 1 to 3, on ports 1 and 2 from 0 to 1 and on port 1 back
+-- joined on all ports; on ports 1 to 3; on ports 1 and 2 from 0 to 1 and on port 1 back; on ports 2
 four : List ℕ
 four = 4 ∷ 5 ∷ 6 ∷ 7 ∷ 0 ∷ 1 ∷ 2 ∷ 3 ∷ []
 
@@ -28,6 +28,9 @@ three = 4 ∷ 5 ∷ 6 ∷ noChannel ∷ 0 ∷ 1 ∷ 2 ∷ noChannel ∷ []
 
 less : List ℕ
 less = 4 ∷ 5 ∷ noChannel ∷ noChannel ∷ 0 ∷ noChannel ∷ noChannel ∷ noChannel ∷ []
+
+second : List ℕ
+second = noChannel ∷ 5 ∷ noChannel ∷ noChannel ∷ noChannel ∷ 1 ∷ noChannel ∷ noChannel ∷ []
 
 -- the route from 0 to 1 is r
 routes : ℕ → List ℕ
@@ -90,6 +93,7 @@ refusals =
     ∷ ((on less 4608, noState, Send 1 2), 0)
     ∷ ((on less 8448, noState, Send 1 1), 0)
     ∷ ((on three 4656, waits 254, Send 1 1), 0)
+    ∷ ((net 2 3 1 second (0 ∷ 8192 ∷ 8192 ∷ 0 ∷ []), noState, Run 1 12), 0)
     -- 3 before 6: S, T, D
     ∷ ((net 17 3 1 (replicate 8 4) (routes 0), bad, no-send), 3)
     ∷ ((net 0 3 1 (replicate 8 4) (routes 0), bad, no-send), 3)
@@ -147,5 +151,5 @@ refusals =
     ∷ []
 
 pub refused-by : map (λ c. refusalOf (c .0 .0) (c .0 .1) (c .0 .2)) refusals ≡ map (λ c. c .1) refusals
-unfolding refusals refusalOf net four three less routes on channelsFrom rowsAfter ring one bad waits no-send runRefusal sendRefusal networkRefusal inRange all any
+unfolding refusals refusalOf net four three less second routes on channelsFrom rowsAfter ring one bad waits no-send runRefusal sendRefusal networkRefusal inRange all any
 refused-by = refl

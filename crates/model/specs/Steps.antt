@@ -6,7 +6,7 @@ use mathlib.Core.Bool.{Bool, true, false, cond, not, _&&_, _||_}
 use lib.Dec.{eqb, ltb}
 use lib.ListN.{set}
 use Rattle.base.specs.Sizes.{inputCount, outputCount, portCount}
-use Rattle.model.specs.Types.{Input, Output, OutEntry, OutQueue, InQueue, Site, State, Network, Ran, Nothing, Changed, Serviced, inputD, siteAt, inAt, outAt, withInputs, withOutputs, withOutQueue, withInQueue, setIn, setOut, setSite, pushOut}
+use Rattle.model.specs.Types.{Input, Output, OutEntry, OutQueue, InQueue, Site, State, Network, Ran, Nothing, Changed, Serviced, noInput, siteAt, inAt, outAt, withInputs, withOutputs, withOutQueue, withInQueue, setIn, setOut, setSite, pushOut}
 use Rattle.model.specs.Network.{channel, joined, endSite, endPort}
 use Rattle.model.specs.NetInput.{Turn, Stay, To, ready, netInput}
 use Rattle.model.specs.Places.{localOutput, channelOutput, outQueue, Work, Rest, Cleared, Service, operator, timeout}
@@ -58,7 +58,7 @@ act n s x far code =
 
 -- the inputs at the ends of a site's channels; where there is none a free one, which no rule looks at
 abbrev pub ends : Network → List Site → ℕ → ℕ → Input
-ends n st s j = cond (ltb j portCount && joined n s j) (farEnd st (channel n s j)) inputD
+ends n st s j = cond (ltb j portCount && joined n s j) (farEnd st (channel n s j)) noInput
 
 -- "The answer is 2 with packet and site where the operator serviced, else 1 if anything in the state changed, else 0."
 pub record Stepped : Type 0 where

@@ -1,0 +1,23 @@
+use mathlib.Core.Path.{refl}
+use borrow.Author.Needs.{needs}
+use Rattle.archive.proofs.sends.send_ok.Statement.{statement}
+use Rattle.archive.proofs.sends.send_ok.Tie as tie
+use Rattle.archive.proofs.sends.send_ok.Reads as reads
+use Rattle.archive.proofs.sends.send_ok.Lts as lts
+use Rattle.base.proofs.wide.Reads as wide-reads
+use Rattle.sets.proofs.is_targets.Reads as is-targets-reads
+
+-- src/sends.rt:14:9
+wide-requires : tie.Need-wide-requires
+wide-requires c κs = search needs
+
+-- src/sends.rt:15:9
+is-targets-requires : tie.Need-is-targets-requires
+is-targets-requires c κs = search needs
+
+-- src/sends.rt:11:1
+returns : tie.Need-returns
+returns c = rw (c .before .before .before .wide .ensures .0, c .before .before .is-targets .ensures) refl
+
+pub send-ok-spec : {M : Type 1} → statement M
+send-ok-spec = tie.close (tie.spec wide-requires is-targets-requires returns)

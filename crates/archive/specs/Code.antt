@@ -1,0 +1,41 @@
+-- What the functions of this crate ask and compute on the way: bytes whose head passed, a run whose sizes fit, a send and
+-- the draw number before it. Assumes nothing.
+use mathlib.Core.Path.{_≡_}
+use mathlib.Core.Bool.{Bool, true, cond, _&&_}
+use mathlib.Core.List.{List}
+use Prim.Native.Nat.{ℕ, _-_, _*_, _≤_}
+use lib.Dec.{eqb, ltb, leb}
+use lib.ListN.{length, getD}
+use Rattle.base.specs.Sizes.{sitesMost, queueRoom, sendsMost}
+use Rattle.sets.specs.Sets.{targets}
+use Rattle.model.specs.declared.StoredSend.{StoredSend}
+use Rattle.model.specs.declared.Run.{Run}
+use Rattle.model.specs.Types.{sendD}
+use Rattle.model.specs.Network.{sizesOk}
+use Rattle.archive.specs.Format.{at, word, quad, versionPlace, sitesPlace, countPlace, headLength, version, lengthWith, networkOf}
+
+-- bytes that are not refused 1 to 5
+pub record Head (b : List ℕ) : Type 0 where
+  pub enough : headLength ≤ length b
+  pub field : word b 0 ≡ length b
+  pub first : at b versionPlace ≡ version
+  pub sizes : sizesOk (networkOf b) ≡ true
+  pub few : at b sitesPlace ≤ sitesMost
+  pub square : at b sitesPlace * at b sitesPlace ≤ sitesMost * sitesMost
+  pub seed : quad b 6 ≡ 0 → ⊥
+  pub size : length b ≡ lengthWith (at b sitesPlace) (at b countPlace)
+
+-- a run within the sizes that an archive can hold
+pub record Fit (r : Run) : Type 0 where
+  pub few : r .network .sites ≤ sitesMost
+  pub square : r .network .sites * r .network .sites ≤ sitesMost * sitesMost
+  pub deep : r .network .depth ≤ queueRoom
+  pub count : r .count ≤ sendsMost
+
+-- the draw number of the send before send k, 0 before the first
+abbrev pub drawBefore : List StoredSend → ℕ → ℕ
+drawBefore es k = cond (eqb k 0) 0 (getD es (k - 1) sendD .draw)
+
+-- the model's test of a send, after a send with draw number `last`
+abbrev pub sendAfter : ℕ → ℕ → ℕ → StoredSend → Bool
+sendAfter S draws last e = ltb (e .site) S && targets S (e .set) && leb (e .draw) draws && leb last (e .draw)

@@ -1,0 +1,34 @@
+// The archive, version 1: reader and writer of the stored run. specs/Format.antt has the bytes, specs/Refusals.antt what
+// reader and writer answer; proofs/RoundTripBytes.antt and proofs/RoundTripRuns.antt show that the two are inverse:
+// `write-read`, `read-write`, `exactly`. The public functions take any slice, of any length, and any run.
+ghost use mathlib.Core.Path.{_≡_};
+ghost use Prim.Native.Nat.{_<_};
+ghost use Rattle.archive.specs.Format.{lengthWith};
+
+mod reader;
+mod sends;
+mod writer;
+
+pub use reader::check;
+pub use reader::read;
+pub use writer::write;
+
+// What the reader answers: the run, or the refusal and the all-zero run.
+pub struct Decoded {
+    pub refusal: u8,
+    pub run: model::Run,
+}
+
+// What the writer answers: how many bytes it wrote, or the refusal and 0.
+pub struct Written {
+    pub refusal: u8,
+    pub length: usize,
+}
+
+// The number of bytes of an archive with so many sites and sends.
+pub(crate) fn size_of(sites: usize, count: usize) -> usize
+    requires { ⌜ (sites < 256) × (count < 256) ⌝ }
+    ensures { λ r. ⌜ r ≡ lengthWith sites count ⌝ }
+{
+    13 + base::PORTS * sites + 2 * (sites * sites) + 5 * count
+}
