@@ -5,7 +5,6 @@ use mathlib.Core.List.{List}
 use Prim.Native.Nat.{ℕ, _≤_, _<_}
 use native.Mathlib.Omega.{arith}
 use borrow.Author.Tests.{eq-eqb, ne-eqb, le-leb, lt-leb, lt-ltb, le-ltb}
-use lib.Dec.{eqb, leb}
 use lib.ListN.{length}
 use Rattle.base.specs.Sizes.{sendsMost}
 use Rattle.model.specs.declared.Network.{Network}
@@ -15,7 +14,8 @@ use Rattle.model.specs.Runs.{sendsOk, storedRefusal}
 use Rattle.model.proofs.Networks.{passed}
 use Rattle.archive.specs.declared.Decoded.{Decoded}
 use Rattle.archive.specs.declared.Written.{Written}
-use Rattle.archive.specs.Format.{lengthOf, encode, runOf, noRun}
+use Rattle.archive.specs.Format.{lengthOf, encode, networkOf, runOf, noRun}
+use Rattle.archive.specs.Code.{Head}
 use Rattle.archive.specs.Refusals.{headThen, bodyRefusal, readRefusal, decode, writeRefusal, writeAnswer, written, put}
 use Rattle.archive.proofs.Passed.{head-then}
 
@@ -80,16 +80,32 @@ module _ (r : Run) (f : ℕ) (e : f ≡ networkRefusal (r .network)) where
         pub stored-sends : f ≡ 0 → (b : Bool) → sendsOk r ≡ b → cond b 0 8 ≡ storedRefusal r
         stored-sends k b s = sym (stored-body ∙ body-sends k b s)
 
+-- ---- the body of an archive whose network was read
+
+module _ (b : List ℕ) (h : Head b) (n : Network) (en : n ≡ networkOf b) (f : ℕ) (ef : f ≡ networkRefusal n) where
+  of-run : f ≡ networkRefusal (runOf b .network)
+  unfolding runOf
+  of-run = ef ∙ ap networkRefusal en
+
+  sizes-run : sizesOk (runOf b .network) ≡ true
+  unfolding runOf
+  sizes-run = h .sizes
+
+  pub archive-network : (f ≡ 0 → ⊥) → f ≡ bodyRefusal (runOf b)
+  archive-network k = body-network (runOf b) f of-run sizes-run k
+
+  pub archive-sends : f ≡ 0 → (t : Bool) → sendsOk (runOf b) ≡ t → cond t 0 8 ≡ bodyRefusal (runOf b)
+  archive-sends k t s = sym (body-sends (runOf b) f of-run k t s)
+
 -- ---- the reader
 
 pub read-head : (b : List ℕ) (f : ℕ) → f ≡ headThen b 0 → (f ≡ 0 → ⊥) → f ≡ readRefusal b
 unfolding readRefusal
 read-head b f e h = sym (head-then b (bodyRefusal (runOf b)) ∙ (rw (← e, ne-eqb f 0 h) refl))
 
-pub read-body : (b : List ℕ) (r : Run) (f g : ℕ) → f ≡ headThen b 0 → f ≡ 0 → r ≡ runOf b → g ≡ bodyRefusal r → g ≡ readRefusal b
+pub read-body : (b : List ℕ) (f g : ℕ) → f ≡ headThen b 0 → f ≡ 0 → g ≡ bodyRefusal (runOf b) → g ≡ readRefusal b
 unfolding readRefusal
-read-body b r f g e h er eg =
-    sym (head-then b (bodyRefusal (runOf b)) ∙ (rw (← e, eq-eqb f 0 h, ← er) (sym eg)))
+read-body b f g e h eg = sym (head-then b (bodyRefusal (runOf b)) ∙ (rw (← e, eq-eqb f 0 h) (sym eg)))
 
 pub decode-no : (b : List ℕ) (f : ℕ) → f ≡ readRefusal b → (f ≡ 0 → ⊥)
     → _≡_ {A = Decoded} (record { refusal = f; run = noRun }) (decode b)

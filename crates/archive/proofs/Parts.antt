@@ -1,8 +1,9 @@
--- The bytes of a run by their places: how long the parts of the archive are, and which byte stands where. Assumes nothing.
-use mathlib.Core.Path.{_≡_, refl, sym, ap, ap₂, _∙_}
+-- The bytes of a run by their places: how long the parts of the archive are, and which byte stands where. Assumes
+-- nothing.
+use mathlib.Core.Path.{_≡_, refl, sym, ap, _∙_}
 use mathlib.Core.Logic.{⊎-elim}
 use mathlib.Core.List.{List, [], _∷_, _++_}
-use Prim.Native.Nat.{ℕ, zero, suc, _+_, _*_, _/_, _%_, _≤_, _<_}
+use Prim.Native.Nat.{ℕ, zero, suc, _+_, _*_, _≤_, _<_}
 use native.Mathlib.Nat.{mul-le-mul, mul-suc, le-refl, not-suc-le-zero, le-of-suc-le-suc, eq-or-lt-of-le}
 use native.Mathlib.Omega.{arith}
 use lib.ListN.{length, getD, length-append, List·getD-append}
@@ -37,7 +38,8 @@ each-at w f h zero k j l p = absurd (not-suc-le-zero l)
 each-at w f h (suc n) k j l p =
     ⊎-elim
     (λ q.
-    let e : w * k + j ≡ length (each f n) + j = ap (λ (m : ℕ). w * m + j) q ∙ ap (λ (m : ℕ). m + j) (sym (length-each w f h n)) in
+    let e : w * k + j ≡ length (each f n) + j = ap (λ (m : ℕ). w * m + j) q
+    ∙ ap (λ (m : ℕ). m + j) (sym (length-each w f h n)) in
     ap (at (each f n ++ f n)) e ∙ getD-append-add (each f n) (f n) j 0 ∙ ap (λ (m : ℕ). at (f m) j) (sym q))
     (λ q.
     let b : w * k + j < length (each f n) = omega (arith, place-below w k n j q p, length-each w f h n) in
@@ -156,7 +158,8 @@ module _ (r : Run) where
       in-2 (headBytes r) (channelPart r) (routePart r) (sendPart r) i k (omega arith) (omega arith)
       ∙ channel-at (r .network .channels) (portCount * r .network .sites) k l
 
-  pub in-routes : (i k j : ℕ) → i ≡ routesPlace (r .network .sites) + 2 * k + j → k < r .network .sites * r .network .sites → j < 2
+  pub in-routes : (i k j : ℕ) → i ≡ routesPlace (r .network .sites) + 2 * k + j
+      → k < r .network .sites * r .network .sites → j < 2
       → at (encode r) i ≡ at (wordBytes (at (r .network .routes) k)) j
   unfolding encode
   in-routes i k j e l p =

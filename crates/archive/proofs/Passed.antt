@@ -1,23 +1,22 @@
 -- What bytes that pass the reader's tests, and a run that passes the writer's, are known by. Assumes nothing.
-use mathlib.Core.Path.{_≡_, refl, sym, ap, _∙_}
+use mathlib.Core.Path.{_≡_, refl}
 use mathlib.Core.Bool.{Bool, true, false, cond, _&&_}
 use mathlib.Core.List.{List}
-use Prim.Native.Nat.{ℕ, zero, suc, _+_, _*_, _≤_, _<_}
+use Prim.Native.Nat.{ℕ, _≤_, _<_}
 use native.Mathlib.Nat.{mul-le-mul}
 use native.Mathlib.Omega.{arith}
 use borrow.Author.Tests.{leb-true, eqb-true, eqb-false, eq-eqb, ne-eqb, le-leb, lt-leb}
-use lib.Dec.{eqb, ltb, leb}
+use lib.Dec.{eqb, leb}
 use lib.ListN.{length}
 use Rattle.base.specs.Sizes.{sitesMost, queueRoom, sendsMost}
 use Rattle.base.specs.Bools.{both, first-of, second-of}
-use Rattle.model.specs.declared.Network.{Network}
 use Rattle.model.specs.declared.Run.{Run}
 use Rattle.model.specs.Network.{sizesOk, channelsOk, routesOk}
 use Rattle.model.specs.Runs.{sendsOk, storedRefusal}
 use Rattle.checks.proofs.NetworkLaws.{sizes-few}
 use Rattle.archive.specs.Format.{at, word, quad, versionPlace, sitesPlace, triesPlace, depthPlace, countPlace, headLength, version, lengthWith, networkOf, runOf}
 use Rattle.archive.specs.Code.{Head, Fit}
-use Rattle.archive.specs.Refusals.{lengthOk, sizeOk, headThen, bodyRefusal, readRefusal}
+use Rattle.archive.specs.Refusals.{lengthOk, sizeOk, headThen, bodyRefusal}
 
 -- ---- the head of an archive
 
@@ -55,16 +54,25 @@ pub head-by : (b : List ℕ) (rest : ℕ) → headLength ≤ length b → word b
     → headThen b rest ≡ rest
 unfolding headThen runOf
 head-by b rest a f v s x z =
-    rw (le-leb headLength (length b) a, eq-eqb (word b 0) (length b) f, eq-eqb (at b versionPlace) version v, s, ne-eqb (quad b 6) 0 x, eq-eqb (length b) (lengthWith (at b sitesPlace) (at b countPlace)) z)
+    rw (
+      le-leb headLength (length b) a,
+      eq-eqb (word b 0) (length b) f,
+      eq-eqb (at b versionPlace) version v,
+      s,
+      ne-eqb (quad b 6) 0 x,
+      eq-eqb (length b) (lengthWith (at b sitesPlace) (at b countPlace)) z,
+    )
 
 -- the tests of the head alone decide, or what follows
 pub head-then : (b : List ℕ) (rest : ℕ) → headThen b rest ≡ cond (eqb (headThen b 0) 0) rest (headThen b 0)
 unfolding headThen
-head-then b rest = go (lengthOk b) (eqb (at b versionPlace) version) (sizesOk (networkOf b)) (eqb (runOf b .seed) 0) (sizeOk b)
+head-then b rest = go (lengthOk b) (eqb (at b versionPlace) version) (sizesOk (networkOf b)) (eqb (runOf b .seed) 0)
+    (sizeOk b)
   where
     go : (a v s x z : Bool)
         → cond a (cond v (cond s (cond x 4 (cond z rest 5)) 3) 2) 1
-        ≡ cond (eqb (cond a (cond v (cond s (cond x 4 (cond z 0 5)) 3) 2) 1) 0) rest (cond a (cond v (cond s (cond x 4 (cond z 0 5)) 3) 2) 1)
+        ≡ cond (eqb (cond a (cond v (cond s (cond x 4 (cond z 0 5)) 3) 2) 1) 0) rest
+        (cond a (cond v (cond s (cond x 4 (cond z 0 5)) 3) 2) 1)
     go false v s x z = refl
     go true false s x z = refl
     go true true false x z = refl
@@ -123,7 +131,8 @@ module _ (b : List ℕ) where
                 eq-eqb (quad b 6) 0 x,
               ) refl
 
-          pub head-size : (quad b 6 ≡ 0 → ⊥) → (length b ≡ lengthWith (at b sitesPlace) (at b countPlace) → ⊥) → 5 ≡ headThen b 0
+          pub head-size : (quad b 6 ≡ 0 → ⊥) → (length b ≡ lengthWith (at b sitesPlace) (at b countPlace) → ⊥)
+              → 5 ≡ headThen b 0
           unfolding headThen runOf
           head-size x z =
               rw (
@@ -167,6 +176,7 @@ stored-passes r h =
       body = n .1;
     }
 
-pub stored-by : (r : Run) → sizesOk (r .network) ≡ true → (r .seed ≡ 0 → ⊥) → r .count ≤ sendsMost → bodyRefusal r ≡ 0 → storedRefusal r ≡ 0
+pub stored-by : (r : Run) → sizesOk (r .network) ≡ true → (r .seed ≡ 0 → ⊥) → r .count ≤ sendsMost
+    → bodyRefusal r ≡ 0 → storedRefusal r ≡ 0
 unfolding storedRefusal bodyRefusal
 stored-by r s x n b = rw (s, ne-eqb (r .seed) 0 x, le-leb (r .count) sendsMost n) b

@@ -2,12 +2,12 @@
 -- writer's loops. Assumes nothing.
 use mathlib.Core.Path.{_≡_, refl, sym, ap, ap₂, _∙_}
 use mathlib.Core.List.{List, [], _∷_, _++_, append-assoc, append-nil}
-use Prim.Native.Nat.{ℕ, zero, suc, _+_, _*_, _≤_, _<_}
+use Prim.Native.Nat.{ℕ, suc, _+_, _*_, _≤_}
 use native.Mathlib.Nat.{add-zero}
 use native.Mathlib.Numerals.{add-one}
 use native.Mathlib.Omega.{arith}
-use lib.ListN.{length, getD, set, take, drop, length-append, length-drop, take-append-drop}
-use lib.Seq.{sets, sets-eq, length-sets, length-take-le, take-at, drop-at, drop-append-add, drop-drop}
+use lib.ListN.{length, getD, set, take, drop, length-append, take-append-drop}
+use lib.Seq.{sets, sets-eq, length-sets, length-take-le, take-at, drop-append-add, drop-drop}
 use Rattle.base.specs.Sizes.{portCount}
 use Rattle.model.specs.declared.StoredSend.{StoredSend}
 use Rattle.model.specs.declared.Run.{Run}
@@ -61,7 +61,8 @@ put-append out a p q xs ys e f h =
     ∙ drop-append-add x d (length ys)
     ∙ drop-drop (length ys) (p + length xs) out
     ∙ ap (λ (k : ℕ). drop k out) n in
-    rw e (ap₂ (λ (l m : List ℕ). l ++ ys ++ m) t u ∙ ap (λ (l : List ℕ). l ++ drop (p + length (xs ++ ys)) out) (append-assoc (take p out) xs ys))
+    rw e (ap₂ (λ (l m : List ℕ). l ++ ys ++ m) t u ∙ ap (λ (l : List ℕ). l ++ drop (p + length (xs ++ ys)) out)
+    (append-assoc (take p out) xs ys))
 
 -- ---- a turn of a loop that puts pieces of one width
 
@@ -71,22 +72,26 @@ module _ (w : ℕ) (f : ℕ → List ℕ) (wide : (k : ℕ) → length (f k) ≡
   unfolding each
   put-turn out a b p k q e g h l =
       let n = length-each w f wide k in
-      g ∙ put-append out a p q (each f k) (f k) e (omega arith) (omega (arith, wide k)) ∙ ap (put out p) (ap (each f) (sym (add-one k)))
+      g ∙ put-append out a p q (each f k) (f k) e (omega arith) (omega (arith, wide k))
+      ∙ ap (put out p) (ap (each f) (sym (add-one k)))
 
-pub channels-turn : (cs out a : List ℕ) (k : ℕ) → a ≡ put out headLength (channelBytes cs k) → headLength + k + 1 ≤ length out
+pub channels-turn : (cs out a : List ℕ) (k : ℕ) → a ≡ put out headLength (channelBytes cs k)
+    → headLength + k + 1 ≤ length out
     → length a ≡ length out → set a (headLength + k) (at cs k) ≡ put out headLength (channelBytes cs (k + 1))
 unfolding channelBytes
 channels-turn cs out a k e l n =
     put-turn 1 (λ c. at cs c ∷ []) (λ c. refl) out a (set a (headLength + k) (at cs k)) headLength k (headLength + k) e
     (put-sets a (headLength + k) (at cs k ∷ []) (omega arith)) (omega arith) l
 
-pub routes-turn : (rs out a b : List ℕ) (p k : ℕ) → a ≡ put out p (routeBytes rs k) → b ≡ put a (p + 2 * k) (wordBytes (at rs k))
+pub routes-turn : (rs out a b : List ℕ) (p k : ℕ) → a ≡ put out p (routeBytes rs k)
+    → b ≡ put a (p + 2 * k) (wordBytes (at rs k))
     → p + 2 * k + 2 ≤ length out → b ≡ put out p (routeBytes rs (k + 1))
 unfolding routeBytes
 routes-turn rs out a b p k e g l = put-turn 2 (λ k. wordBytes (at rs k)) (λ k. refl) out a b p k (p + 2 * k) e g refl l
 
 pub sends-turn : (es : List StoredSend) (out a b : List ℕ) (p k : ℕ) → a ≡ put out p (sendsBytes es k)
-    → b ≡ put a (p + 5 * k) (sendBytes (getD es k sendD)) → p + 5 * k + 5 ≤ length out → b ≡ put out p (sendsBytes es (k + 1))
+    → b ≡ put a (p + 5 * k) (sendBytes (getD es k sendD)) → p + 5 * k + 5 ≤ length out
+    → b ≡ put out p (sendsBytes es (k + 1))
 unfolding sendsBytes
 sends-turn es out a b p k e g l =
     put-turn 5 (λ k. sendBytes (getD es k sendD)) (λ k. refl) out a b p k (p + 5 * k) e g refl l
@@ -107,15 +112,18 @@ sends-none es out p = sym (put-none out p)
 -- ---- the four parts of an archive
 
 head-of : (r : Run) (out a : List ℕ) (n : ℕ) → n ≡ lengthOf r
-    → a ≡ put out 0 (headWith n (r .network .sites) (r .network .tries) (r .network .depth) (r .seed) (r .draws) (r .count))
+    → a ≡ put out 0 (headWith n (r .network .sites) (r .network .tries) (r .network .depth) (r .seed) (r .draws)
+    (r .count))
     → a ≡ put out 0 (headBytes r)
 unfolding headBytes
 head-of r out a n e f = rw e at f
 
 pub put-parts : (r : Run) (out a b c d : List ℕ) (n : ℕ) → lengthOf r ≤ length out → n ≡ lengthOf r
-    → a ≡ put out 0 (headWith n (r .network .sites) (r .network .tries) (r .network .depth) (r .seed) (r .draws) (r .count))
+    → a ≡ put out 0 (headWith n (r .network .sites) (r .network .tries) (r .network .depth) (r .seed) (r .draws)
+    (r .count))
     → b ≡ put a headLength (channelBytes (r .network .channels) (portCount * r .network .sites))
-    → c ≡ put b (routesPlace (r .network .sites)) (routeBytes (r .network .routes) (r .network .sites * r .network .sites))
+    → c ≡ put b (routesPlace (r .network .sites)) (routeBytes (r .network .routes)
+    (r .network .sites * r .network .sites))
     → d ≡ put c (sendsPlace (r .network .sites)) (sendsBytes (r .sends) (r .count)) → d ≡ put out 0 (encode r)
 unfolding encode
 put-parts r out a b c d n h en ef eb ec ed =

@@ -1,23 +1,22 @@
 -- "Room beyond S sites or N sends belongs to no network or run: it is not looked at": the tests of a run say the same of
 -- the run with its room at zero. Assumes nothing.
-use mathlib.Core.Path.{_≡_, refl, sym, ap, ap₂, _∙_}
-use mathlib.Core.Bool.{Bool, true, false, cond, not, _&&_, _||_}
+use mathlib.Core.Path.{_≡_, refl, ap, ap₂, _∙_}
+use mathlib.Core.Bool.{Bool, true, false, not, _&&_, _||_}
 use mathlib.Core.List.{List}
-use Prim.Native.Nat.{ℕ, zero, suc, _+_, _-_, _*_, _≤_, _<_}
+use Prim.Native.Nat.{ℕ, _+_, _-_, _*_, _≤_, _<_}
 use native.Mathlib.Nat.{mul-le-mul, le-refl}
 use native.Mathlib.Omega.{arith}
 use borrow.Author.Tests.{leb-true, eqb-false}
 use lib.Dec.{eqb, ltb, leb}
-use lib.ListN.{getD, length, length-replicate}
+use lib.ListN.{getD}
 use Rattle.base.specs.Sizes.{sitesMost, portCount, sendsMost, noChannel}
 use Rattle.base.specs.All.{all, all-same}
 use Rattle.base.specs.Over.{over, over-below}
-use Rattle.sets.specs.Sets.{targets}
 use Rattle.model.specs.declared.Network.{Network}
 use Rattle.model.specs.declared.StoredSend.{StoredSend}
 use Rattle.model.specs.declared.Run.{Run}
 use Rattle.model.specs.Types.{sendD, sendAt}
-use Rattle.model.specs.Network.{channelByte, channel, joined, routeOf, listOf, channelOk, channelsOk, portOk, listOk, routeOk, routesOk, choice, choices}
+use Rattle.model.specs.Network.{channelByte, joined, routeOf, listOf, channelOk, channelsOk, portOk, listOk, routeOk, routesOk, choice, choices}
 use Rattle.model.specs.Runs.{sendOk, sendsOk}
 use Rattle.checks.proofs.NetworkLaws.{place-below}
 use Rattle.archive.specs.Format.{at, noChannels, noRoutes, noSends, trimmedNetwork, trimmed}
@@ -42,7 +41,8 @@ module _ (n : Network) (cs rs : List ℕ) (hc : (i : ℕ) → i < portCount * n 
   port-same : (s p : ℕ) → s < n .sites → portOk other s p ≡ portOk n s p
   port-same s p h = go (eqb p 0) (leb p portCount) refl refl
     where
-      go : (z l : Bool) → eqb p 0 ≡ z → leb p portCount ≡ l → z || l && joined other s (p - 1) ≡ z || l && joined n s (p - 1)
+      go : (z l : Bool) → eqb p 0 ≡ z → leb p portCount ≡ l → z || l && joined other s (p - 1) ≡ z || l && joined n s
+          (p - 1)
       go true l e f = refl
       go false false e f = refl
       go false true e f =
@@ -53,14 +53,16 @@ module _ (n : Network) (cs rs : List ℕ) (hc : (i : ℕ) → i < portCount * n 
 
   list-same : (s : ℕ) (l : List ℕ) → s < n .sites → listOk other s l ≡ listOk n s l
   list-same s l h =
-      let a = all-same (λ k. portOk other s (choice l k)) (λ k. portOk n s (choice l k)) portCount (λ k q. port-same s (choice l k) h) in
+      let a = all-same (λ k. portOk other s (choice l k)) (λ k. portOk n s (choice l k)) portCount
+      (λ k q. port-same s (choice l k) h) in
       rw a refl
 
   module _ (hr : (k : ℕ) → k < n .sites * n .sites → at rs k ≡ at (n .routes) k) where
     route-same : (s t : ℕ) → s < n .sites → t < n .sites → routeOk other s t ≡ routeOk n s t
     route-same s t hs ht =
         ap (λ (y : Bool). eqb s t && eqb (routeOf other s t) 0 || not (eqb s t) && y) (list-same s (listOf other s t) hs)
-        ∙ ap (λ (x : ℕ). eqb s t && eqb x 0 || not (eqb s t) && listOk n s (choices x)) (hr (s * n .sites + t) (place-below s t (n .sites) (n .sites) hs ht (le-refl (n .sites))))
+        ∙ ap (λ (x : ℕ). eqb s t && eqb x 0 || not (eqb s t) && listOk n s (choices x))
+        (hr (s * n .sites + t) (place-below s t (n .sites) (n .sites) hs ht (le-refl (n .sites))))
 
     routes-same : routesOk other ≡ routesOk n
     routes-same =
@@ -69,7 +71,8 @@ module _ (n : Network) (cs rs : List ℕ) (hc : (i : ℕ) → i < portCount * n 
 
 -- ---- a run with another network of as many sites, and with sends that agree within N
 
-module _ (r : Run) (m : Network) (es : List StoredSend) (hm : m .sites ≡ r .network .sites) (he : (k : ℕ) → k < r .count → getD es k sendD ≡ sendAt r k) where
+module _ (r : Run) (m : Network) (es : List StoredSend) (hm : m .sites ≡ r .network .sites)
+    (he : (k : ℕ) → k < r .count → getD es k sendD ≡ sendAt r k) where
   abbrev run : Run
   run = record { network = m; seed = r .seed; draws = r .draws; count = r .count; sends = es }
 
@@ -81,7 +84,8 @@ module _ (r : Run) (m : Network) (es : List StoredSend) (hm : m .sites ≡ r .ne
 
 -- ---- room at zero
 
-pub trimmed-body : (r : Run) → r .network .sites ≤ sitesMost → r .count ≤ sendsMost → bodyRefusal (trimmed r) ≡ bodyRefusal r
+pub trimmed-body : (r : Run) → r .network .sites ≤ sitesMost → r .count ≤ sendsMost
+    → bodyRefusal (trimmed r) ≡ bodyRefusal r
 unfolding bodyRefusal trimmed trimmedNetwork
 trimmed-body r few count =
     let n = r .network in
@@ -94,4 +98,9 @@ trimmed-body r few count =
     = λ k l. over-below (at (n .routes)) (n .sites * n .sites) noRoutes k 0 l (omega arith) in
     let he : (k : ℕ) → k < r .count → getD (over (sendAt r) (r .count) noSends) k sendD ≡ sendAt r k
     = λ k l. over-below (sendAt r) (r .count) noSends k sendD l (omega arith) in
-    rw (channels-same n cs rs hc, routes-same n cs rs hc hr, sends-same r (trimmedNetwork n) (over (sendAt r) (r .count) noSends) refl he) refl
+    rw (
+      channels-same n cs rs hc,
+      routes-same n cs rs hc hr,
+      sends-same r (trimmedNetwork n)
+          (over (sendAt r) (r .count) noSends) refl he,
+    ) refl

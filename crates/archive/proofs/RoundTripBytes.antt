@@ -2,16 +2,16 @@
 use mathlib.Core.Path.{_≡_, refl, sym, ap, _∙_}
 use mathlib.Core.Logic.{_⊎_, ⊎-elim, inl, inr}
 use mathlib.Core.Bool.{Bool, true, false}
-use mathlib.Core.List.{List, [], _∷_}
+use mathlib.Core.List.{List}
 use Prim.Native.Nat.{ℕ, zero, suc, _+_, _-_, _*_, _/_, _%_, _≤_, _<_}
 use native.Mathlib.Omega.{arith}
 use borrow.Author.Tests.{ltb-true, ltb-false}
 use lib.Dec.{ltb}
-use lib.ListN.{length, getD, replicate, length-replicate}
+use lib.ListN.{length}
 use lib.Seq.{ext-getD}
 use Rattle.base.specs.Sizes.{portCount}
-use Rattle.base.specs.Over.{over, over-below}
-use Rattle.model.specs.Types.{sendD, sendAt}
+use Rattle.base.specs.Over.{over-below}
+use Rattle.model.specs.Types.{sendD}
 use Rattle.archive.specs.Format.{at, word, wordBytes, sendBytes, sendOf, headBytes, encode, lengthOf, sitesPlace, countPlace, headLength, routesPlace, sendsPlace, noChannels, noRoutes, noSends, networkOf, runOf}
 use Rattle.archive.specs.Code.{Head}
 use Rattle.archive.specs.Refusals.{bodyRefusal, readRefusal}
@@ -71,17 +71,20 @@ module _ (b : List ℕ) (w : Bytes b) (h : Head b) where
   unfolding runOf networkOf
   channel i p q =
       in-channels (runOf b) i (i - 13) (omega arith) (omega arith)
-      ∙ over-below (λ c. at b (headLength + c)) (portCount * at b sitesPlace) noChannels (i - 13) 0 (omega arith) (omega arith)
+      ∙ over-below (λ c. at b (headLength + c)) (portCount * at b sitesPlace) noChannels (i - 13) 0 (omega arith)
+      (omega arith)
       ∙ ap (at b) (omega arith)
 
-  route : (i : ℕ) → routesPlace (at b sitesPlace) ≤ i → i < sendsPlace (at b sitesPlace) → at (encode (runOf b)) i ≡ at b i
+  route : (i : ℕ) → routesPlace (at b sitesPlace) ≤ i → i < sendsPlace (at b sitesPlace)
+      → at (encode (runOf b)) i ≡ at b i
   unfolding runOf networkOf
   route i p q =
       let k = (i - routesPlace (at b sitesPlace)) / 2 in
       let j = (i - routesPlace (at b sitesPlace)) % 2 in
       in-routes (runOf b) i k j (omega arith) (omega arith) (omega arith)
       ∙ ap (λ (x : ℕ). at (wordBytes x) j)
-      (over-below (λ k. word b (routesPlace (at b sitesPlace) + 2 * k)) (at b sitesPlace * at b sitesPlace) noRoutes k 0 (omega arith) (omega arith))
+      (over-below (λ k. word b (routesPlace (at b sitesPlace) + 2 * k)) (at b sitesPlace * at b sitesPlace) noRoutes
+      k 0 (omega arith) (omega arith))
       ∙ worded b w (routesPlace (at b sitesPlace) + 2 * k) j (omega arith)
       ∙ ap (at b) (omega arith)
 
@@ -93,7 +96,8 @@ module _ (b : List ℕ) (w : Bytes b) (h : Head b) where
       let j = (i - sendsPlace (at b sitesPlace)) % 5 in
       in-sends (runOf b) i k j (omega arith) (omega arith) (omega arith)
       ∙ ap (λ x. at (sendBytes x) j)
-      (over-below (λ k. sendOf b (sendsPlace (at b sitesPlace) + 5 * k)) (at b countPlace) noSends k sendD (omega arith) (omega (arith, w 12)))
+      (over-below (λ k. sendOf b (sendsPlace (at b sitesPlace) + 5 * k)) (at b countPlace) noSends k sendD
+      (omega arith) (omega (arith, w 12)))
       ∙ sent b w (sendsPlace (at b sitesPlace) + 5 * k) j (omega arith)
       ∙ ap (at b) (omega arith)
 

@@ -1,30 +1,29 @@
--- read-write: reading a written archive gives back the run, with its room beyond S sites and N sends at zero; and exactly:
--- the reader accepts exactly the archives that some valid run is written as. Assumed of a run: its numbers fit their types.
+-- read-write: reading a written archive gives back the run, with its room beyond S sites and N sends at zero; and
+-- exactly: the reader accepts exactly the archives that some valid run is written as. Assumed of a run: its numbers
+-- fit their types.
 use mathlib.Core.Path.{_≡_, refl, sym, ap, ap₂, _∙_, subst}
-use mathlib.Core.Bool.{Bool, true, false, cond, not, _&&_}
+use mathlib.Core.Bool.{not, _&&_}
 use mathlib.Core.List.{List, [], _∷_}
-use Prim.Native.Nat.{ℕ, zero, suc, _+_, _-_, _*_, _/_, _%_, _^_, _≤_, _<_}
+use Prim.Native.Nat.{ℕ, zero, suc, _+_, _*_, _^_, _≤_, _<_}
 use native.Mathlib.Nat.{lt-of-lt-of-le}
 use native.Mathlib.Omega.{arith}
-use borrow.Author.Tests.{ltb-true, eq-eqb}
+use borrow.Author.Tests.{ltb-true}
 use lib.Dec.{eqb, ltb, leb}
 use lib.Pow.{pow-mono}
-use lib.ListN.{length, getD, replicate}
-use Rattle.base.specs.Sizes.{sitesMost, portCount, sendsMost}
+use lib.ListN.{length, getD}
+use Rattle.base.specs.Sizes.{portCount}
 use Rattle.base.specs.Bools.{both}
-use Rattle.base.specs.All.{all, all-at}
-use Rattle.base.specs.Over.{over, over-same, over-below, over-above}
+use Rattle.base.specs.All.{all-at}
+use Rattle.base.specs.Over.{over, over-same}
 use Rattle.base.specs.Lists.{same-at}
 use Rattle.sets.specs.Sets.{targets}
-use Rattle.model.specs.declared.Network.{Network}
 use Rattle.model.specs.declared.StoredSend.{StoredSend}
 use Rattle.model.specs.declared.Run.{Run}
 use Rattle.model.specs.Types.{sendD, sendAt}
 use Rattle.model.specs.Network.{sizesOk}
-use Rattle.model.specs.Runs.{sendOk, sendsOk, storedRefusal}
-use Rattle.archive.specs.Format.{at, word, quad, sendBytes, sendOf, headBytes, encode, lengthOf, versionPlace, sitesPlace, countPlace, headLength, version, routesPlace, sendsPlace, lengthWith, channelsOf, routesOf, sendsOf, noChannels, noRoutes, noSends, networkOf, runOf, trimmedNetwork, trimmed}
-use Rattle.archive.specs.Refusals.{bodyRefusal, headThen, readRefusal, decode}
-use Rattle.archive.specs.declared.Decoded.{Decoded}
+use Rattle.model.specs.Runs.{sendOk, storedRefusal}
+use Rattle.archive.specs.Format.{at, word, quad, sendOf, headBytes, encode, lengthOf, versionPlace, sitesPlace, countPlace, headLength, version, routesPlace, sendsPlace, lengthWith, channelsOf, routesOf, sendsOf, noChannels, noRoutes, noSends, networkOf, runOf, trimmedNetwork, trimmed}
+use Rattle.archive.specs.Refusals.{bodyRefusal, readRefusal, decode}
 use Rattle.archive.proofs.Numbers.{two, four}
 use Rattle.archive.proofs.Parts.{length-encode, in-head, in-channels, in-routes, in-sends}
 use Rattle.archive.proofs.Passed.{head-passes, head-by, body-passes, Stored, stored-passes, stored-by}
@@ -51,7 +50,8 @@ send-is e a b c p q t = simp (p, q, t)
 set-fits : (r : Run) → Stored r → (k : ℕ) → k < r .count → sendAt r k .set < 65536
 set-fits r z k l =
     let o = all-at (sendOk r) k (r .count) l (body-passes r (z .body) .2) in
-    let a = both (ltb (sendAt r k .site) (r .network .sites) && targets (r .network .sites) (sendAt r k .set) && leb (sendAt r k .draw) (r .draws)) _ o in
+    let a = both (ltb (sendAt r k .site) (r .network .sites) && targets (r .network .sites) (sendAt r k .set) && leb
+    (sendAt r k .draw) (r .draws)) _ o in
     let b = both (ltb (sendAt r k .site) (r .network .sites) && targets (r .network .sites) (sendAt r k .set)) _ (a .0) in
     let c = both (ltb (sendAt r k .site) (r .network .sites)) (targets (r .network .sites) (sendAt r k .set)) (b .0) in
     let d = both (not (eqb (sendAt r k .set) 0)) (ltb (sendAt r k .set) (2 ^ r .network .sites)) (c .1) in
@@ -91,7 +91,13 @@ module _ (r : Run) (z : Stored r) (h : Fits r) where
 
   seed : quad (encode r) 6 ≡ r .seed
   unfolding headBytes
-  seed = rw (in-head r 6 (omega arith), in-head r 7 (omega arith), in-head r 8 (omega arith), in-head r 9 (omega arith)) (four (r .seed) (h .seed))
+  seed = rw (
+    in-head r 6 (omega arith),
+    in-head r 7 (omega arith),
+    in-head r 8 (omega arith),
+    in-head r 9
+        (omega arith),
+  ) (four (r .seed) (h .seed))
 
   draws : word (encode r) 10 ≡ r .draws
   unfolding headBytes
@@ -104,7 +110,8 @@ module _ (r : Run) (z : Stored r) (h : Fits r) where
   routes =
       over-same (λ k. word (encode r) (routesPlace S + 2 * k)) (at (r .network .routes)) (S * S) noRoutes
       (λ k l.
-      ap₂ (λ (x y : ℕ). x * 256 + y) (in-routes r _ k 0 (omega arith) l (omega arith)) (in-routes r _ k 1 (omega arith) l (omega arith))
+      ap₂ (λ (x y : ℕ). x * 256 + y) (in-routes r _ k 0 (omega arith) l (omega arith))
+      (in-routes r _ k 1 (omega arith) l (omega arith))
       ∙ two (at (r .network .routes) k) (h .routes k))
 
   sends : sendsOf (encode r) (sendsPlace S) (r .count) ≡ over (sendAt r) (r .count) noSends
@@ -112,9 +119,11 @@ module _ (r : Run) (z : Stored r) (h : Fits r) where
       over-same (λ k. sendOf (encode r) (sendsPlace S + 5 * k)) (sendAt r) (r .count) noSends
       (λ k l.
       send-is (sendAt r k) _ _ _
-      (ap₂ (λ (x y : ℕ). x * 256 + y) (in-sends r _ k 3 (omega arith) l (omega arith)) (in-sends r _ k 4 (omega arith) l (omega arith))
+      (ap₂ (λ (x y : ℕ). x * 256 + y) (in-sends r _ k 3 (omega arith) l (omega arith))
+      (in-sends r _ k 4 (omega arith) l (omega arith))
       ∙ two (sendAt r k .set) (set-fits r z k l))
-      (ap₂ (λ (x y : ℕ). x * 256 + y) (in-sends r _ k 0 (omega arith) l (omega arith)) (in-sends r _ k 1 (omega arith) l (omega arith))
+      (ap₂ (λ (x y : ℕ). x * 256 + y) (in-sends r _ k 0 (omega arith) l (omega arith))
+      (in-sends r _ k 1 (omega arith) l (omega arith))
       ∙ two (sendAt r k .draw) (h .marks k))
       (in-sends r _ k 2 (omega arith) l (omega arith)))
 
@@ -130,7 +139,8 @@ module _ (r : Run) (z : Stored r) (h : Fits r) where
   unfolding readRefusal trimmedNetwork
   accepted =
       let e = length-encode r in
-      let n : length (encode r) ≡ lengthWith (at (encode r) sitesPlace) (at (encode r) countPlace) = rw (sites, count) e in
+      let n : length (encode r) ≡ lengthWith (at (encode r) sitesPlace) (at (encode r) countPlace) = rw
+      (sites, count) e in
       head-by (encode r) (bodyRefusal (runOf (encode r))) (omega arith) (field ∙ sym e) first
       (ap sizesOk network ∙ z .sizes) (λ q. z .seed (sym seed ∙ q)) n
       ∙ ap bodyRefusal again
@@ -163,15 +173,19 @@ module _ (b : List ℕ) (w : Bytes b) where
   read-fits =
       record {
         tries = w 4;
-        channels = filled (λ (x : ℕ). x < 256) _ (portCount * at b 3) noChannels 0 (λ i. w (headLength + i)) (λ i. omega (arith, same-at {A = ℕ} 64 i 0));
-        routes = filled (λ (x : ℕ). x < 65536) _ (at b 3 * at b 3) noRoutes 0 (λ k. word-fits (routesPlace (at b 3) + 2 * k)) (λ i. omega (arith, same-at {A = ℕ} 256 i 0));
+        channels = filled (λ (x : ℕ). x < 256) _ (portCount * at b 3) noChannels 0 (λ i. w (headLength + i))
+            (λ i. omega (arith, same-at {A = ℕ} 64 i 0));
+        routes = filled (λ (x : ℕ). x < 65536) _ (at b 3 * at b 3) noRoutes 0
+            (λ k. word-fits (routesPlace (at b 3) + 2 * k)) (λ i. omega (arith, same-at {A = ℕ} 256 i 0));
         seed = omega (arith, word-fits 6, word-fits 8);
         draws = word-fits 10;
         marks =
-            filled (λ (e : StoredSend). e .draw < 65536) _ (at b 12) noSends sendD (λ k. word-fits (sendsPlace (at b 3) + 5 * k))
+            filled (λ (e : StoredSend). e .draw < 65536) _ (at b 12) noSends sendD
+            (λ k. word-fits (sendsPlace (at b 3) + 5 * k))
             (λ i. subst (λ (e : StoredSend). e .draw < 65536) (sym (same-at 255 i sendD)) (omega arith));
         sites =
-            filled (λ (e : StoredSend). e .site < 256) _ (at b 12) noSends sendD (λ k. w (sendsPlace (at b 3) + 5 * k + 2))
+            filled (λ (e : StoredSend). e .site < 256) _ (at b 12) noSends sendD
+            (λ k. w (sendsPlace (at b 3) + 5 * k + 2))
             (λ i. subst (λ (e : StoredSend). e .site < 256) (sym (same-at 255 i sendD)) (omega arith));
       }
 

@@ -1,41 +1,70 @@
 -- The test of a send after the last one's draw number is the model's test of it. Assumes nothing.
-use mathlib.Core.Path.{_≡_, refl, sym, ap, _∙_}
+use mathlib.Core.Path.{_≡_, refl, sym, ap, ap₂, _∙_}
 use mathlib.Core.Bool.{Bool, true, false, cond, _&&_, _||_}
 use mathlib.Core.List.{List}
-use Prim.Native.Nat.{ℕ, _+_, _-_, _≤_}
+use Prim.Native.Nat.{ℕ, _+_, _-_, _≤_, _<_}
 use native.Mathlib.Omega.{arith}
 use borrow.Author.Tests.{ne-eqb, le-leb}
 use lib.Dec.{eqb, ltb, leb}
-use lib.ListN.{getD}
+use Rattle.base.specs.Sizes.{sendsMost}
 use Rattle.base.specs.All.{all, all-same}
+use Rattle.base.specs.Over.{over-below}
 use Rattle.sets.specs.Sets.{targets}
 use Rattle.model.specs.declared.StoredSend.{StoredSend}
 use Rattle.model.specs.declared.Run.{Run}
 use Rattle.model.specs.Types.{sendD, sendAt}
 use Rattle.model.specs.Runs.{sendOk, sendsOk}
-use Rattle.archive.specs.Code.{drawBefore, sendAfter}
+use Rattle.archive.specs.Format.{at, word, sitesPlace, drawsPlace, countPlace, sendsPlace, noSends, networkOf, runOf}
+use Rattle.archive.specs.Code.{drawBefore, sendAfter, sendIn, sendsFrom}
 
--- send k of the list, after the one before it
-abbrev pub sendIn : ℕ → ℕ → List StoredSend → ℕ → Bool
-sendIn S draws es k = sendAfter S draws (drawBefore es k) (getD es k sendD)
-
-pub draw-next : (es : List StoredSend) (k : ℕ) → getD es k sendD .draw ≡ drawBefore es (k + 1)
-draw-next es k =
+pub draw-next : (f : ℕ → StoredSend) (k : ℕ) → f k .draw ≡ drawBefore f (k + 1)
+draw-next f k =
     let e : k + 1 - 1 ≡ k = omega arith in
     sym (rw (ne-eqb (k + 1) 0 (λ q. omega arith), e) refl)
 
-not-falling : (es : List StoredSend) (k d : ℕ) → leb (drawBefore es k) d ≡ eqb k 0 || leb (getD es (k - 1) sendD .draw) d
-not-falling es k d = go (eqb k 0)
+not-falling : (f : ℕ → StoredSend) (k d : ℕ) → leb (drawBefore f k) d ≡ eqb k 0 || leb (f (k - 1) .draw) d
+not-falling f k d = go (eqb k 0)
   where
-    go : (b : Bool) → leb (cond b 0 (getD es (k - 1) sendD .draw)) d ≡ b || leb (getD es (k - 1) sendD .draw) d
+    go : (b : Bool) → leb (cond b 0 (f (k - 1) .draw)) d ≡ b || leb (f (k - 1) .draw) d
     go true = le-leb 0 d (omega arith)
     go false = refl
 
-send-in : (r : Run) (k : ℕ) → sendIn (r .network .sites) (r .draws) (r .sends) k ≡ sendOk r k
+send-in : (r : Run) (k : ℕ) → sendIn (r .network .sites) (r .draws) (sendAt r) k ≡ sendOk r k
 send-in r k =
     ap
-    (λ (b : Bool). ltb (sendAt r k .site) (r .network .sites) && targets (r .network .sites) (sendAt r k .set) && leb (sendAt r k .draw) (r .draws) && b)
-    (not-falling (r .sends) k (sendAt r k .draw))
+    (λ (b : Bool).
+    ltb (sendAt r k .site) (r .network .sites)
+    && targets (r .network .sites) (sendAt r k .set)
+    && leb (sendAt r k .draw) (r .draws)
+    && b)
+    (not-falling (sendAt r) k (sendAt r k .draw))
 
-pub sends-in : (r : Run) → all (sendIn (r .network .sites) (r .draws) (r .sends)) (r .count) ≡ sendsOk r
-sends-in r = all-same (sendIn (r .network .sites) (r .draws) (r .sends)) (sendOk r) (r .count) (λ k h. send-in r k)
+-- the sends of a run
+pub sends-in : (r : Run) → all (sendIn (r .network .sites) (r .draws) (sendAt r)) (r .count) ≡ sendsOk r
+sends-in r = all-same (sendIn (r .network .sites) (r .draws) (sendAt r)) (sendOk r) (r .count) (λ k h. send-in r k)
+
+-- two ways to the same sends
+in-same : (S draws : ℕ) (f g : ℕ → StoredSend) (n : ℕ) → ((k : ℕ) → k < n → f k ≡ g k)
+    → all (sendIn S draws f) n ≡ all (sendIn S draws g) n
+in-same S draws f g n h =
+    all-same (sendIn S draws f) (sendIn S draws g) n
+    (λ k l.
+    ap₂ (λ (e last : StoredSend). sendAfter S draws (cond (eqb k 0) 0 (last .draw)) e) (h k l) (h (k - 1) (omega arith)))
+
+-- the sends of an archive, before they are read into a run
+pub sends-from : (b : List ℕ) → at b countPlace ≤ sendsMost
+    → all (sendIn (at b sitesPlace) (word b drawsPlace) (sendsFrom b (sendsPlace (at b sitesPlace)))) (at b countPlace)
+    ≡ sendsOk (runOf b)
+unfolding runOf networkOf
+sends-from b h =
+    in-same (at b sitesPlace) (word b drawsPlace) (sendsFrom b (sendsPlace (at b sitesPlace))) (sendAt (runOf b))
+    (at b countPlace)
+    (λ k l.
+    sym (over-below (sendsFrom b (sendsPlace (at b sitesPlace))) (at b countPlace) noSends k sendD l (omega arith)))
+    ∙ sends-in (runOf b)
+
+-- with the head's numbers as the code reads them
+pub sends-read : (b : List ℕ) (S n draws : ℕ) → S ≡ at b sitesPlace → n ≡ at b countPlace
+    → draws ≡ word b drawsPlace → n ≤ sendsMost
+    → all (sendIn S draws (sendsFrom b (sendsPlace S))) n ≡ sendsOk (runOf b)
+sends-read b S n draws eS en ed h = rw (eS, ed, en) (sends-from b (omega arith))

@@ -3,16 +3,15 @@
 use mathlib.Core.Path.{_≡_}
 use mathlib.Core.Bool.{Bool, true, cond, _&&_}
 use mathlib.Core.List.{List}
-use Prim.Native.Nat.{ℕ, _-_, _*_, _≤_}
+use Prim.Native.Nat.{ℕ, _+_, _-_, _*_, _≤_}
 use lib.Dec.{eqb, ltb, leb}
-use lib.ListN.{length, getD}
+use lib.ListN.{length}
 use Rattle.base.specs.Sizes.{sitesMost, queueRoom, sendsMost}
 use Rattle.sets.specs.Sets.{targets}
 use Rattle.model.specs.declared.StoredSend.{StoredSend}
 use Rattle.model.specs.declared.Run.{Run}
-use Rattle.model.specs.Types.{sendD}
 use Rattle.model.specs.Network.{sizesOk}
-use Rattle.archive.specs.Format.{at, word, quad, versionPlace, sitesPlace, countPlace, headLength, version, lengthWith, networkOf}
+use Rattle.archive.specs.Format.{at, word, quad, versionPlace, sitesPlace, countPlace, headLength, version, lengthWith, sendOf, networkOf}
 
 -- bytes that are not refused 1 to 5
 pub record Head (b : List ℕ) : Type 0 where
@@ -32,10 +31,17 @@ pub record Fit (r : Run) : Type 0 where
   pub deep : r .network .depth ≤ queueRoom
   pub count : r .count ≤ sendsMost
 
--- the draw number of the send before send k, 0 before the first
-abbrev pub drawBefore : List StoredSend → ℕ → ℕ
-drawBefore es k = cond (eqb k 0) 0 (getD es (k - 1) sendD .draw)
+-- sends as a function of their place: the draw number of the one before place k, 0 before the first
+abbrev pub drawBefore : (ℕ → StoredSend) → ℕ → ℕ
+drawBefore f k = cond (eqb k 0) 0 (f (k - 1) .draw)
 
 -- the model's test of a send, after a send with draw number `last`
 abbrev pub sendAfter : ℕ → ℕ → ℕ → StoredSend → Bool
 sendAfter S draws last e = ltb (e .site) S && targets S (e .set) && leb (e .draw) draws && leb last (e .draw)
+
+abbrev pub sendIn : ℕ → ℕ → (ℕ → StoredSend) → ℕ → Bool
+sendIn S draws f k = sendAfter S draws (drawBefore f k) (f k)
+
+-- the sends of an archive, from place p on
+abbrev pub sendsFrom : List ℕ → ℕ → ℕ → StoredSend
+sendsFrom b p k = sendOf b (p + 5 * k)

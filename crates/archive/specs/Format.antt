@@ -9,7 +9,6 @@ use Rattle.model.specs.declared.Network.{Network}
 use Rattle.model.specs.declared.StoredSend.{StoredSend}
 use Rattle.model.specs.declared.Run.{Run}
 use Rattle.model.specs.Types.{sendD, sendAt}
-use Rattle.model.specs.Network.{channelByte}
 
 -- ---- "All numbers big-endian"
 

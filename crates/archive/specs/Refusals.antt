@@ -1,7 +1,7 @@
 -- What reader and writer answer (document 01, "Numbers given back when something is turned down"): the refusal, and what
 -- stands beside it. The network's and the run's own tests are the model's.
-use mathlib.Core.Bool.{Bool, true, false, cond, not, _&&_, _||_}
-use mathlib.Core.List.{List, [], _∷_, _++_}
+use mathlib.Core.Bool.{Bool, cond, _&&_}
+use mathlib.Core.List.{List, _++_}
 use Prim.Native.Nat.{ℕ, _+_}
 use lib.Dec.{eqb, ltb, leb}
 use lib.ListN.{length, take, drop}
@@ -31,8 +31,8 @@ headThen b rest =
     2)
     1
 
--- "6: channel byte neither 255 nor below 4S, or an input fed twice"; "7: a route not as described"; "8: a send's site, set or
--- draw number impossible, or draw numbers falling"
+-- "6: channel byte neither 255 nor below 4S, or an input fed twice"; "7: a route not as described"; "8: a send's
+-- site, set or draw number impossible, or draw numbers falling"
 unfoldable pub bodyRefusal : Run → ℕ
 bodyRefusal r = cond (channelsOk (r .network)) (cond (routesOk (r .network)) (cond (sendsOk r) 0 8) 7) 6
 

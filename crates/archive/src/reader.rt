@@ -1,13 +1,13 @@
-// The reader: the tests of the head, the parts of the run, the tests of the body.
+// The reader: the tests of the head, the network, the tests of the body, then the sends. The sends are tested where they
+// stand, so that no array of them is made for an archive that is turned down.
 ghost use mathlib.Core.Path.{_≡_};
-ghost use mathlib.Core.Bool.{true};
 ghost use Prim.Native.Nat.{_+_, _*_, _≤_, _<_};
 ghost use lib.ListN.{length};
 ghost use Rattle.base.specs.Sizes.{sitesMost, portCount, sendsMost};
-ghost use Rattle.model.specs.Network.{sizesOk};
-ghost use Rattle.archive.specs.Format.{word, quad, headLength, channelsOf, routesOf, sendOf, sendsOf, runOf, noRun};
+ghost use Rattle.base.specs.All.{all};
+ghost use Rattle.archive.specs.Format.{word, quad, headLength, channelsOf, routesOf, sendOf, sendsOf, networkOf, runOf, noRun};
 ghost use Rattle.archive.specs.Refusals.{headThen, bodyRefusal, readRefusal, decode};
-ghost use Rattle.archive.specs.Code.{Head};
+ghost use Rattle.archive.specs.Code.{Head, sendIn, sendsFrom};
 use crate::Decoded;
 use model::Network;
 use model::Run;
@@ -117,27 +117,33 @@ fn read_sends(b: &[u8], p: usize, n: usize) -> [StoredSend; base::SENDS]
     sends
 }
 
-fn read_run(b: &[u8]) -> Run
+fn read_network(b: &[u8]) -> Network
     requires { ⌜ Head (now b) ⌝ }
-    ensures { λ r. ⌜ r ≡ runOf (now (b .entry)) ⌝ }
+    ensures { λ r. ⌜ r ≡ networkOf (now (b .entry)) ⌝ }
 {
     let sites = base::wide(b[3]);
     let tries = b[4];
     let depth = base::wide(b[5]);
-    let count = base::wide(b[12]);
-    let square = sites * sites;
-    let seed = quad_at(b, 6);
-    let draws = word_at(b, 10);
     let channels = read_channels(b, base::PORTS * sites);
-    let routes = read_routes(b, 13 + base::PORTS * sites, square);
-    let sends = read_sends(b, 13 + base::PORTS * sites + 2 * square, count);
-    let network = Network {
+    let routes = read_routes(b, 13 + base::PORTS * sites, sites * sites);
+    Network {
         sites: sites,
         depth: depth,
         tries: tries,
         channels: channels,
         routes: routes,
-    };
+    }
+}
+
+fn read_run(b: &[u8], network: Network) -> Run
+    requires { ⌜ Head (now b) × (network ≡ networkOf (now b)) ⌝ }
+    ensures { λ r. ⌜ r ≡ runOf (now (b .entry)) ⌝ }
+{
+    let sites = base::wide(b[3]);
+    let count = base::wide(b[12]);
+    let seed = quad_at(b, 6);
+    let draws = word_at(b, 10);
+    let sends = read_sends(b, 13 + base::PORTS * sites + 2 * (sites * sites), count);
     Run {
         network: network,
         seed: seed,
@@ -147,17 +153,44 @@ fn read_run(b: &[u8]) -> Run
     }
 }
 
-// 6 to 8, or 0.
-fn body_refusal(run: Run) -> u8
-    requires { ⌜ (sizesOk (run .network) ≡ true) × (run .count ≤ sendsMost) ⌝ }
-    ensures { λ r. ⌜ r ≡ bodyRefusal run ⌝ }
+// The n sends from place p on, before they are read into a run.
+fn sends_fit(b: &[u8], p: usize, n: usize, sites: usize, draws: u16) -> bool
+    requires { ⌜ (n ≤ sendsMost) × (p + 5 * n ≤ length (now b)) ⌝ }
+    ensures { λ r. ⌜ r ≡ all (sendIn sites draws (sendsFrom (now (b .entry)) p)) n ⌝ }
 {
-    let network = run.network;
+    let mut last: u16 = 0;
+    let mut k: usize = 0;
+    while k < n {
+        let send = send_at(b, p + 5 * k);
+        if crate::sends::send_ok(send, sites, draws, last) {
+            last = send.draw;
+            k += 1;
+        } else {
+            return false;
+        }
+    }
+    true
+}
+
+// 6 to 8, or 0, of an archive with this network.
+fn body_refusal(b: &[u8], network: Network) -> u8
+    requires { ⌜ Head (now b) × (network ≡ networkOf (now b)) ⌝ }
+    ensures { λ r. ⌜ r ≡ bodyRefusal (runOf (now (b .entry))) ⌝ }
+{
     let refusal = checks::network_refusal(network);
     if refusal != 0 {
         return refusal;
     }
-    if crate::sends::sends_ok(run) {
+    let sites = base::wide(b[3]);
+    let count = base::wide(b[12]);
+    let draws = word_at(b, 10);
+    if sends_fit(
+        b,
+        13 + base::PORTS * sites + 2 * (sites * sites),
+        count,
+        sites,
+        draws,
+    ) {
         return 0;
     }
     8
@@ -191,7 +224,8 @@ fn refused(refusal: u8) -> Decoded
     }
 }
 
-// The run that the bytes stand for, with room beyond S sites and N sends zero; or the refusal, 1 to 8, and the all-zero run.
+// The run that the bytes stand for, with room beyond S sites and N sends zero; or the refusal, 1 to 8, and the
+// all-zero run.
 pub fn read(bytes: &[u8]) -> Decoded
     ensures { λ r. ⌜ r ≡ decode (now (bytes .entry)) ⌝ }
 {
@@ -199,11 +233,12 @@ pub fn read(bytes: &[u8]) -> Decoded
     if first != 0 {
         return refused(first);
     }
-    let run = read_run(bytes);
-    let second = body_refusal(run);
+    let network = read_network(bytes);
+    let second = body_refusal(bytes, network);
     if second != 0 {
         return refused(second);
     }
+    let run = read_run(bytes, network);
     Decoded {
         refusal: 0,
         run: run,
@@ -218,6 +253,6 @@ pub fn check(bytes: &[u8]) -> u8
     if first != 0 {
         return first;
     }
-    let run = read_run(bytes);
-    body_refusal(run)
+    let network = read_network(bytes);
+    body_refusal(bytes, network)
 }

@@ -1,4 +1,4 @@
-// The test of a run's sends, which reader and writer share.
+// The test of a run's sends.
 ghost use mathlib.Core.Path.{_≡_};
 ghost use Prim.Native.Nat.{_≤_};
 ghost use Rattle.base.specs.Sizes.{sendsMost};
@@ -8,7 +8,7 @@ use model::Run;
 use model::StoredSend;
 
 // The send's site, set and draw number possible, and its draw number not below the last.
-fn send_ok(send: StoredSend, sites: usize, draws: u16, last: u16) -> bool
+pub(crate) fn send_ok(send: StoredSend, sites: usize, draws: u16, last: u16) -> bool
     ensures { λ r. ⌜ r ≡ sendAfter sites draws last send ⌝ }
 {
     let site = base::wide(send.site);

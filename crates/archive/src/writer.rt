@@ -2,7 +2,7 @@
 ghost use mathlib.Core.Path.{_≡_};
 ghost use Prim.Native.Nat.{_+_, _*_, _≤_, _<_};
 ghost use lib.ListN.{length};
-ghost use Rattle.base.specs.Sizes.{sitesMost, portCount, queueRoom, sendsMost};
+ghost use Rattle.base.specs.Sizes.{sitesMost, portCount, sendsMost};
 ghost use Rattle.model.specs.Runs.{storedRefusal};
 ghost use Rattle.archive.specs.Format.{headLength, lengthOf, wordBytes, headWith, channelBytes, routeBytes, sendBytes, sendsBytes, encode};
 ghost use Rattle.archive.specs.Refusals.{put, writeAnswer, written};
@@ -137,8 +137,8 @@ fn put_run(run: Run, out: &mut [u8])
     put_sends(out, sends, 13 + base::PORTS * sites + 2 * square, count);
 }
 
-// Writes the archive of a run at the front of `out`, or nothing where it answers a refusal: 3 to 8, or 14 where the room is
-// below the archive's length.
+// Writes the archive of a run at the front of `out`, or nothing where it answers a refusal: 3 to 8, or 14 where the
+// room is below the archive's length.
 pub fn write(run: Run, out: &mut [u8]) -> Written
     ensures { λ r. ⌜ (r ≡ writeAnswer run (length (now (out .entry)))) × (now (out .exit) ≡ written run (now (out .entry))) ⌝ }
 {

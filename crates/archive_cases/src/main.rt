@@ -1,5 +1,6 @@
 // Reader and writer on the bounds of document 01. Standard input is the largest archive, 16 sites and 255 sends, 1,864
-// bytes; run R stands here. `stdout` is typed from the document: a line for each case, with the refusal number, 0 for none.
+// bytes; run R stands here. `stdout` is typed from the document: a line for each case, with the refusal number, 0 for
+// none.
 use libc::STDOUT_FILENO;
 
 // "Run R", byte by byte.

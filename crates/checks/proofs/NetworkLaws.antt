@@ -1,13 +1,14 @@
--- The test of a route over a table of digits is the model's; the table of the inputs that are fed already. Assumes nothing.
+-- The test of a route over a table of digits is the model's; the table of the inputs that are fed already. Assumes
+-- nothing.
 use mathlib.Core.Path.{_≡_, refl, sym, ap, _∙_}
-use mathlib.Core.Bool.{Bool, true, false, cond, not, _&&_, _||_, and-true}
-use mathlib.Core.List.{List, [], _∷_}
-use Prim.Native.Nat.{ℕ, zero, suc, _+_, _-_, _*_, _/_, _%_, _≤_, _<_}
-use native.Mathlib.Nat.{mul-le-mul, le-refl, suc-mul}
+use mathlib.Core.Bool.{Bool, true, false, not, _&&_, _||_, and-true}
+use mathlib.Core.List.{List}
+use Prim.Native.Nat.{ℕ, zero, suc, _+_, _*_, _≤_, _<_}
+use native.Mathlib.Nat.{mul-le-mul, suc-mul}
 use native.Mathlib.Omega.{arith}
 use borrow.Author.Tests.{eq-eqb, ne-eqb, lt-leb, lt-ltb, le-ltb, eqb-true, eqb-false, leb-true}
 use lib.Dec.{eqb, ltb, leb}
-use lib.ListN.{length, getD, set, replicate, getD-replicate}
+use lib.ListN.{length, getD, set, replicate}
 use lib.Seq.{getD-set-same, getD-set-other}
 use Rattle.base.specs.Sizes.{sitesMost, portCount, queueRoom, noChannel}
 use Rattle.base.specs.Bools.{both}
@@ -111,9 +112,14 @@ module _ (cs : List ℕ) (fed : List Bool) (e c v : ℕ) (ev : v ≡ byteAt cs c
 
   pub too-high : c < e → (byteAt cs c ≡ noChannel → ⊥) → e ≤ v → false ≡ all (channelIn cs e) e
   too-high h q l =
-      sym (all-fails (channelIn cs e) c e h (rw (ne-eqb (byteAt cs c) noChannel q, le-ltb (byteAt cs c) e (omega arith)) refl))
+      sym (all-fails (channelIn cs e) c e h (rw (
+        ne-eqb (byteAt cs c) noChannel q,
+        le-ltb (byteAt cs c) e
+            (omega arith),
+      ) refl))
 
-  module _ (f : Fed cs fed c) (n : length fed ≡ portCount * sitesMost) (h : c < e) (q : byteAt cs c ≡ noChannel → ⊥) (l : v < e) (m : e ≤ portCount * sitesMost) where
+  module _ (f : Fed cs fed c) (n : length fed ≡ portCount * sitesMost) (h : c < e) (q : byteAt cs c ≡ noChannel
+      → ⊥) (l : v < e) (m : e ≤ portCount * sitesMost) where
     said : all (λ d. not (eqb (byteAt cs d) (byteAt cs c))) c ≡ not (getD fed v false)
     said = f (byteAt cs c) (omega arith) ∙ ap (λ (x : ℕ). not (getD fed x false)) (sym ev)
 

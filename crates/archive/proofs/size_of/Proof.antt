@@ -1,5 +1,5 @@
+-- `size_of` meets its contract: the sum fits, since both numbers are below 256. Assumes nothing.
 use Prim.Native.Nat.{ℕ, _≤_, _<_, _*_}
-use mathlib.Core.Path.{_≡_, refl}
 use Prim.Native.Nat.{_≤_, _*_}
 use native.Mathlib.Nat.{mul-le-mul}
 use native.Mathlib.Omega.{arith}

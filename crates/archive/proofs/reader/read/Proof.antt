@@ -1,9 +1,7 @@
-use mathlib.Core.Path.{_≡_, refl, sym, _∙_}
-use native.Mathlib.Omega.{arith}
-use Rattle.archive.specs.Format.{runOf}
+-- `reader::read` meets its contract, one law of Answers for each way. Assumes nothing.
+use mathlib.Core.Path.{sym, _∙_}
 use Rattle.archive.proofs.Passed.{head-passes}
 use Rattle.archive.proofs.Answers.{read-head, read-body, decode-no, decode-yes}
-use native.Mathlib.Omega.{arith}
 use borrow.Author.Needs.{needs}
 use Rattle.archive.proofs.reader.read.Statement.{statement}
 use Rattle.archive.proofs.reader.read.Tie as tie
@@ -11,43 +9,45 @@ use Rattle.archive.proofs.reader.read.Reads as reads
 use Rattle.archive.proofs.reader.read.Lts as lts
 use Rattle.archive.proofs.reader.body_refusal.Reads as body-refusal-reads
 use Rattle.archive.proofs.reader.head_refusal.Reads as head-refusal-reads
+use Rattle.archive.proofs.reader.read_network.Reads as read-network-reads
 use Rattle.archive.proofs.reader.read_run.Reads as read-run-reads
 use Rattle.archive.proofs.reader.refused.Reads as refused-reads
 
--- src/reader.rt:193:9
+-- src/reader.rt:225:9
 head-refusal-requires : tie.Need-head-refusal-requires
 head-refusal-requires c κs = search needs
 
--- src/reader.rt:195:9
+-- src/reader.rt:227:9
 refused-requires : tie.Need-refused-requires
 refused-requires c κs = search needs
 
--- src/reader.rt:195:9
+-- src/reader.rt:227:9
 returns : tie.Need-returns
 returns c = c .refused .ensures ∙ decode-no _ _ (read-head _ _ (c .before .before .head-refusal .ensures) (c .before .if1 .taken)) (c .before .if1 .taken)
 
--- src/reader.rt:197:9
-read-run-requires : tie.Need-read-run-requires
-read-run-requires c κs = head-passes _ 0 (sym (c .before .head-refusal .ensures) ∙ c .if1 .left) .0
+-- src/reader.rt:229:9
+read-network-requires : tie.Need-read-network-requires
+read-network-requires c κs = head-passes _ 0 (sym (c .before .head-refusal .ensures) ∙ c .if1 .left) .0
 
--- src/reader.rt:198:9
+-- src/reader.rt:230:9
 body-refusal-requires : tie.Need-body-refusal-requires
-unfolding runOf
-body-refusal-requires c κs =
-    let h = head-passes _ 0 (sym (c .before .before .head-refusal .ensures) ∙ c .before .if1 .left) .0 in
-    rw (c .read-run .ensures) (h .sizes, omega (arith, c .before .before .before .shared-slice-known .given 12))
+body-refusal-requires c κs = (head-passes _ 0 (sym (c .before .before .head-refusal .ensures) ∙ c .before .if1 .left) .0, c .read-network .ensures)
 
--- src/reader.rt:200:9
+-- src/reader.rt:232:9
 refused-requires-2 : tie.Need-refused-requires-2
 refused-requires-2 c κs = search needs
 
--- src/reader.rt:200:9
+-- src/reader.rt:232:9
 returns-2 : tie.Need-returns-2
-returns-2 c = c .refused2 .ensures ∙ decode-no _ _ (read-body _ _ _ _ (c .before .before .before .before .before .head-refusal .ensures) (c .before .before .before .before .if1 .left) (c .before .before .before .read-run .ensures) (c .before .before .body-refusal .ensures)) (c .before .if2 .taken)
+returns-2 c = c .refused2 .ensures ∙ decode-no _ _ (read-body _ _ _ (c .before .before .before .before .before .head-refusal .ensures) (c .before .before .before .before .if1 .left) (c .before .before .body-refusal .ensures)) (c .before .if2 .taken)
 
--- src/reader.rt:190:1
+-- src/reader.rt:234:9
+read-run-requires : tie.Need-read-run-requires
+read-run-requires c κs = (head-passes _ 0 (sym (c .before .before .before .before .head-refusal .ensures) ∙ c .before .before .before .if1 .left) .0, c .before .before .read-network .ensures)
+
+-- src/reader.rt:222:1
 returns-3 : tie.Need-returns-3
-returns-3 c = decode-yes _ _ _ (read-body _ _ _ _ (c .before .before .before .before .head-refusal .ensures) (c .before .before .before .if1 .left) (c .before .before .read-run .ensures) (c .before .body-refusal .ensures)) (c .if2 .left) (c .before .before .read-run .ensures)
+returns-3 c = decode-yes _ _ _ (read-body _ _ _ (c .before .before .before .before .before .head-refusal .ensures) (c .before .before .before .before .if1 .left) (c .before .before .body-refusal .ensures)) (c .before .if2 .left) (c .read-run .ensures)
 
 pub read-spec : {M : Type 1} → statement M
 read-spec =
@@ -56,8 +56,9 @@ read-spec =
     head-refusal-requires
     refused-requires
     returns
-    read-run-requires
+    read-network-requires
     body-refusal-requires
     refused-requires-2
     returns-2
+    read-run-requires
     returns-3)

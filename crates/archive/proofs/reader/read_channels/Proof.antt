@@ -1,7 +1,7 @@
+-- `reader::read_channels` meets its contract: the array is filled from the front. Assumes nothing.
 use mathlib.Core.Path.{_≡_, refl, sym, _∙_}
-use Prim.Native.Nat.{_≤_, _-_, _+_}
+use Prim.Native.Nat.{_≤_, _-_}
 use native.Mathlib.Omega.{arith}
-use borrow.Author.Needs.{needs}
 use Rattle.base.specs.Over.{over-none, over-step}
 use Rattle.archive.specs.Format.{channelsOf}
 use native.Mathlib.Omega.{arith}

@@ -1,3 +1,4 @@
+-- `reader::send_at` meets its contract: its fields are the definition's. Assumes nothing.
 use mathlib.Core.Path.{refl}
 use borrow.Author.Needs.{needs}
 use Rattle.archive.proofs.reader.send_at.Statement.{statement}

@@ -1,3 +1,4 @@
+-- `sends::send_ok` meets its contract: its tests are the definition's. Assumes nothing.
 use mathlib.Core.Path.{refl}
 use borrow.Author.Needs.{needs}
 use Rattle.archive.proofs.sends.send_ok.Statement.{statement}

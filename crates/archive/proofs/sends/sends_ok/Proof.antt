@@ -1,13 +1,14 @@
+-- `sends::sends_ok` meets its contract: every send is tested after the last one's draw number. Assumes nothing.
 use mathlib.Core.Path.{_≡_, refl, sym, ap, _∙_}
-use mathlib.Core.Bool.{true, false}
-use Prim.Native.Nat.{ℕ, _≤_, _-_, _+_}
+use mathlib.Core.Bool.{true}
+use Prim.Native.Nat.{ℕ, _≤_, _-_}
 use native.Mathlib.Omega.{arith}
 use borrow.Author.Needs.{needs}
 use lib.ListN.{getD}
 use Rattle.base.specs.All.{all, all-none, all-more, all-fails}
 use Rattle.model.specs.Types.{sendD}
-use Rattle.archive.specs.Code.{drawBefore, sendAfter}
-use Rattle.archive.proofs.SendsLaws.{sendIn, draw-next, sends-in}
+use Rattle.archive.specs.Code.{drawBefore, sendAfter, sendIn}
+use Rattle.archive.proofs.SendsLaws.{draw-next, sends-in}
 use native.Mathlib.Omega.{arith}
 use borrow.Author.Needs.{needs}
 use Rattle.archive.proofs.sends.sends_ok.Statement.{statement}
@@ -17,7 +18,7 @@ use Rattle.archive.proofs.sends.sends_ok.Lts as lts
 use Rattle.archive.proofs.sends.send_ok.Reads as send-ok-reads
 
 abbrev Inv-loop : tie.InvT-loop
-Inv-loop sites draws count sends last₀ k₀ last k = (k ≤ count) × (last ≡ drawBefore sends k) × (all (sendIn sites draws sends) k ≡ true)
+Inv-loop sites draws count sends last₀ k₀ last k = (k ≤ count) × (last ≡ drawBefore (λ j. getD sends j sendD) k) × (all (sendIn sites draws (λ j. getD sends j sendD)) k ≡ true)
 
 abbrev μ-loop : tie.MeasureT-loop
 μ-loop sites draws count sends last₀ k₀ last k = count - k
@@ -51,7 +52,7 @@ loop-again : tie.Need-loop-again Inv-loop μ-loop
 loop-again c =
     let r = c .before .before .before .before .before .before .before .args .run in
     let e = c .before .send-ok .ensures ∙ ap (λ (l : ℕ). sendAfter (r .network .sites) (r .draws) l (getD (r .sends) (c .before .before .before .before .loop .k) sendD)) (c .before .before .before .before .loop .inv .1) in
-    (omega arith, draw-next (r .sends) (c .before .before .before .before .loop .k), all-more _ _ (c .before .before .before .before .loop .inv .2) (sym e ∙ c .if1 .taken))
+    (omega arith, draw-next (λ (j : ℕ). getD (r .sends) j sendD) (c .before .before .before .before .loop .k), all-more _ _ (c .before .before .before .before .loop .inv .2) (sym e ∙ c .if1 .taken))
 
 -- src/sends.rt:36:13
 returns : tie.Need-returns Inv-loop μ-loop

@@ -1,3 +1,4 @@
+-- `writer::put_head` meets its contract: thirteen stores. Assumes nothing.
 use native.Mathlib.Omega.{arith}
 use lib.ListN.{length-set}
 use Rattle.archive.specs.Format.{headWith}

@@ -1,4 +1,4 @@
-use native.Mathlib.Omega.{arith}
+-- `writer::put_run` meets its contract: the four parts, one behind the other. Assumes nothing.
 use Rattle.archive.proofs.Put.{put-parts}
 use borrow.Author.Needs.{needs}
 use Rattle.archive.proofs.writer.put_run.Statement.{statement}

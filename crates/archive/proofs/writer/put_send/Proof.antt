@@ -1,3 +1,4 @@
+-- `writer::put_send` meets its contract: five stores. Assumes nothing.
 use native.Mathlib.Omega.{arith}
 use lib.ListN.{length-set}
 use Rattle.archive.proofs.Put.{put-five}

@@ -1,6 +1,6 @@
-use mathlib.Core.Path.{_≡_, refl, sym, _∙_}
+-- `writer::stored_refusal` meets its contract, one law of Answers for each way. Assumes nothing.
+use mathlib.Core.Path.{sym, _∙_}
 use mathlib.Core.Bool.{true, false}
-use native.Mathlib.Omega.{arith}
 use Rattle.archive.proofs.Answers.{stored-sizes, stored-seed, stored-count, stored-network, stored-sends}
 use borrow.Author.Needs.{needs}
 use Rattle.archive.proofs.writer.stored_refusal.Statement.{statement}

@@ -1,4 +1,5 @@
-use mathlib.Core.Path.{_≡_, refl, sym, ap, _∙_}
+-- `writer::write` meets its contract, one law of Answers for each way. Assumes nothing.
+use mathlib.Core.Path.{sym, _∙_}
 use native.Mathlib.Omega.{arith}
 use Rattle.archive.proofs.Passed.{stored-passes}
 use Rattle.archive.proofs.Answers.{write-no, write-short, write-yes}

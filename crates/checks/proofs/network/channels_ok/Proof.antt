@@ -1,14 +1,14 @@
+-- `network::channels_ok` meets its contract: the table of inputs that are fed stands for the test against every channel before. Assumes nothing.
 use Rattle.base.specs.All.{all, all-none}
 use Rattle.checks.proofs.NetworkLaws.{channelIn, Fed, fed-none, fed-skip, no-channel, too-high, fed-twice, fed-once, fed-now}
-use mathlib.Core.Path.{_≡_, refl, sym, ap, _∙_}
-use mathlib.Core.Bool.{Bool, true, false, not}
-use Prim.Native.Nat.{_≤_, _<_, _-_, _+_, _*_}
+use mathlib.Core.Path.{_≡_, refl, sym}
+use mathlib.Core.Bool.{true}
+use Prim.Native.Nat.{_≤_, _-_, _*_}
 use lib.ListN.{length, length-set}
 use native.Mathlib.Omega.{arith}
 use borrow.Author.Needs.{needs}
-use borrow.Author.Tests.{lt-ltb, le-ltb, eq-eqb, ne-eqb}
-use Rattle.base.specs.All.{all, all-none, all-more, all-fails}
-use Rattle.checks.proofs.NetworkLaws.{byteAt, channelIn, Fed, fed-none, fed-skip, fed-set}
+use Rattle.base.specs.All.{all, all-none}
+use Rattle.checks.proofs.NetworkLaws.{channelIn, Fed, fed-none, fed-skip}
 use native.Mathlib.Omega.{arith}
 use borrow.Author.Needs.{needs}
 use Rattle.checks.proofs.network.channels_ok.Statement.{statement}

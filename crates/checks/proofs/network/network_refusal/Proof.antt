@@ -1,4 +1,5 @@
-use mathlib.Core.Path.{_≡_, refl, sym, _∙_}
+-- `network::network_refusal` meets its contract: 3, 6, 7 in the definition's order. Assumes nothing.
+use mathlib.Core.Path.{refl, sym, _∙_}
 use Rattle.model.specs.Network.{networkRefusal}
 use Rattle.checks.proofs.NetworkLaws.{sizes-few}
 use borrow.Author.Needs.{needs}

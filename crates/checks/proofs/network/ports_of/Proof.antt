@@ -1,3 +1,4 @@
+-- `network::ports_of` meets its contract: the table is the definition's. Assumes nothing.
 use mathlib.Core.Path.{refl}
 use native.Mathlib.Nat.{add-zero}
 use borrow.Author.Needs.{needs}

@@ -1,3 +1,4 @@
+-- `network::route_ok` meets its contract: its tests are the definition's, spelled out for four digits. Assumes nothing.
 use mathlib.Core.Path.{refl}
 use mathlib.Core.Bool.{or-true}
 use Rattle.base.specs.All.{all}

@@ -1,3 +1,4 @@
+-- `network::sizes_ok` meets its contract: its comparisons are the definition's. Assumes nothing.
 use mathlib.Core.Path.{refl}
 use Rattle.checks.proofs.network.sizes_ok.Statement.{statement}
 use Rattle.checks.proofs.network.sizes_ok.Tie as tie

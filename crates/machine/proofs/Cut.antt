@@ -1,0 +1,40 @@
+-- The timeout by its tests, as the code makes them. Assumes nothing.
+use mathlib.Core.Path.{_≡_, refl, ap}
+use mathlib.Core.List.{List, [], _∷_}
+use mathlib.Core.Bool.{Bool, true, false, cond}
+use Prim.Native.Nat.{ℕ, zero, suc, _<_}
+use native.Mathlib.Omega.{arith}
+use lib.ListN.{getD, replicate}
+use Rattle.base.specs.Over.{over-same}
+use Rattle.model.specs.declared.Terminator.the-variants.{None as tNone, Abort as tAbort}
+use Rattle.model.specs.declared.Phase.the-variants.{the-data as Phase, Free, Seek, Open, Wait, Done, Last, Abort as Aborted, FinAbort}
+use Rattle.model.specs.declared.Input.{Input}
+use Rattle.model.specs.declared.Output.{Output}
+use Rattle.model.specs.Types.{outOf, outTerm, mark}
+use Rattle.model.specs.NetInput.{Turn, Stay, To, give}
+use Rattle.model.specs.Places.{cutOff, cutAt}
+use Rattle.machine.specs.Turns.{givenAt, cuts, cutPhase}
+
+pub cut-at : (y : Input) (os : List Output) (ph : Phase) → cutAt y os ph ≡ cond (cuts ph) (cutOff y os (cutPhase ph)) Stay
+unfolding cutAt
+cut-at y os Free = refl
+cut-at y os Seek = refl
+cut-at y os (Open c) = refl
+cut-at y os (Wait c) = refl
+cut-at y os (Done c r) = refl
+cut-at y os (Last c r) = refl
+cut-at y os (Aborted c) = refl
+cut-at y os (FinAbort c r) = refl
+
+aborts-at : (j : ℕ) → j < 5 → givenAt (replicate 5 tAbort) j ≡ tAbort
+aborts-at zero h = refl
+aborts-at (suc zero) h = refl
+aborts-at (suc (suc zero)) h = refl
+aborts-at (suc (suc (suc zero))) h = refl
+aborts-at (suc (suc (suc (suc zero)))) h = refl
+aborts-at (suc (suc (suc (suc (suc j))))) h = absurd (omega arith)
+
+-- abort for every output
+pub give-aborts : (bs : List Bool) (os : List Output) → give (givenAt (replicate 5 tAbort)) bs os ≡ give (λ j. tAbort) bs os
+unfolding give
+give-aborts bs os = over-same _ _ 5 os (λ j h. ap (λ k. cond (mark bs j) (outTerm (outOf os j) k) (outOf os j)) (aborts-at j h))

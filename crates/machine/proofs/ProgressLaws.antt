@@ -1,0 +1,211 @@
+-- What a run is known by after any number of turns, whatever run it is: how far its sends and draws have come, what is
+-- counted, and the lent bytes' length. Assumes nothing.
+use Prim.Native.Nat.{ℕ, zero, suc, _+_, _*_, _≤_, _<_}
+use mathlib.Core.Path.{_≡_, refl, sym, ap, _∙_}
+use mathlib.Core.List.{List}
+use mathlib.Core.Logic.{⊎-elim}
+use mathlib.Core.Bool.{true, false}
+use native.Mathlib.Nat.{le-of-suc-le-suc, eq-or-lt-of-le}
+use native.Mathlib.Numerals.{add-one}
+use native.Mathlib.Omega.{arith}
+use borrow.Author.Tests.{ltb-true, leb-true, eqb-true}
+use lib.Dec.{eqb, ltb, leb}
+use lib.ListN.{length}
+use Rattle.base.specs.Sizes.{setBits, sendsMost}
+use Rattle.base.specs.Bools.{cond-ok, both, first-of, second-of}
+use Rattle.base.specs.Sums.{upto, upto-last}
+use Rattle.sets.specs.Sets.{sizeIn, size}
+use Rattle.sets.proofs.LawsBit.{bit-small, count-has}
+use Rattle.draws.specs.Draws.{drawn, valueAfter}
+use Rattle.draws.proofs.Laws.{value-none, value-more}
+use Rattle.model.specs.declared.State.{State}
+use Rattle.model.specs.declared.Run.{Run}
+use Rattle.model.specs.declared.AfterSend.{AfterSend}
+use Rattle.model.specs.declared.AfterRun.{AfterRun}
+use Rattle.model.specs.declared.Sent.the-variants.{the-data as Sent, Accepted, Refused as SendRefused}
+use Rattle.model.specs.declared.Ran.the-variants.{the-data as Ran, Nothing, Changed, Serviced, Refused as RunRefused}
+use Rattle.model.specs.Types.{sendAt}
+use Rattle.model.specs.Network.{sizesOk, channelsOk, routesOk}
+use Rattle.model.specs.Runs.{sendsOk, storedRefusal, trySend}
+use Rattle.machine.specs.Progress.{Progress, due, answered, sendTurn, went, drew, drawnRun, drawTurn, turned, progress, entered-length}
+
+-- ---- a turn's two ways
+
+pub is-due : (r : Run) (p : Progress) → due r p ≡ true → (p .next < r .count) × (sendAt r (p .next) .draw ≡ p .draw)
+is-due r p h = let w = both (ltb (p .next) (r .count)) _ h in (ltb-true _ _ (w .0), eqb-true _ _ (w .1))
+
+pub turned-by : (P : Progress → Type 0) (r : Run) (p : Progress)
+    → (due r p ≡ true → (a : AfterSend) (s : Sent) → P (answered p (sendAt r (p .next) .set) a s))
+    → (due r p ≡ false → (a : AfterRun) → P (drew p (drawn (p .value)) (a .state) (a .answer))) → P (turned r p)
+unfolding turned sendTurn drawTurn
+turned-by P r p h k =
+    let e = sendAt r (p .next) in
+    let a = trySend (r .network) (p .state) (e .site) (e .set) in
+    cond-ok P (due r p) _ _ (λ b. h b a (a .answer)) (λ b. k b (drawnRun r p))
+
+-- ---- a valid run's sends: no more than it may have, and each as it should be
+
+pub stored-sends : (r : Run) → storedRefusal r ≡ 0 → (r .count ≤ sendsMost) × (sendsOk r ≡ true)
+unfolding storedRefusal
+stored-sends r h =
+    let a = first-of (sizesOk (r .network)) _ 3 0 (λ e. omega arith) h in
+    let b = second-of (eqb (r .seed) 0) 4 _ 0 (λ e. omega arith) (a .1) in
+    let c = first-of (leb (r .count) sendsMost) _ 5 0 (λ e. omega arith) (b .1) in
+    let d = first-of (channelsOk (r .network)) _ 6 0 (λ e. omega arith) (c .1) in
+    let e = first-of (routesOk (r .network)) _ 7 0 (λ e. omega arith) (d .1) in
+    (leb-true _ _ (c .0), first-of (sendsOk r) 0 8 0 (λ e. omega arith) (e .1) .0)
+
+-- ---- the sizes of the sends' sets, summed
+
+pub size-most : (S X : ℕ) → sizeIn S X ≤ S
+unfolding sizeIn
+size-most zero X = omega arith
+size-most (suc S) X = omega (arith, size-most S X, count-has S X, bit-small X S)
+
+-- of the first k sends
+abbrev pub sizesTo : Run → ℕ → ℕ
+sizesTo r k = upto k (λ j. size (sendAt r j .set))
+
+pub sizes-more : (r : Run) (k : ℕ) → sizesTo r (k + 1) ≡ sizesTo r k + size (sendAt r k .set)
+sizes-more r k = rw (add-one k) (upto-last k (λ j. size (sendAt r j .set)))
+
+pub sizes-most : (r : Run) (k : ℕ) → sizesTo r k ≤ setBits * k
+unfolding upto
+sizes-most r zero = omega arith
+sizes-most r (suc k) =
+    omega (
+      arith,
+      sizes-most r k,
+      upto-last k (λ j. size (sendAt r j .set)),
+      size-most setBits (sendAt r k .set),
+    )
+
+pub sizes-grow : (r : Run) (k m : ℕ) → k ≤ m → sizesTo r k ≤ sizesTo r m
+sizes-grow r k zero h = let e : k ≡ 0 = omega arith in rw e (omega arith)
+sizes-grow r k (suc m) h =
+    ⊎-elim (λ e. rw e (omega arith))
+    (λ l. omega (arith, sizes-grow r k m (le-of-suc-le-suc l), upto-last m (λ j. size (sendAt r j .set))))
+    (eq-or-lt-of-le h)
+
+-- ---- after k turns
+
+pub record Facts (r : Run) (room : List ℕ) (k : ℕ) (p : Progress) : Type 0 where
+  pub turns : p .next + p .draw ≡ k
+  pub sends : p .next ≤ r .count
+  pub accepted : p .accepted ≤ p .next
+  pub pairs : p .pairs ≤ sizesTo r (p .next)
+  pub serviced : p .serviced ≤ p .draw
+  pub value : p .value ≡ valueAfter (p .draw) (r .seed)
+  pub kept : length (p .book) ≡ length room
+
+module _ (r : Run) (room : List ℕ) (k : ℕ) (p : Progress) (ok : Facts r room k p) where
+  sent-facts : p .next < r .count → (a : AfterSend) (s : Sent)
+      → Facts r room (suc k) (answered p (sendAt r (p .next) .set) a s)
+  sent-facts h a (Accepted q) =
+      record {
+        turns = omega (arith, ok .turns);
+        sends = omega (arith, h);
+        accepted = omega (arith, ok .accepted);
+        pairs = omega (arith, ok .pairs, sizes-more r (p .next));
+        serviced = ok .serviced;
+        value = ok .value;
+        kept = ok .kept;
+      }
+  sent-facts h a (SendRefused q) =
+      record {
+        turns = omega (arith, ok .turns);
+        sends = omega (arith, h);
+        accepted = omega (arith, ok .accepted);
+        pairs = omega (arith, ok .pairs, sizes-more r (p .next));
+        serviced = ok .serviced;
+        value = ok .value;
+        kept = ok .kept;
+      }
+
+  pub next-value : drawn (p .value) ≡ valueAfter (p .draw + 1) (r .seed)
+  next-value = ap drawn (ok .value) ∙ sym (value-more (p .draw) (r .seed))
+
+  went-facts : (y : State) → Facts r room (suc k) (went p (drawn (p .value)) y)
+  went-facts y =
+      record {
+        turns = omega (arith, ok .turns);
+        sends = ok .sends;
+        accepted = ok .accepted;
+        pairs = ok .pairs;
+        serviced = omega (arith, ok .serviced);
+        value = next-value;
+        kept = ok .kept;
+      }
+
+  drew-facts : (y : State) (s : Ran) → Facts r room (suc k) (drew p (drawn (p .value)) y s)
+  drew-facts y Nothing = went-facts y
+  drew-facts y Changed = went-facts y
+  drew-facts y (Serviced q s) =
+      cond-ok (Facts r room (suc k)) (ltb (length (p .book)) (4 * p .serviced + 4)) _ _ (λ h. went-facts y)
+      (λ h.
+      record {
+        turns = omega (arith, ok .turns);
+        sends = ok .sends;
+        accepted = ok .accepted;
+        pairs = ok .pairs;
+        serviced = omega (arith, ok .serviced);
+        value = next-value;
+        kept = entered-length (p .book) (4 * p .serviced) (p .draw) q s ∙ ok .kept;
+      })
+  drew-facts y (RunRefused q) = went-facts y
+
+  turned-facts : Facts r room (suc k) (turned r p)
+  turned-facts =
+      turned-by (Facts r room (suc k)) r p (λ h a s. sent-facts (is-due r p h .0) a s)
+      (λ h a. drew-facts (a .state) (a .answer))
+
+pub facts : (r : Run) (room : List ℕ) (k : ℕ) → Facts r room k (progress r room k)
+unfolding progress upto
+facts r room zero =
+    record {
+      turns = refl;
+      sends = omega arith;
+      accepted = omega arith;
+      pairs = omega arith;
+      serviced = omega arith;
+      value = sym (value-none (r .seed));
+      kept = refl;
+    }
+facts r room (suc k) = turned-facts r room k (progress r room k) (facts r room k)
+
+-- ---- one by one, for a loop's arithmetic
+
+module _ (r : Run) (room : List ℕ) (k : ℕ) where
+  pub next-turns : progress r room k .next ≤ k
+  next-turns = omega (arith, facts r room k .turns)
+
+  pub draw-turns : progress r room k .draw ≤ k
+  draw-turns = omega (arith, facts r room k .turns)
+
+  pub serviced-turns : progress r room k .serviced ≤ k
+  serviced-turns = omega (arith, facts r room k .turns, facts r room k .serviced)
+
+  pub next-count : progress r room k .next ≤ r .count
+  next-count = facts r room k .sends
+
+  pub accepted-next : progress r room k .accepted ≤ progress r room k .next
+  accepted-next = facts r room k .accepted
+
+  pub book-kept : length (progress r room k .book) ≡ length room
+  book-kept = facts r room k .kept
+
+  pub pairs-count : progress r room k .pairs ≤ setBits * r .count
+  pairs-count =
+      let p = progress r room k in omega (arith, facts r room k .sends, facts r room k .pairs, sizes-most r (p .next))
+
+  -- at most 255 * 64
+  pub pairs-most : storedRefusal r ≡ 0 → progress r room k .pairs ≤ sendsMost * setBits
+  pairs-most ok = omega (arith, pairs-count, stored-sends r ok .0)
+
+-- the same of the variables of a loop
+pub facts-of : (r : Run) (room : List ℕ) (k : ℕ) (p : Progress) → p ≡ progress r room k → Facts r room k p
+facts-of r room k p e = rw e (facts r room k)
+
+pub pairs-of : (r : Run) (room : List ℕ) (k : ℕ) (p : Progress) → p ≡ progress r room k → storedRefusal r ≡ 0
+    → p .pairs ≤ sendsMost * setBits
+pairs-of r room k p e ok = rw e (pairs-most r room k ok)

@@ -1,0 +1,192 @@
+-- RUN looks at the inputs at the ends of its own channels alone, and what it passes on goes to one of them; what a site of a state in range has.
+-- Assumes nothing.
+use Prim.Native.Nat.{ℕ, zero, suc, _+_, _-_, _*_, _^_, _≤_, _<_}
+use mathlib.Core.Path.{_≡_, refl, sym, ap, ap₂, _∙_}
+use mathlib.Core.List.{List, [], _∷_}
+use mathlib.Core.Bool.{Bool, true, false, cond, not, _&&_, _||_}
+use native.Mathlib.Omega.{arith}
+use borrow.Author.Tests.{ltb-true, ltb-false, leb-true, eqb-true, eqb-false, lt-ltb}
+use lib.Dec.{eqb, ltb, leb}
+use Rattle.base.specs.Bools.{cond-ok, both, both3, both6, clash, implies, pick, alike, pick-at, either-way}
+use Rattle.base.specs.All.{all, all-at, all-same}
+use Rattle.sets.specs.Sets.{targets}
+use Rattle.sets.proofs.Laws.{targets-at}
+use Rattle.model.specs.declared.Phase.the-variants.{the-data as Phase, Free, Seek, Open, Wait, Done, Last, Abort as Aborted, FinAbort}
+use Rattle.model.specs.declared.Terminator.the-variants.{the-data as Terminator, None as tNone, End as tEnd, Abort as tAbort, KeepLocal as tKeep}
+use Rattle.model.specs.declared.Input.{Input}
+use Rattle.model.specs.declared.Output.{Output}
+use Rattle.model.specs.declared.Site.{Site}
+use Rattle.model.specs.declared.State.{State}
+use Rattle.model.specs.declared.Network.{Network}
+use Rattle.model.specs.Types.{inAt, outAt, siteAt, mark, outOf, setIn, setOut, withInQueue, withOutQueue}
+use Rattle.model.specs.Numbers.{stateNumber}
+use Rattle.model.specs.Network.{joined, channel, networkRefusal}
+use Rattle.model.specs.Phases.{isFree, connected, splitting, aborting, isNone}
+use Rattle.model.specs.Range.{inputOk, outputOk, outQueueOk, inQueueOk, siteOk, placeOk, inRange, tagOk, zeroInput, zeroOutput, anyMark, anyRemote, fedBy}
+use Rattle.model.specs.NetInput.{Turn, Stay, To, allReady, hears, ready, inState, netInput}
+use Rattle.model.specs.Places.{Work, Rest, Cleared, Service, localOutput, deliver, channelOutput, outQueue, operator, timeout}
+use Rattle.model.specs.Steps.{Act, Idle, Own, Serve, Pass, ownTurn, passTurn, workDone, setBoth, netOutput, act, ends}
+use Rattle.model.proofs.Networks.{Valid, valid-ok}
+use Rattle.machine.specs.declared.step.Act.the-variants.{Idle as didNothing, Own as didOwn, Serve as didServe, Pass as didPass}
+use Rattle.machine.specs.Step.{ofAct, Runnable, Bytes, Passable, isPass, farAt, fourEnds}
+
+-- ---- two ways to see the far ends that agree on the four channels
+
+module _ (n : Network) (s : ℕ) (x : Site) (f g : ℕ → Input) (same : (j : ℕ) → j < 4 → f j ≡ g j) where
+  ready-same : (os : List Output) (j : ℕ) → j < 5 → ready (joined n s) f os j ≡ ready (joined n s) g os j
+  unfolding hears
+  ready-same os zero h = refl
+  ready-same os (suc j) h = rw (same j (omega arith)) refl
+
+  all-same-ready : (os : List Output) (bs : List Bool) → allReady (ready (joined n s) f os) bs ≡ allReady (ready (joined n s) g os) bs
+  all-same-ready os bs = all-same (λ j. implies (mark bs j) (ready (joined n s) f os j)) (λ j. implies (mark bs j) (ready (joined n s) g os j)) 5 (λ j h. ap (λ (b : Bool). implies (mark bs j) b) (ready-same os j h))
+
+  state-same : (i : ℕ) (y : Input) (os : List Output) (ph : Phase) → inState n s i y os (ready (joined n s) f os) ph ≡ inState n s i y os (ready (joined n s) g os) ph
+  unfolding inState
+  state-same i y os Free = refl
+  state-same i y os Seek = refl
+  state-same i y os (Open c) = rw (all-same-ready os (y .outputs)) refl
+  state-same i y os (Wait c) = rw (all-same-ready os (y .outputs)) refl
+  state-same i y os (Done c r) = rw (all-same-ready os (y .outputs)) refl
+  state-same i y os (Last c r) = rw (all-same-ready os (y .outputs)) refl
+  state-same i y os (Aborted c) = refl
+  state-same i y os (FinAbort c r) = rw (ready-same os 0 (omega arith)) refl
+
+  output-same : (j : ℕ) → j < 5 → netOutput n s x f j ≡ netOutput n s x g j
+  unfolding netOutput
+  output-same zero h = refl
+  output-same (suc j) h = rw (same j (omega arith)) refl
+
+  pub act-same : (code : ℕ) → act n s x f code ≡ act n s x g code
+  unfolding act
+  act-same code =
+      ap₂ (λ (a b : Act). cond (ltb code 5) a b) (ap (ownTurn (setBoth x code)) (state-same code (inAt x code) (x .outputs) (inAt x code .phase)))
+      (either-way (ltb code 10) (λ h. rw h (outs (ltb-true code 10 h))) (λ h. rw h refl))
+    where
+      outs : code < 10 → netOutput n s x f (code - 5) ≡ netOutput n s x g (code - 5)
+      outs h = output-same (code - 5) (omega arith)
+
+-- the four ends as an array
+pub four-at : (f : ℕ → Input) (j : ℕ) → j < 4 → farAt (fourEnds f) j ≡ f j
+four-at f zero h = refl
+four-at f (suc zero) h = refl
+four-at f (suc (suc zero)) h = refl
+four-at f (suc (suc (suc zero))) h = refl
+four-at f (suc (suc (suc (suc j)))) h = absurd (omega arith)
+
+-- ---- what is passed on goes along a channel of the network
+
+unjoined : (o : Output) (y : Input) → channelOutput false o y ≡ Stay
+unfolding channelOutput deliver
+unjoined o y =
+    cond-ok (λ (t : Turn Output Input). t ≡ Stay) (o .used) _ _
+    (λ a. cond-ok (λ (t : Turn Output Input). t ≡ Stay) (o .head) _ _ (λ b. told (o .terminator)) (λ b. refl)) (λ a. refl)
+  where
+    told : (k : Terminator) → deliver false y k ≡ Stay
+    told tNone = refl
+    told tEnd = refl
+    told tAbort = refl
+    told tKeep = refl
+
+module _ (n : Network) (val : Valid n) (s : ℕ) (x : Site) (hs : s < n .sites) where
+  abbrev PassOk : Act → Type 0
+  PassOk a = Passable (ofAct n s x a)
+
+  own-ok : {A B : Type 0} (f : A → B → Site) (t : Turn A B) → PassOk (ownTurn f t)
+  own-ok f Stay h = absurd (clash (sym h))
+  own-ok f (To a b) h = absurd (clash (sym h))
+
+  work-ok : (w : Work) → PassOk (workDone x w)
+  work-ok Rest h = absurd (clash (sym h))
+  work-ok (Cleared a b) h = absurd (clash (sym h))
+  work-ok (Service a b q) h = absurd (clash (sym h))
+
+  along : (j : ℕ) (t : Turn Output Input) → channel n s j < 64 → PassOk (passTurn x j t)
+  along j Stay l h = absurd (clash (sym h))
+  along j (To o y) l h = l
+
+  channel-ok : (j : ℕ) (o : Output) (y : Input) → j < 4 → PassOk (passTurn x j (channelOutput (joined n s j) o y))
+  channel-ok j o y hj = go (joined n s j) refl
+    where
+      go : (b : Bool) → joined n s j ≡ b → PassOk (passTurn x j (channelOutput b o y))
+      go true e = along j (channelOutput true o y) (omega (arith, val .ends s j hs hj e, val .few))
+      go false e = rw (unjoined o y) (λ h. absurd (clash (sym h)))
+
+  output-ok : (far : ℕ → Input) (j : ℕ) → j < 5 → PassOk (netOutput n s x far j)
+  unfolding netOutput
+  output-ok far zero h = own-ok (λ o q. setOut (withInQueue x q) 0 o) (localOutput (n .depth) (outAt x 0) (x .incoming))
+  output-ok far (suc j) h = channel-ok j (outAt x (suc j)) (far j) (omega arith)
+
+  pub act-passable : (far : ℕ → Input) (code : ℕ) → PassOk (act n s x far code)
+  unfolding act
+  act-passable far code =
+      cond-ok PassOk (ltb code 5) _ _ (λ h. own-ok (setBoth x code) (netInput n s code (inAt x code) (x .outputs) (ready (joined n s) far (x .outputs))))
+      (λ h.
+      cond-ok PassOk (ltb code 10) _ _ (λ h. output-ok far (code - 5) (omega (arith, ltb-true code 10 h)))
+      (λ h.
+      cond-ok PassOk (eqb code 10) _ _ (λ h. own-ok (λ q y. setIn (withOutQueue x q) 0 y) (outQueue (x .outgoing) (inAt x 0)))
+      (λ h.
+      cond-ok PassOk (eqb code 11) _ _ (λ h. work-ok (operator (n .depth) s (x .incoming) (x .outgoing)))
+      (λ h. cond-ok PassOk (eqb code 12) _ _ (λ h. own-ok (setBoth x (outAt x 0 .input)) (timeout (x .incoming) (x .outputs) (inAt x (outAt x 0 .input)))) (λ h e. absurd (clash (sym e)))))))
+
+-- the channels of a valid network end within the sites
+pub valid-bytes : (n : Network) → Valid n → (s : ℕ) → s < n .sites → Bytes n s
+valid-bytes n val s hs j hj e = omega (arith, val .ends s j hs hj e, val .few)
+
+-- ---- a site of a state in range
+
+seek-used : (ph : Phase) → stateNumber ph ≡ 1 → isFree ph ≡ false
+seek-used Free e = absurd (omega arith)
+seek-used Seek e = refl
+seek-used (Open c) e = refl
+seek-used (Wait c) e = refl
+seek-used (Done c r) e = refl
+seek-used (Last c r) e = refl
+seek-used (Aborted c) e = refl
+seek-used (FinAbort c r) e = refl
+
+zero-feeder : (o : Output) → zeroOutput o ≡ true → o .input ≡ 0
+zero-feeder o e = eqb-true (o .input) 0 (both6 (not (o .used)) (eqb (o .packet) 0) (eqb (o .set) 0) (eqb (o .input) 0) (not (o .head)) (isNone (o .terminator)) e .3)
+
+tagged : (y : Input) (S T k : ℕ) (os : List Output) (i : ℕ) → inputOk S T k os i y ≡ true → pick (isFree (y .phase)) (zeroInput y) (tagOk S k (y .packet) (y .set)) ≡ true
+tagged y S T k os i e =
+    both6 (leb (y .tries) T) (pick (isFree (y .phase)) (zeroInput y) (tagOk S k (y .packet) (y .set))) (alike (anyMark (y .outputs)) (connected (y .phase)))
+    (all (λ j. implies (mark (y .outputs) j) (fedBy i (outOf os j))) 5) (implies (splitting (y .phase)) (mark (y .outputs) 0))
+    (implies (aborting (y .phase)) (splitting (y .phase) && not (anyRemote (y .outputs)))) e .1
+
+pub range-runnable : (n : Network) → Valid n → (st : State) → inRange n st ≡ true → (s : ℕ) → s < n .sites → Runnable n s (siteAt (st .sites) s)
+unfolding inRange
+range-runnable n val st h s hs =
+    record {
+      site = hs;
+      few = val .few;
+      deep = val .deep;
+      incoming = omega (arith, leb-true (x .incoming .count) (n .depth) (both (leb (x .incoming .count) (n .depth)) _ (parts .2) .0), val .deep);
+      feeder = either-way (outAt x 0 .used) (λ u. ltb-true _ 5 (both3 (tagOk (n .sites) (st .counter) (outAt x 0 .packet) (outAt x 0 .set)) (ltb (outAt x 0 .input) 5) _ (pick-at (outAt x 0 .used) _ _ out0 .0 u) .1)) (λ u. omega (arith, zero-feeder (outAt x 0) (pick-at (outAt x 0 .used) _ _ out0 .1 u)));
+      sought = λ i hi e. let t = targets-at (n .sites) (inAt x i .set) (both (ltb (inAt x i .packet) (st .counter)) _ (pick-at (isFree (inAt x i .phase)) _ _ (tag i hi) .1 (seek-used (inAt x i .phase) e)) .1) in (t .0, t .1);
+    }
+  where
+    x : Site
+    x = siteAt (st .sites) s
+
+    ok : siteOk (n .sites) (n .tries) (n .depth) (st .counter) x ≡ true
+    ok = pick-at (ltb s (n .sites)) _ _ (all-at (λ s. placeOk (n .sites) (n .tries) (n .depth) (st .counter) s (siteAt (st .sites) s)) s 16 (omega (arith, val .few)) h) .0 (lt-ltb s (n .sites) hs)
+
+    ins : Bool
+    ins = all (λ i. inputOk (n .sites) (n .tries) (st .counter) (x .outputs) i (inAt x i)) 5
+
+    outs : Bool
+    outs = all (λ j. outputOk (n .sites) (st .counter) j (outAt x j)) 5
+
+    parts : (ins ≡ true) × (outs ≡ true) × (inQueueOk (n .sites) (n .depth) (st .counter) (x .incoming) ≡ true)
+    parts =
+        let a = both (ins && outs && outQueueOk (n .sites) (n .depth) (st .counter) (x .outgoing)) _ ok in
+        let b = both (ins && outs) _ (a .0) in
+        let c = both ins outs (b .0) in
+        (c .0, c .1, a .1)
+
+    out0 : outputOk (n .sites) (st .counter) 0 (outAt x 0) ≡ true
+    out0 = all-at (λ j. outputOk (n .sites) (st .counter) j (outAt x j)) 0 5 (omega arith) (parts .1)
+
+    tag : (i : ℕ) → i < 5 → pick (isFree (inAt x i .phase)) (zeroInput (inAt x i)) (tagOk (n .sites) (st .counter) (inAt x i .packet) (inAt x i .set)) ≡ true
+    tag i hi = let e = all-at (λ i. inputOk (n .sites) (n .tries) (st .counter) (x .outputs) i (inAt x i)) i 5 hi (parts .0) in tagged (inAt x i) (n .sites) (n .tries) (st .counter) (x .outputs) i e

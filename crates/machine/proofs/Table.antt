@@ -1,0 +1,52 @@
+-- The terminator table by received kind and connection, as the code holds it, is the document's. Assumes nothing.
+use mathlib.Core.Path.{_≡_, refl}
+use mathlib.Core.List.{List, [], _∷_}
+use Prim.Native.Nat.{ℕ, _<_}
+use lib.Dec.{lit<}
+use lib.ListN.{getD}
+use Rattle.model.specs.declared.Connection.the-variants.{the-data as Connection, Unicast, Passthru, AllRemote, SomeLocal, Handed}
+use Rattle.model.specs.declared.Received.the-variants.{the-data as Received, End as gotEnd, Abort as gotAbort}
+use Rattle.model.specs.declared.Terminator.the-variants.{the-data as Terminator, None as tNone, End as tEnd, Abort as tAbort, KeepLocal as tKeep}
+use Rattle.model.specs.Numbers.{connectionNumber, receivedNumber}
+use Rattle.model.specs.Phases.{asTerminator}
+use Rattle.model.specs.NetInput.{table}
+use Rattle.machine.specs.Turns.{tableRow}
+
+pub received-below : (r : Received) → receivedNumber r < 3
+received-below gotEnd = lit< tt
+received-below gotAbort = lit< tt
+
+pub connection-below : (c : Connection) → connectionNumber c < 6
+connection-below Unicast = lit< tt
+connection-below Passthru = lit< tt
+connection-below AllRemote = lit< tt
+connection-below SomeLocal = lit< tt
+connection-below Handed = lit< tt
+
+abbrev pub local : List (List Terminator)
+local =
+    (tNone ∷ tNone ∷ tNone ∷ tNone ∷ tNone ∷ tNone ∷ [])
+    ∷ (tNone ∷ tEnd ∷ tEnd ∷ tAbort ∷ tKeep ∷ tEnd ∷ [])
+    ∷ (tNone ∷ tAbort ∷ tAbort ∷ tAbort ∷ tAbort ∷ tAbort ∷ [])
+    ∷ []
+
+pub right : (r : Received) (c : Connection) → getD (getD local (receivedNumber r) []) (connectionNumber c) tNone ≡ table r c 0
+right gotEnd Unicast = refl
+right gotEnd Passthru = refl
+right gotEnd AllRemote = refl
+right gotEnd SomeLocal = refl
+right gotEnd Handed = refl
+right gotAbort Unicast = refl
+right gotAbort Passthru = refl
+right gotAbort AllRemote = refl
+right gotAbort SomeLocal = refl
+right gotAbort Handed = refl
+
+-- the remote outputs get what was received
+pub remotes : (r : Received) (c : Connection) → tableRow r c ≡ table r c 0 ∷ asTerminator r ∷ asTerminator r ∷ asTerminator r ∷ asTerminator r ∷ []
+remotes gotEnd Unicast = refl
+remotes gotEnd Passthru = refl
+remotes gotEnd AllRemote = refl
+remotes gotEnd SomeLocal = refl
+remotes gotEnd Handed = refl
+remotes gotAbort c = refl

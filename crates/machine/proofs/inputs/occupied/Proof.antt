@@ -1,0 +1,93 @@
+use mathlib.Core.Path.{_≡_, refl, sym, ap, _∙_}
+use native.Mathlib.Omega.{arith}
+use borrow.Author.Needs.{needs}
+use borrow.Author.Tests.{eq-eqb, ne-eqb, lt-ltb, le-ltb, ltb-true}
+use mathlib.Core.Bool.{cond, not}
+use Prim.Native.Nat.{ℕ, _-_, _≤_}
+use lib.Dec.{eqb}
+use lib.ListN.{length, getD}
+use Rattle.base.specs.Over.{over, over-none, over-step, length-over}
+use Rattle.model.specs.Types.{outOf}
+use Rattle.model.specs.Router.{isChosen}
+use Rattle.model.specs.NetInput.{occupy, taken}
+use native.Mathlib.Omega.{arith}
+use borrow.Author.Needs.{needs}
+use Rattle.machine.proofs.inputs.occupied.Statement.{statement}
+use Rattle.machine.proofs.inputs.occupied.Tie as tie
+use Rattle.machine.proofs.inputs.occupied.Reads as reads
+use Rattle.machine.proofs.inputs.occupied.Lts as lts
+use Rattle.machine.proofs.inputs.taken_if.Reads as taken-if-reads
+
+abbrev Inv-loop : tie.InvT-loop
+Inv-loop packet i sets outputs next₀ j₀ next j = (j ≤ 5) × (next ≡ over (λ k. cond (isChosen sets k) (taken packet i (getD sets k 0)) (outOf outputs k)) j outputs)
+
+abbrev μ-loop : tie.MeasureT-loop
+μ-loop packet i sets outputs next₀ j₀ next j = 5 - j
+
+-- src/inputs.rt:137:5
+loop-holds : tie.Need-loop-holds Inv-loop μ-loop
+loop-holds c = (omega arith, sym (over-none _ _))
+
+-- src/inputs.rt:138:22
+mul-output : tie.Need-mul-output Inv-loop μ-loop
+mul-output c = search needs
+
+-- src/inputs.rt:138:22
+array-copy-out-output : tie.Need-array-copy-out-output Inv-loop μ-loop
+array-copy-out-output c = search needs
+
+-- src/inputs.rt:139:41
+mul-taken-if : tie.Need-mul-taken-if Inv-loop μ-loop
+mul-taken-if c = search needs
+
+-- src/inputs.rt:139:41
+array-read-taken-if : tie.Need-array-read-taken-if Inv-loop μ-loop
+array-read-taken-if c = search needs
+
+-- src/inputs.rt:139:13
+taken-if-requires : tie.Need-taken-if-requires Inv-loop μ-loop
+taken-if-requires c κs = search needs
+
+-- src/inputs.rt:140:9
+mul-next : tie.Need-mul-next Inv-loop μ-loop
+mul-next c = search needs
+
+-- src/inputs.rt:140:9
+array-set-from-next : tie.Need-array-set-from-next Inv-loop μ-loop
+array-set-from-next c = let e : length (c .before .before .before .before .args .t4) ≡ 5 = search needs in omega (arith, ap length (c .before .before .before .loop .inv .1), length-over (λ k. cond (isChosen (c .before .before .before .before .args .t3) k) (taken (c .before .before .before .before .args .packet) (c .before .before .before .before .args .i) (getD (c .before .before .before .before .args .t3) k 0)) (outOf (c .before .before .before .before .args .t4) k)) (c .before .before .before .loop .j) (c .before .before .before .before .args .t4))
+
+-- src/inputs.rt:137:9
+add-j : tie.Need-add-j Inv-loop μ-loop
+add-j c = search needs
+
+-- src/inputs.rt:137:5
+loop-less : tie.Need-loop-less Inv-loop μ-loop
+loop-less c = search needs
+
+-- src/inputs.rt:137:5
+loop-again : tie.Need-loop-again Inv-loop μ-loop
+loop-again c = let e : length (c .before .before .before .before .args .t4) ≡ 5 = search needs in (omega arith, over-step _ (c .before .before .before .loop .j) _ _ _ (c .before .before .before .loop .inv .1) (c .taken-if .ensures) (omega arith))
+
+-- src/inputs.rt:132:1
+returns : tie.Need-returns Inv-loop μ-loop
+unfolding occupy
+returns c = let e : c .before .loop .j ≡ 5 = omega arith in c .before .loop .inv .1 ∙ ap (λ (k : ℕ). over (λ k. cond (isChosen (c .before .before .args .t3) k) (taken (c .before .before .args .packet) (c .before .before .args .i) (getD (c .before .before .args .t3) k 0)) (outOf (c .before .before .args .t4) k)) k (c .before .before .args .t4)) e
+
+pub occupied-spec : {M : Type 1} → statement M
+occupied-spec =
+    tie.close
+    (tie.spec
+    Inv-loop
+    μ-loop
+    loop-holds
+    mul-output
+    array-copy-out-output
+    mul-taken-if
+    array-read-taken-if
+    taken-if-requires
+    mul-next
+    array-set-from-next
+    add-j
+    loop-less
+    loop-again
+    returns)

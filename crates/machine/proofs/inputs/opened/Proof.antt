@@ -1,0 +1,26 @@
+use mathlib.Core.Path.{_≡_, refl, sym, ap, _∙_}
+use mathlib.Core.Bool.{not}
+use native.Mathlib.Omega.{arith}
+use borrow.Author.Tests.{eq-eqb, ne-eqb, lt-ltb, le-ltb, ltb-true}
+use borrow.Author.Needs.{needs}
+use Rattle.machine.proofs.inputs.opened.Statement.{statement}
+use Rattle.machine.proofs.inputs.opened.Tie as tie
+use Rattle.machine.proofs.inputs.opened.Reads as reads
+use Rattle.machine.proofs.inputs.opened.Lts as lts
+use Rattle.machine.proofs.inputs.marks.Reads as marks-reads
+use Rattle.machine.proofs.inputs.occupied.Reads as occupied-reads
+
+-- src/inputs.rt:167:9
+marks-requires : tie.Need-marks-requires
+marks-requires c κs = search needs
+
+-- src/inputs.rt:169:18
+occupied-requires : tie.Need-occupied-requires
+occupied-requires c κs = search needs
+
+-- src/inputs.rt:160:1
+returns : tie.Need-returns
+returns c = rw (c .occupied .ensures, c .before .marks .ensures) refl
+
+pub opened-spec : {M : Type 1} → statement M
+opened-spec = tie.close (tie.spec marks-requires occupied-requires returns)

@@ -1,0 +1,23 @@
+use mathlib.Core.Path.{_≡_, refl, sym, ap, _∙_}
+use native.Mathlib.Omega.{arith}
+use borrow.Author.Tests.{eq-eqb, ne-eqb, lt-ltb, le-ltb, ltb-true}
+use borrow.Author.Needs.{needs}
+use Rattle.machine.proofs.inputs.taken_if.Statement.{statement}
+use Rattle.machine.proofs.inputs.taken_if.Tie as tie
+use Rattle.machine.proofs.inputs.taken_if.Reads as reads
+use Rattle.machine.proofs.inputs.taken_if.Lts as lts
+
+-- src/inputs.rt:119:9
+returns : tie.Need-returns
+returns c = rw (eq-eqb _ 0 (c .if1 .taken)) refl
+
+-- src/inputs.rt:125:16
+cast-t7 : tie.Need-cast-t7
+cast-t7 c = search needs
+
+-- src/inputs.rt:114:1
+returns-2 : tie.Need-returns-2
+returns-2 c = rw (ne-eqb _ 0 (c .if1 .left)) refl
+
+pub taken-if-spec : {M : Type 1} → statement M
+taken-if-spec = tie.close (tie.spec returns cast-t7 returns-2)

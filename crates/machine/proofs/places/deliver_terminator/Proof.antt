@@ -1,0 +1,36 @@
+use mathlib.Core.Path.{_≡_, refl, sym, ap, _∙_}
+use native.Mathlib.Omega.{arith}
+use borrow.Author.Tests.{eq-eqb, ne-eqb, lt-ltb, le-ltb, ltb-true}
+use borrow.Author.Needs.{needs}
+use Rattle.machine.proofs.places.deliver_terminator.Statement.{statement}
+use Rattle.machine.proofs.places.deliver_terminator.Tie as tie
+use Rattle.machine.proofs.places.deliver_terminator.Reads as reads
+use Rattle.machine.proofs.places.deliver_terminator.Lts as lts
+use Rattle.machine.proofs.phases.empty_output.Reads as empty-output-reads
+use Rattle.machine.proofs.phases.is_listening.Reads as is-listening-reads
+use Rattle.machine.proofs.phases.with_received.Reads as with-received-reads
+
+-- src/places.rt:92:9
+is-listening-requires : tie.Need-is-listening-requires
+is-listening-requires c κs = search needs
+
+-- src/places.rt:95:21
+empty-output-requires : tie.Need-empty-output-requires
+empty-output-requires c κs = search needs
+
+-- src/places.rt:96:20
+with-received-requires : tie.Need-with-received-requires
+with-received-requires c κs = search needs
+
+-- src/places.rt:94:9
+returns : tie.Need-returns
+returns c = rw (c .with-received .ensures, c .before .empty-output .ensures, ← c .before .before .before .is-listening .ensures, c .before .before .if1 .taken) refl
+
+-- src/places.rt:88:1
+returns-2 : tie.Need-returns-2
+returns-2 c = rw (← c .before .is-listening .ensures, c .if1 .left) refl
+
+pub deliver-terminator-spec : {M : Type 1} → statement M
+deliver-terminator-spec =
+    tie.close
+    (tie.spec is-listening-requires empty-output-requires with-received-requires returns returns-2)

@@ -1,0 +1,18 @@
+use mathlib.Core.Path.{refl}
+use borrow.Author.Needs.{needs}
+use Rattle.machine.proofs.step.stays.Statement.{statement}
+use Rattle.machine.proofs.step.stays.Tie as tie
+use Rattle.machine.proofs.step.stays.Reads as reads
+use Rattle.machine.proofs.step.stays.Lts as lts
+use Rattle.machine.proofs.phases.free_input.Reads as free-input-reads
+
+-- src/step.rt:41:27
+free-input-requires : tie.Need-free-input-requires
+free-input-requires c κs = search needs
+
+-- src/step.rt:38:1
+returns : tie.Need-returns
+returns c = rw (c .free-input .ensures) refl
+
+pub stays-spec : {M : Type 1} → statement M
+stays-spec = tie.close (tie.spec free-input-requires returns)

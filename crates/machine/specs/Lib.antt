@@ -1,0 +1,4 @@
+pub mod Progress
+pub mod Router
+pub mod Step
+pub mod Turns

@@ -1,0 +1,168 @@
+-- The player by turns, as a loop takes them: a turn is a send that is due, or a draw. The quoted phrases are document
+-- 01's. Assumes nothing.
+use Prim.Native.Nat.{ℕ, zero, suc, _+_, _*_, _/_, _%_, _<_}
+use mathlib.Core.Path.{_≡_, refl, ap, _∙_}
+use mathlib.Core.List.{List}
+use mathlib.Core.Bool.{Bool, true, false, cond, _&&_}
+use native.Mathlib.Numerals.{add-one}
+use borrow.Author.Tests.{ltb-true}
+use lib.Dec.{eqb, ltb}
+use lib.ListN.{length, set, length-set}
+use Rattle.sets.specs.Sets.{size}
+use Rattle.draws.specs.Draws.{drawn, drawnSite, drawnCode}
+use Rattle.model.specs.declared.State.{State}
+use Rattle.model.specs.declared.StoredSend.{StoredSend}
+use Rattle.model.specs.declared.Run.{Run}
+use Rattle.model.specs.declared.AfterSend.{AfterSend}
+use Rattle.model.specs.declared.AfterRun.{AfterRun}
+use Rattle.model.specs.declared.Sent.the-variants.{the-data as Sent, Accepted, Refused as SendRefused}
+use Rattle.model.specs.declared.Ran.the-variants.{the-data as Ran, Nothing, Changed, Serviced, Refused as RunRefused}
+use Rattle.model.specs.Types.{noState, sendAt}
+use Rattle.model.specs.Events.{runs}
+use Rattle.model.specs.Runs.{trySend}
+
+-- where a run stands: the state, the draws' value, the next stored send, the next draw's number, the packets accepted,
+-- their summed set sizes, the services, the lent bytes
+pub record Progress : Type 0 where
+  pub state : State
+  pub value : ℕ
+  pub next : ℕ
+  pub draw : ℕ
+  pub accepted : ℕ
+  pub pairs : ℕ
+  pub serviced : ℕ
+  pub book : List ℕ
+
+abbrev pub begin : ℕ → List ℕ → Progress
+begin seed room =
+    record {
+      state = noState;
+      value = seed;
+      next = 0;
+      draw = 0;
+      accepted = 0;
+      pairs = 0;
+      serviced = 0;
+      book = room;
+    }
+
+-- ---- a send: "A send marked d is applied before draw d (counted from 0), in stored order."
+
+abbrev pub due : Run → Progress → Bool
+due r p = ltb (p .next) (r .count) && eqb (sendAt r (p .next) .draw) (p .draw)
+
+-- by its answer; "A refused send is passed over."
+abbrev pub answered : Progress → ℕ → AfterSend → Sent → Progress
+answered p X a (Accepted q) =
+    record {
+      state = a .state;
+      value = p .value;
+      next = p .next + 1;
+      draw = p .draw;
+      accepted = p .accepted + 1;
+      pairs = p .pairs + size X;
+      serviced = p .serviced;
+      book = p .book;
+    }
+answered p X a (SendRefused k) =
+    record {
+      state = p .state;
+      value = p .value;
+      next = p .next + 1;
+      draw = p .draw;
+      accepted = p .accepted;
+      pairs = p .pairs;
+      serviced = p .serviced;
+      book = p .book;
+    }
+
+unfoldable pub sendTurn : Run → Progress → Progress
+sendTurn r p =
+    let e = sendAt r (p .next) in
+    let a = trySend (r .network) (p .state) (e .site) (e .set) in
+    answered p (e .set) a (a .answer)
+
+-- ---- a draw: "Each draw advances first."
+
+-- after a draw with the value v that leaves the state y and services nothing
+abbrev pub went : Progress → ℕ → State → Progress
+went p v y =
+    record {
+      state = y;
+      value = v;
+      next = p .next;
+      draw = p .draw + 1;
+      accepted = p .accepted;
+      pairs = p .pairs;
+      serviced = p .serviced;
+      book = p .book;
+    }
+
+-- "The book is 4 bytes a service: draw 2, packet 1, site 1." The service of packet q at site s by draw d, stored at a
+unfoldable pub enteredAt : List ℕ → ℕ → ℕ → ℕ → ℕ → List ℕ
+enteredAt b a d q s = set (set (set (set b a (d / 256 % 256)) (a + 1) (d % 256)) (a + 2) q) (a + 3) s
+
+-- by its answer; a service that the lent bytes have no room for is not entered
+abbrev pub drew : Progress → ℕ → State → Ran → Progress
+drew p v y Nothing = went p v y
+drew p v y Changed = went p v y
+drew p v y (Serviced q s) =
+    cond (ltb (length (p .book)) (4 * p .serviced + 4)) (went p v y)
+    (record {
+      state = y;
+      value = v;
+      next = p .next;
+      draw = p .draw + 1;
+      accepted = p .accepted;
+      pairs = p .pairs;
+      serviced = p .serviced + 1;
+      book = enteredAt (p .book) (4 * p .serviced) (p .draw) q s;
+    })
+drew p v y (RunRefused k) = went p v y
+
+-- the RUN that the next draw names
+abbrev pub drawnRun : Run → Progress → AfterRun
+drawnRun r p =
+    let v = drawn (p .value) in
+    let S = r .network .sites in
+    runs (r .network) (p .state) (drawnSite S v) (drawnCode S v)
+
+unfoldable pub drawTurn : Run → Progress → Progress
+drawTurn r p = drew p (drawn (p .value)) (drawnRun r p .state) (drawnRun r p .answer)
+
+-- ---- turn by turn
+
+unfoldable pub turned : Run → Progress → Progress
+turned r p = cond (due r p) (sendTurn r p) (drawTurn r p)
+
+unfoldable pub progress : Run → List ℕ → ℕ → Progress
+progress r room zero = begin (r .seed) room
+progress r room (suc k) = turned r (progress r room k)
+
+-- ---- what a loop over turns cites
+
+-- before its first turn
+pub no-turn : (r : Run) (room : List ℕ) → begin (r .seed) room ≡ progress r room 0
+unfolding progress
+no-turn r room = refl
+
+-- after each turn
+pub one-turn : (r : Run) (room : List ℕ) (k : ℕ) (p p′ : Progress) → p ≡ progress r room k → p′ ≡ turned r p
+    → p′ ≡ progress r room (k + 1)
+unfolding progress
+one-turn r room k p p′ e f = rw (add-one k) (f ∙ ap (turned r) e)
+
+pub entered-length : (b : List ℕ) (a d q s : ℕ) → length (enteredAt b a d q s) ≡ length b
+unfolding enteredAt
+entered-length b a d q s = rw (length-set, length-set, length-set, length-set)
+
+-- the test for a send, where the place that is read is the next send's only if there is one
+pub due-at : (r : Run) (p : Progress) (e : StoredSend) (k : ℕ) → (p .next < r .count → k ≡ p .next) → e ≡ sendAt r k
+    → (ltb (p .next) (r .count) && eqb (e .draw) (p .draw)) ≡ due r p
+due-at r p e k h i = go (ltb (p .next) (r .count)) refl
+  where
+    go : (b : Bool) → ltb (p .next) (r .count) ≡ b
+        → (b && eqb (e .draw) (p .draw)) ≡ (b && eqb (sendAt r (p .next) .draw) (p .draw))
+    go true t =
+        ap (λ (o : StoredSend). eqb (o .draw) (p .draw)) (i ∙ ap (sendAt r) (h (ltb-true (p .next) (r .count) t)))
+    go false t = refl

@@ -1,0 +1,89 @@
+-- RUN's act as the struct that the code returns, and what a site must be for it to run.
+use Prim.Native.Nat.{ℕ, _^_, _≤_, _<_}
+use mathlib.Core.Path.{_≡_}
+use mathlib.Core.List.{List, [], _∷_}
+use mathlib.Core.Bool.{Bool, true, false, cond}
+use lib.Dec.{ltb}
+use lib.ListN.{getD}
+use Rattle.base.specs.Sizes.{packetsMost}
+use Rattle.sets.specs.Sets.{targets}
+use Rattle.model.specs.declared.Input.{Input}
+use Rattle.model.specs.declared.Site.{Site}
+use Rattle.model.specs.declared.Network.{Network}
+use Rattle.model.specs.declared.State.{State}
+use Rattle.model.specs.declared.AfterRun.{AfterRun}
+use Rattle.model.specs.declared.Ran.the-variants.{Nothing, Changed, Serviced}
+use Rattle.model.specs.Types.{noInput, inputD, siteAt, inAt, outAt, setSite}
+use Rattle.model.specs.Network.{channel, joined}
+use Rattle.model.specs.Numbers.{stateNumber}
+use Rattle.model.specs.Steps.{Act, Idle, Own, Serve, Pass, setFar}
+use Rattle.machine.specs.declared.step.Act.the-variants.{the-data as Did, Idle as didNothing, Own as didOwn, Serve as didServe, Pass as didPass}
+use Rattle.machine.specs.declared.step.Change.{Change}
+
+abbrev pub unchanged : Site → Change
+unchanged x = record { site = x; input = noInput; byte = 0; act = didNothing }
+
+abbrev pub changed : Site → Change
+changed x = record { site = x; input = noInput; byte = 0; act = didOwn }
+
+-- x is site s as it was
+abbrev pub ofAct : Network → ℕ → Site → Act → Change
+ofAct n s x Idle = unchanged x
+ofAct n s x (Own z) = changed z
+ofAct n s x (Serve z q) = record { site = z; input = noInput; byte = 0; act = didServe q }
+ofAct n s x (Pass z j y) = record { site = z; input = y; byte = channel n s j; act = didPass }
+
+-- the state and the answer that a change at site s leaves
+abbrev pub storedBy : Did → State → ℕ → Change → AfterRun
+storedBy didNothing st s c = record { answer = Nothing; state = st }
+storedBy didOwn st s c = record { answer = Changed; state = record { sites = setSite (st .sites) s (c .site); counter = st .counter } }
+storedBy (didServe q) st s c = record { answer = Serviced q s; state = record { sites = setSite (st .sites) s (c .site); counter = st .counter } }
+storedBy didPass st s c =
+    record { answer = Changed; state = record { sites = setFar (setSite (st .sites) s (c .site)) (c .byte) (c .input); counter = st .counter } }
+
+abbrev pub stored : State → ℕ → Change → AfterRun
+stored st s c = storedBy (c .act) st s c
+
+-- the inputs at the ends of the channels, as an array
+abbrev pub farAt : List Input → ℕ → Input
+farAt l j = getD l j inputD
+
+abbrev pub flags : (ℕ → Bool) → List Bool
+flags f = f 0 ∷ f 1 ∷ f 2 ∷ f 3 ∷ f 4 ∷ []
+
+-- what a site of a state in range has
+pub record Runnable (n : Network) (s : ℕ) (x : Site) : Type 0 where
+  pub site : s < n .sites
+  pub few : n .sites ≤ 16
+  pub deep : n .depth ≤ 8
+  pub incoming : x .incoming .count ≤ 8
+  pub feeder : outAt x 0 .input < 5
+  pub sought : (i : ℕ) → i < 5 → stateNumber (inAt x i .phase) ≡ 1 → (0 < inAt x i .set) × (inAt x i .set < 2 ^ n .sites)
+
+-- the ends of the four channels as an array
+abbrev pub fourEnds : (ℕ → Input) → List Input
+fourEnds f = f 0 ∷ f 1 ∷ f 2 ∷ f 3 ∷ []
+
+-- the two stores of an input passed on
+abbrev pub passed : State → ℕ → Site → ℕ → Input → State
+passed st s x b y = record { sites = setFar (setSite (st .sites) s x) b y; counter = st .counter }
+
+-- the channels of site s end within the array of sites
+abbrev pub Bytes : Network → ℕ → Type 0
+Bytes n s = (j : ℕ) → j < 4 → joined n s j ≡ true → channel n s j < 64
+
+abbrev pub isPass : Did → Bool
+isPass didNothing = false
+isPass didOwn = false
+isPass (didServe q) = false
+isPass didPass = true
+
+abbrev pub Passable : Change → Type 0
+Passable c = isPass (c .act) ≡ true → c .byte < 64
+
+-- the refusal of a SEND's own, from the numbers that it looks at
+abbrev pub sendNumber : ℕ → ℕ → State → ℕ → ℕ → ℕ
+sendNumber S D st s X =
+    cond (ltb s S)
+    (cond (targets S X) (cond (ltb (st .counter) packetsMost) (cond (ltb (siteAt (st .sites) s .outgoing .count) D) 0 11) 12) 10)
+    9

@@ -1,0 +1,171 @@
+// Single SEND and RUN, with their refusals 3, 6, 7, 13, 9, 10, 12, 11, and the empty state.
+ghost use mathlib.Core.Path.{_≡_};
+ghost use mathlib.Core.Bool.{true};
+ghost use Prim.Native.Nat.{_<_, _≤_};
+ghost use Rattle.model.specs.Types.{noSite, noState, siteAt};
+ghost use Rattle.model.specs.Network.{networkRefusal};
+ghost use Rattle.model.specs.Range.{inRange};
+ghost use Rattle.model.specs.Events as spec;
+ghost use Rattle.machine.specs.Step.{sendNumber};
+use crate::phases::empty_output;
+use crate::phases::free_input;
+use crate::queues::push_out;
+use crate::step::step;
+use crate::store::far_inputs;
+use crate::store::store_change;
+use model::AfterRun;
+use model::AfterSend;
+use model::InEntry;
+use model::InQueue;
+use model::Network;
+use model::OutEntry;
+use model::OutQueue;
+use model::Ran;
+use model::Sent;
+use model::Site;
+use model::State;
+use model::Terminator;
+
+fn empty_site() -> Site
+    ensures { λ r. ⌜ r ≡ noSite ⌝ }
+{
+    let input = free_input();
+    let output = empty_output();
+    let leaving = OutEntry {
+        set: 0,
+        packet: 0,
+        started: false,
+    };
+    let arrived = InEntry {
+        set: 0,
+        terminator: Terminator::None,
+        packet: 0,
+    };
+    Site {
+        inputs: [input; base::INPUTS],
+        outputs: [output; base::OUTPUTS],
+        outgoing: OutQueue {
+            entries: [leaving; base::QUEUE],
+            count: 0,
+        },
+        incoming: InQueue {
+            entries: [arrived; base::QUEUE],
+            count: 0,
+        },
+    }
+}
+
+// The state at the start: every place empty, no packet accepted.
+pub fn empty_state() -> State
+    ensures { λ r. ⌜ r ≡ noState ⌝ }
+{
+    let site = empty_site();
+    State {
+        sites: [site; base::SITES],
+        counter: 0,
+    }
+}
+
+// RUN on a state in range of a valid network.
+fn run_checked(network: Network, state: State, s: usize, code: usize) -> AfterRun
+    requires { ⌜ (networkRefusal network ≡ 0) × (inRange network state ≡ true) × (s < network .sites) ⌝ }
+    ensures { λ r. ⌜ r ≡ spec.runs network state s code ⌝ }
+{
+    let site = state.sites[s];
+    let far = far_inputs(network, state, s);
+    let change = step(network, s, site, far, code);
+    store_change(state, s, change)
+}
+
+// RUN (site, code): the answer and the next state; a refusal hands the state back.
+pub fn run(network: Network, state: State, site: usize, code: usize) -> AfterRun
+    ensures { λ r. ⌜ r ≡ spec.ran network state site code ⌝ }
+{
+    let sites = network.sites;
+    let refusal = checks::event_refusal(network, state);
+    if refusal != 0 {
+        return AfterRun {
+            answer: Ran::Refused(refusal),
+            state,
+        };
+    }
+    if (site < sites) & (code < base::CODES) {
+        return run_checked(network, state, site, code);
+    }
+    AfterRun {
+        answer: Ran::Refused(9),
+        state,
+    }
+}
+
+// The refusal of a SEND's own: 9, 10, 12, 11 or 0.
+pub(crate) fn send_fault(sites: usize, depth: usize, state: State, s: usize, set: u64) -> u8
+    requires { ⌜ sites ≤ 16 ⌝ }
+    ensures { λ r. ⌜ r ≡ sendNumber sites depth state s set ⌝ }
+{
+    let counter = state.counter;
+    if s < sites {
+        if sets::is_targets(set, sites) {
+            if counter < base::PACKETS {
+                let site = state.sites[s];
+                let queue = site.outgoing;
+                if queue.count < depth {
+                    return 0;
+                }
+                return 11;
+            }
+            return 12;
+        }
+        return 10;
+    }
+    9
+}
+
+// The state with a packet more, at the back of site s's out-queue under the counter's number.
+pub(crate) fn send_checked(state: State, s: usize, set: u64) -> AfterSend
+    requires { ⌜ (s < 16) × (state .counter < 255) × (siteAt (state .sites) s .outgoing .count < 8) ⌝ }
+    ensures { λ r. ⌜ r ≡ spec.sends state s set ⌝ }
+{
+    let packet = state.counter;
+    let mut site = state.sites[s];
+    let queue = site.outgoing;
+    let longer = push_out(
+        queue,
+        OutEntry {
+            set,
+            packet,
+            started: false,
+        },
+    );
+    site.outgoing = longer;
+    let mut next = state;
+    next.sites[s] = site;
+    next.counter = packet + 1;
+    AfterSend {
+        answer: Sent::Accepted(packet),
+        state: next,
+    }
+}
+
+// SEND (site, set): the packet number and the next state; a refusal hands the state back.
+pub fn send(network: Network, state: State, site: usize, set: u64) -> AfterSend
+    ensures { λ r. ⌜ r ≡ spec.sent network state site set ⌝ }
+{
+    let sites = network.sites;
+    let depth = network.depth;
+    let refusal = checks::event_refusal(network, state);
+    if refusal != 0 {
+        return AfterSend {
+            answer: Sent::Refused(refusal),
+            state,
+        };
+    }
+    let own = send_fault(sites, depth, state, site, set);
+    if own != 0 {
+        return AfterSend {
+            answer: Sent::Refused(own),
+            state,
+        };
+    }
+    send_checked(state, site, set)
+}

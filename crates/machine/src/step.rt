@@ -1,0 +1,284 @@
+// RUN on a site by value: what the event sees in (the site, the inputs at the ends of its channels), what becomes of it out.
+ghost use mathlib.Core.Path.{_≡_};
+ghost use Prim.Native.Nat.{_<_, _≤_};
+ghost use mathlib.Core.Bool.{true, _&&_};
+ghost use Prim.Native.Nat.{_+_};
+ghost use Rattle.model.specs.Phases.{listening};
+ghost use Rattle.model.specs.Types as spec;
+ghost use Rattle.model.specs.Network as net;
+ghost use Rattle.model.specs.NetInput as rule;
+ghost use Rattle.model.specs.Places as places;
+ghost use Rattle.model.specs.Steps as steps;
+ghost use Rattle.machine.specs.Step.{ofAct, unchanged, changed, farAt, flags, Runnable};
+use crate::inputs::net_input;
+use crate::phases::free_input;
+use crate::phases::is_listening;
+use crate::places::channel_output;
+use crate::places::local_output;
+use crate::places::operator;
+use crate::places::out_queue;
+use crate::timeout::time_out;
+use model::Input;
+use model::Network;
+use model::Output;
+use model::Site;
+
+// What RUN does: nothing; its site changes; the same and a service of a packet; the site and the input at the end of a channel change.
+pub enum Act {
+    Idle,
+    Own,
+    Serve(u8),
+    Pass,
+}
+
+// The act, the site after it, and where a far input changes that input after it, with the byte of its channel.
+pub struct Change {
+    pub site: Site,
+    pub input: Input,
+    pub byte: u8,
+    pub act: Act,
+}
+
+fn stays(site: Site) -> Change
+    ensures { λ r. ⌜ r ≡ unchanged site ⌝ }
+{
+    Change {
+        site,
+        input: free_input(),
+        byte: 0,
+        act: Act::Idle,
+    }
+}
+
+fn owns(site: Site) -> Change
+    ensures { λ r. ⌜ r ≡ changed site ⌝ }
+{
+    Change {
+        site,
+        input: free_input(),
+        byte: 0,
+        act: Act::Own,
+    }
+}
+
+// Whether output j + 1 of site s has a channel.
+pub(crate) fn has_channel(network: Network, s: usize, j: usize) -> bool
+    requires { ⌜ (s < 16) × (j < 4) ⌝ }
+    ensures { λ r. ⌜ r ≡ net.joined network s j ⌝ }
+{
+    let byte = network.channels[4 * s + j];
+    byte != base::NO_CHANNEL
+}
+
+// Whether output 0 is ready: in use with its head taken.
+fn is_ready(output: Output) -> bool
+    ensures { λ r. ⌜ r ≡ (output .used && output .head && true) ⌝ }
+{
+    output.used & output.head & true
+}
+
+// Whether output j + 1 is ready: its channel's input is open or abort too.
+fn is_heard(network: Network, s: usize, j: usize, output: Output, input: Input) -> bool
+    requires { ⌜ (s < 16) × (j < 4) ⌝ }
+    ensures { λ r. ⌜ r ≡ (output .used && output .head && (net.joined network s j && listening (input .phase))) ⌝ }
+{
+    let phase = input.phase;
+    let there = has_channel(network, s, j);
+    let open = is_listening(phase);
+    output.used & output.head & (there & open)
+}
+
+// Which outputs of site s are ready.
+fn ready_outputs(
+    network: Network,
+    s: usize,
+    far: [Input; base::PORTS],
+    outputs: [Output; base::OUTPUTS],
+) -> [bool; base::OUTPUTS]
+    requires { ⌜ s < 16 ⌝ }
+    ensures { λ r. ⌜ r ≡ flags (rule.ready (net.joined network s) (farAt far) outputs) ⌝ }
+{
+    [
+        is_ready(outputs[0]),
+        is_heard(network, s, 0, outputs[1], far[0]),
+        is_heard(network, s, 1, outputs[2], far[1]),
+        is_heard(network, s, 2, outputs[3], far[2]),
+        is_heard(network, s, 3, outputs[4], far[3]),
+    ]
+}
+
+// Codes 0 to 4: net-input i.
+fn input_step(network: Network, s: usize, site: Site, far: [Input; base::PORTS], i: usize) -> Change
+    requires { ⌜ Runnable network s site ⌝ ∗ ⌜ i < 5 ⌝ }
+    ensures { λ r. ⌜ r ≡ ofAct network s site (steps.ownTurn (steps.setBoth site i) (rule.netInput network s i (spec.inAt site i) (site .outputs) (rule.ready (net.joined network s) (farAt far) (site .outputs)))) ⌝ }
+{
+    let input = site.inputs[i];
+    let outputs = site.outputs;
+    let ready = ready_outputs(network, s, far, outputs);
+    let turn = net_input(network, s, i, input, outputs, ready);
+    let after = turn.outputs;
+    let now = turn.input;
+    if turn.changed {
+        let mut next = site;
+        next.outputs = after;
+        next.inputs[i] = now;
+        return owns(next);
+    }
+    stays(site)
+}
+
+// Code 5: net-output 0.
+fn local_step(network: Network, s: usize, site: Site) -> Change
+    requires { ⌜ (network .depth ≤ 8) × (site .incoming .count ≤ 8) ⌝ }
+    ensures { λ r. ⌜ r ≡ ofAct network s site (steps.ownTurn (λ o q. spec.setOut (spec.withInQueue site q) 0 o) (places.localOutput (network .depth) (spec.outAt site 0) (site .incoming))) ⌝ }
+{
+    let depth = network.depth;
+    let output = site.outputs[0];
+    let queue = site.incoming;
+    let turn = local_output(depth, output, queue);
+    let after = turn.queue;
+    let now = turn.output;
+    if turn.changed {
+        let mut next = site;
+        next.incoming = after;
+        next.outputs[0] = now;
+        return owns(next);
+    }
+    stays(site)
+}
+
+// Codes 6 to 9: net-output j + 1.
+fn channel_step(
+    network: Network,
+    s: usize,
+    site: Site,
+    far: [Input; base::PORTS],
+    j: usize,
+) -> Change
+    requires { ⌜ (s < 16) × (j < 4) ⌝ }
+    ensures { λ r. ⌜ r ≡ ofAct network s site (steps.passTurn site j (places.channelOutput (net.joined network s j) (spec.outAt site (j + 1)) (farAt far j))) ⌝ }
+{
+    let output = site.outputs[j + 1];
+    let input = far[j];
+    let byte = network.channels[4 * s + j];
+    let turn = channel_output(has_channel(network, s, j), output, input);
+    let now = turn.output;
+    let after = turn.input;
+    if turn.changed {
+        let mut next = site;
+        next.outputs[j + 1] = now;
+        return Change {
+            site: next,
+            input: after,
+            byte,
+            act: Act::Pass,
+        };
+    }
+    stays(site)
+}
+
+// Code 10: the out-queue.
+fn queue_step(network: Network, s: usize, site: Site) -> Change
+    ensures { λ r. ⌜ r ≡ ofAct network s site (steps.ownTurn (λ q y. spec.setIn (spec.withOutQueue site q) 0 y) (places.outQueue (site .outgoing) (spec.inAt site 0))) ⌝ }
+{
+    let queue = site.outgoing;
+    let input = site.inputs[0];
+    let turn = out_queue(queue, input);
+    let after = turn.queue;
+    let now = turn.input;
+    if turn.changed {
+        let mut next = site;
+        next.outgoing = after;
+        next.inputs[0] = now;
+        return owns(next);
+    }
+    stays(site)
+}
+
+// Code 11: the operator.
+fn operator_step(network: Network, s: usize, site: Site) -> Change
+    requires { ⌜ network .depth ≤ 8 ⌝ }
+    ensures { λ r. ⌜ r ≡ ofAct network s site (steps.workDone site (places.operator (network .depth) s (site .incoming) (site .outgoing))) ⌝ }
+{
+    let depth = network.depth;
+    let incoming = site.incoming;
+    let outgoing = site.outgoing;
+    let turn = operator(depth, s, incoming, outgoing);
+    let arrived = turn.incoming;
+    let leaving = turn.outgoing;
+    if turn.changed {
+        let mut next = site;
+        next.incoming = arrived;
+        next.outgoing = leaving;
+        if turn.serviced {
+            return Change {
+                site: next,
+                input: free_input(),
+                byte: 0,
+                act: Act::Serve(turn.packet),
+            };
+        }
+        return owns(next);
+    }
+    stays(site)
+}
+
+// Code 12: the timeout.
+fn timeout_step(network: Network, s: usize, site: Site) -> Change
+    requires { ⌜ (site .incoming .count ≤ 8) × (spec.outAt site 0 .input < 5) ⌝ }
+    ensures { λ r. ⌜ r ≡ ofAct network s site (steps.ownTurn (steps.setBoth site (spec.outAt site 0 .input)) (places.timeout (site .incoming) (site .outputs) (spec.inAt site (spec.outAt site 0 .input)))) ⌝ }
+{
+    let own = site.outputs[0];
+    let i = own.input as usize;
+    let input = site.inputs[i];
+    let queue = site.incoming;
+    let outputs = site.outputs;
+    let turn = time_out(queue, outputs, input);
+    let after = turn.outputs;
+    let now = turn.input;
+    if turn.changed {
+        let mut next = site;
+        next.outputs = after;
+        next.inputs[i] = now;
+        return owns(next);
+    }
+    stays(site)
+}
+
+// Codes 5 to 9: net-output j.
+fn output_step(
+    network: Network,
+    s: usize,
+    site: Site,
+    far: [Input; base::PORTS],
+    j: usize,
+) -> Change
+    requires { ⌜ Runnable network s site ⌝ ∗ ⌜ j < 5 ⌝ }
+    ensures { λ r. ⌜ r ≡ ofAct network s site (steps.netOutput network s site (farAt far) j) ⌝ }
+{
+    if j == 0 {
+        return local_step(network, s, site);
+    }
+    channel_step(network, s, site, far, j - 1)
+}
+
+// RUN at site s: codes 0 to 4 are the net-inputs, 5 to 9 the net-outputs, 10 the out-queue, 11 the operator, 12 the timeout.
+pub(crate) fn step(
+    network: Network,
+    s: usize,
+    site: Site,
+    far: [Input; base::PORTS],
+    code: usize,
+) -> Change
+    requires { ⌜ Runnable network s site ⌝ }
+    ensures { λ r. ⌜ r ≡ ofAct network s site (steps.act network s site (farAt far) code) ⌝ }
+{
+    match code {
+        0..=4 => input_step(network, s, site, far, code),
+        5..=9 => output_step(network, s, site, far, code - 5),
+        10 => queue_step(network, s, site),
+        11 => operator_step(network, s, site),
+        12 => timeout_step(network, s, site),
+        _ => stays(site),
+    }
+}

@@ -1,0 +1,99 @@
+// The timeout, on the in-queue, the outputs and the net-input that feeds output 0.
+ghost use mathlib.Core.Path.{_≡_};
+ghost use Prim.Native.Nat.{_≤_};
+ghost use Rattle.model.specs.Places as spec;
+ghost use Rattle.machine.specs.Turns.{ofInputTurn, cuts, cutPhase};
+use crate::inputs::InputTurn;
+use crate::inputs::give_terminators;
+use crate::phases::does_split;
+use crate::phases::is_none;
+use crate::queues::last_lacks;
+use model::InQueue;
+use model::Input;
+use model::Output;
+use model::Phase;
+use model::Terminator;
+
+// Whether a net-input is open, wait, done or last with connection 3 or 4.
+fn can_cut(phase: Phase) -> bool
+    ensures { λ r. ⌜ r ≡ cuts phase ⌝ }
+{
+    match phase {
+        Phase::Free => false,
+        Phase::Seek => false,
+        Phase::Open(c) => does_split(c),
+        Phase::Wait(c) => does_split(c),
+        Phase::Done(c, _) => does_split(c),
+        Phase::Last(c, _) => does_split(c),
+        Phase::Abort(_) => false,
+        Phase::FinAbort(_, _) => false,
+    }
+}
+
+// Its state after that: abort from open or wait, fin-abort from done or last.
+fn cut_phase(phase: Phase) -> Phase
+    ensures { λ r. ⌜ r ≡ cutPhase phase ⌝ }
+{
+    match phase {
+        Phase::Free => phase,
+        Phase::Seek => phase,
+        Phase::Open(c) => Phase::Abort(c),
+        Phase::Wait(c) => Phase::Abort(c),
+        Phase::Done(c, r) => Phase::FinAbort(c, r),
+        Phase::Last(c, r) => Phase::FinAbort(c, r),
+        Phase::Abort(_) => phase,
+        Phase::FinAbort(_, _) => phase,
+    }
+}
+
+// Its remote outputs get abort and are disconnected.
+fn cut_off(input: Input, outputs: [Output; base::OUTPUTS]) -> InputTurn
+    ensures { λ r. ⌜ r ≡ ofInputTurn input outputs (spec.cutOff input outputs (cutPhase (input .phase))) ⌝ }
+{
+    let phase = input.phase;
+    let next = cut_phase(phase);
+    let marked = input.outputs;
+    let local = marked[0];
+    let mut remote = marked;
+    remote[0] = false;
+    let aborts = [Terminator::Abort; base::OUTPUTS];
+    let ended = give_terminators(outputs, remote, aborts);
+    InputTurn {
+        outputs: ended,
+        input: Input {
+            set: input.set,
+            phase: next,
+            outputs: [local, false, false, false, false],
+            packet: input.packet,
+            tries: input.tries,
+        },
+        changed: true,
+    }
+}
+
+// The timeout: ignored unless output 0 waits for a terminator that a split withholds.
+pub(crate) fn time_out(queue: InQueue, outputs: [Output; base::OUTPUTS], input: Input) -> InputTurn
+    requires { ⌜ queue .count ≤ 8 ⌝ }
+    ensures { λ r. ⌜ r ≡ ofInputTurn input outputs (spec.timeout queue outputs input) ⌝ }
+{
+    let own = outputs[0];
+    let terminator = own.terminator;
+    let phase = input.phase;
+    let lacks = last_lacks(queue);
+    let bare = is_none(terminator);
+    if lacks & (own.used & own.head & bare) {
+        if can_cut(phase) {
+            return cut_off(input, outputs);
+        }
+        return InputTurn {
+            outputs,
+            input,
+            changed: false,
+        };
+    }
+    InputTurn {
+        outputs,
+        input,
+        changed: false,
+    }
+}
