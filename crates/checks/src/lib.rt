@@ -1,4 +1,7 @@
 // Tests of values that a caller hands over, against the model's definitions. Every public function takes anything.
 mod network;
+mod range;
 
 pub use network::network_refusal;
+pub use range::event_refusal;
+pub use range::is_in_range;

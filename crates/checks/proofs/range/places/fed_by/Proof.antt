@@ -1,0 +1,23 @@
+use mathlib.Core.Path.{_≡_, refl}
+use borrow.Author.Needs.{needs}
+use Rattle.base.proofs.wide.Reads as wide-reads
+use Rattle.checks.proofs.range.places.fed_by.Statement.{statement}
+use Rattle.checks.proofs.range.places.fed_by.Tie as tie
+use Rattle.checks.proofs.range.places.fed_by.Reads as reads
+use Rattle.checks.proofs.range.places.fed_by.Lts as lts
+use Rattle.checks.proofs.range.phases.is_none.Reads as is-none-reads
+
+-- src/range/places.rt:89:20
+wide-requires : tie.Need-wide-requires
+wide-requires c κs = search needs
+
+-- src/range/places.rt:89:53
+is-none-requires : tie.Need-is-none-requires
+is-none-requires c κs = search needs
+
+-- src/range/places.rt:85:1
+returns : tie.Need-returns
+returns c = rw (c .is-none .ensures, c .before .before .wide .ensures .0) refl
+
+pub fed-by-spec : {M : Type 1} → statement M
+fed-by-spec = tie.close (tie.spec wide-requires is-none-requires returns)

@@ -1,0 +1,87 @@
+use mathlib.Core.Path.{_≡_, refl}
+use borrow.Author.Needs.{needs}
+use Rattle.checks.proofs.range.places.input_ok.Statement.{statement}
+use Rattle.checks.proofs.range.places.input_ok.Tie as tie
+use Rattle.checks.proofs.range.places.input_ok.Reads as reads
+use Rattle.checks.proofs.range.places.input_ok.Lts as lts
+use Rattle.checks.proofs.range.phases.is_aborting.Reads as is-aborting-reads
+use Rattle.checks.proofs.range.phases.is_connected.Reads as is-connected-reads
+use Rattle.checks.proofs.range.phases.is_free.Reads as is-free-reads
+use Rattle.checks.proofs.range.phases.is_splitting.Reads as is-splitting-reads
+use Rattle.checks.proofs.range.places.any_mark.Reads as any-mark-reads
+use Rattle.checks.proofs.range.places.any_remote.Reads as any-remote-reads
+use Rattle.checks.proofs.range.places.marks_ok.Reads as marks-ok-reads
+use Rattle.checks.proofs.range.places.tag_ok.Reads as tag-ok-reads
+use Rattle.checks.proofs.range.places.zero_input.Reads as zero-input-reads
+
+-- src/range/places.rt:119:9
+is-free-requires : tie.Need-is-free-requires
+is-free-requires c κs = search needs
+
+-- src/range/places.rt:120:9
+any-mark-requires : tie.Need-any-mark-requires
+any-mark-requires c κs = search needs
+
+-- src/range/places.rt:121:9
+is-connected-requires : tie.Need-is-connected-requires
+is-connected-requires c κs = search needs
+
+-- src/range/places.rt:122:9
+is-splitting-requires : tie.Need-is-splitting-requires
+is-splitting-requires c κs = search needs
+
+-- src/range/places.rt:124:20
+zero-input-requires : tie.Need-zero-input-requires
+zero-input-requires c κs = search needs
+
+-- src/range/places.rt:124:50
+tag-ok-requires : tie.Need-tag-ok-requires
+tag-ok-requires c κs = search needs
+
+-- src/range/places.rt:126:11
+marks-ok-requires : tie.Need-marks-ok-requires
+marks-ok-requires c κs = search needs
+
+-- src/range/places.rt:127:25
+array-read-result : tie.Need-array-read-result
+array-read-result c = search needs
+
+-- src/range/places.rt:128:13
+is-aborting-requires : tie.Need-is-aborting-requires
+is-aborting-requires c κs = search needs
+
+-- src/range/places.rt:128:48
+any-remote-requires : tie.Need-any-remote-requires
+any-remote-requires c κs = search needs
+
+-- src/range/places.rt:107:1
+returns : tie.Need-returns
+returns c =
+    rw (
+      c .any-remote .ensures,
+      c .before .is-aborting .ensures,
+      c .before .before .marks-ok .ensures,
+      c .before .before .before .tag-ok .ensures,
+      c .before .before .before .before .zero-input .ensures,
+      c .before .before .before .before .before .before .is-splitting .ensures,
+      c .before .before .before .before .before .before .before .is-connected .ensures,
+      c .before .before .before .before .before .before .before .before .any-mark .ensures,
+      c .before .before .before .before .before .before .before .before .before .is-free .ensures,
+    )
+    refl
+
+pub input-ok-spec : {M : Type 1} → statement M
+input-ok-spec =
+    tie.close
+    (tie.spec
+    is-free-requires
+    any-mark-requires
+    is-connected-requires
+    is-splitting-requires
+    zero-input-requires
+    tag-ok-requires
+    marks-ok-requires
+    array-read-result
+    is-aborting-requires
+    any-remote-requires
+    returns)

@@ -1,0 +1,42 @@
+use mathlib.Core.Path.{_≡_, refl}
+use borrow.Author.Needs.{needs}
+use Rattle.base.proofs.wide.Reads as wide-reads
+use Rattle.checks.proofs.range.places.output_ok.Statement.{statement}
+use Rattle.checks.proofs.range.places.output_ok.Tie as tie
+use Rattle.checks.proofs.range.places.output_ok.Reads as reads
+use Rattle.checks.proofs.range.places.output_ok.Lts as lts
+use Rattle.checks.proofs.range.phases.is_keep.Reads as is-keep-reads
+use Rattle.checks.proofs.range.places.tag_ok.Reads as tag-ok-reads
+use Rattle.checks.proofs.range.places.zero_output.Reads as zero-output-reads
+
+-- src/range/places.rt:136:16
+tag-ok-requires : tie.Need-tag-ok-requires
+tag-ok-requires c κs = search needs
+
+-- src/range/places.rt:137:12
+wide-requires : tie.Need-wide-requires
+wide-requires c κs = search needs
+
+-- src/range/places.rt:138:13
+is-keep-requires : tie.Need-is-keep-requires
+is-keep-requires c κs = search needs
+
+-- src/range/places.rt:139:44
+zero-output-requires : tie.Need-zero-output-requires
+zero-output-requires c κs = search needs
+
+-- src/range/places.rt:132:1
+returns : tie.Need-returns
+returns c =
+    rw (
+      c .zero-output .ensures,
+      c .before .before .before .is-keep .ensures,
+      c .before .before .before .before .wide .ensures .0,
+      c .before .before .before .before .before .tag-ok .ensures,
+    )
+    refl
+
+pub output-ok-spec : {M : Type 1} → statement M
+output-ok-spec =
+    tie.close
+    (tie.spec tag-ok-requires wide-requires is-keep-requires zero-output-requires returns)

@@ -1,0 +1,18 @@
+use mathlib.Core.Path.{_≡_, refl}
+use borrow.Author.Needs.{needs}
+use Rattle.checks.proofs.range.places.zero_output.Statement.{statement}
+use Rattle.checks.proofs.range.places.zero_output.Tie as tie
+use Rattle.checks.proofs.range.places.zero_output.Reads as reads
+use Rattle.checks.proofs.range.places.zero_output.Lts as lts
+use Rattle.checks.proofs.range.phases.is_none.Reads as is-none-reads
+
+-- src/range/places.rt:68:11
+is-none-requires : tie.Need-is-none-requires
+is-none-requires c κs = search needs
+
+-- src/range/places.rt:59:1
+returns : tie.Need-returns
+returns c = rw (c .is-none .ensures) refl
+
+pub zero-output-spec : {M : Type 1} → statement M
+zero-output-spec = tie.close (tie.spec is-none-requires returns)

@@ -1,0 +1,47 @@
+use mathlib.Core.Path.{_≡_, refl}
+use borrow.Author.Needs.{needs}
+use Rattle.checks.proofs.range.zero_site.Statement.{statement}
+use Rattle.checks.proofs.range.zero_site.Tie as tie
+use Rattle.checks.proofs.range.zero_site.Reads as reads
+use Rattle.checks.proofs.range.zero_site.Lts as lts
+use Rattle.checks.proofs.range.zero_in_queue.Reads as zero-in-queue-reads
+use Rattle.checks.proofs.range.zero_inputs.Reads as zero-inputs-reads
+use Rattle.checks.proofs.range.zero_out_queue.Reads as zero-out-queue-reads
+use Rattle.checks.proofs.range.zero_outputs.Reads as zero-outputs-reads
+
+-- src/range.rt:169:5
+zero-inputs-requires : tie.Need-zero-inputs-requires
+zero-inputs-requires c κs = search needs
+
+-- src/range.rt:169:27
+zero-outputs-requires : tie.Need-zero-outputs-requires
+zero-outputs-requires c κs = search needs
+
+-- src/range.rt:169:51
+zero-out-queue-requires : tie.Need-zero-out-queue-requires
+zero-out-queue-requires c κs = search needs
+
+-- src/range.rt:169:78
+zero-in-queue-requires : tie.Need-zero-in-queue-requires
+zero-in-queue-requires c κs = search needs
+
+-- src/range.rt:162:1
+returns : tie.Need-returns
+returns c =
+    rw (
+      c .zero-in-queue .ensures,
+      c .before .zero-out-queue .ensures,
+      c .before .before .zero-outputs .ensures,
+      c .before .before .before .zero-inputs .ensures,
+    )
+    refl
+
+pub zero-site-spec : {M : Type 1} → statement M
+zero-site-spec =
+    tie.close
+    (tie.spec
+    zero-inputs-requires
+    zero-outputs-requires
+    zero-out-queue-requires
+    zero-in-queue-requires
+    returns)

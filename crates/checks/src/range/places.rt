@@ -1,0 +1,163 @@
+// The clauses of "in range" about one place: a net-input, a net-output, an entry of a queue. Tests are joined without a
+// branch, in the order of the model's definitions; no value of the state is used as an index.
+ghost use mathlib.Core.Path.{_≡_};
+ghost use Rattle.base.specs.Sizes.{outputCount};
+ghost use Rattle.base.specs.Bools.{implies};
+ghost use Rattle.base.specs.All.{all};
+ghost use Rattle.model.specs.Types.{mark, outOf};
+ghost use Rattle.model.specs.Range as spec;
+use crate::range::phases::is_aborting;
+use crate::range::phases::is_connected;
+use crate::range::phases::is_free;
+use crate::range::phases::is_keep;
+use crate::range::phases::is_none;
+use crate::range::phases::is_splitting;
+use model::InEntry;
+use model::Input;
+use model::OutEntry;
+use model::Output;
+
+// The packet below the counter, the set not empty and within S.
+fn tag_ok(sites: usize, counter: u8, packet: u8, set: u64) -> bool
+    ensures { λ r. ⌜ r ≡ spec.tagOk sites counter packet set ⌝ }
+{
+    (packet < counter) & sets::is_targets(set, sites)
+}
+
+fn any_mark(marks: [bool; base::OUTPUTS]) -> bool
+    ensures { λ r. ⌜ r ≡ spec.anyMark marks ⌝ }
+{
+    let mut found = false;
+    let mut j: usize = 0;
+    while j < base::OUTPUTS {
+        found = found | marks[j];
+        j += 1;
+    }
+    found
+}
+
+fn any_remote(marks: [bool; base::OUTPUTS]) -> bool
+    ensures { λ r. ⌜ r ≡ spec.anyRemote marks ⌝ }
+{
+    let mut found = false;
+    let mut j: usize = 0;
+    while j < base::PORTS {
+        found = found | marks[j + 1];
+        j += 1;
+    }
+    found
+}
+
+pub(crate) fn zero_input(input: Input) -> bool
+    ensures { λ r. ⌜ r ≡ spec.zeroInput input ⌝ }
+{
+    let phase = input.phase;
+    let marks = input.outputs;
+    is_free(phase) & (input.packet == 0) & (input.set == 0) & !any_mark(marks) & (input.tries == 0)
+}
+
+pub(crate) fn zero_output(output: Output) -> bool
+    ensures { λ r. ⌜ r ≡ spec.zeroOutput output ⌝ }
+{
+    let terminator = output.terminator;
+    !output.used
+        & (output.packet == 0)
+        & (output.set == 0)
+        & (output.input == 0)
+        & !output.head
+        & is_none(terminator)
+}
+
+pub(crate) fn zero_out_entry(entry: OutEntry) -> bool
+    ensures { λ r. ⌜ r ≡ spec.zeroOutEntry entry ⌝ }
+{
+    (entry.packet == 0) & (entry.set == 0) & !entry.started
+}
+
+pub(crate) fn zero_in_entry(entry: InEntry) -> bool
+    ensures { λ r. ⌜ r ≡ spec.zeroInEntry entry ⌝ }
+{
+    let terminator = entry.terminator;
+    (entry.packet == 0) & (entry.set == 0) & is_none(terminator)
+}
+
+// In use, fed by net-input i and without a terminator.
+fn fed_by(i: usize, output: Output) -> bool
+    ensures { λ r. ⌜ r ≡ spec.fedBy i output ⌝ }
+{
+    let terminator = output.terminator;
+    output.used & (base::wide(output.input) == i) & is_none(terminator)
+}
+
+// Each output that net-input i marks is fed by it.
+fn marks_ok(outputs: [Output; base::OUTPUTS], i: usize, marks: [bool; base::OUTPUTS]) -> bool
+    ensures { λ r. ⌜ r ≡ all (λ j. implies (mark marks j) (spec.fedBy i (outOf outputs j))) outputCount ⌝ }
+{
+    let mut ok = true;
+    let mut j: usize = 0;
+    while j < base::OUTPUTS {
+        let output = outputs[j];
+        ok = ok & (!marks[j] | fed_by(i, output));
+        j += 1;
+    }
+    ok
+}
+
+// Net-input i, with the outputs of its site.
+pub(crate) fn input_ok(
+    sites: usize,
+    limit: u8,
+    counter: u8,
+    outputs: [Output; base::OUTPUTS],
+    i: usize,
+    input: Input,
+) -> bool
+    ensures { λ r. ⌜ r ≡ spec.inputOk sites limit counter outputs i input ⌝ }
+{
+    let phase = input.phase;
+    let marks = input.outputs;
+    let free = is_free(phase);
+    let any = any_mark(marks);
+    let connected = is_connected(phase);
+    let splitting = is_splitting(phase);
+    (input.tries <= limit)
+        & ((free & zero_input(input)) | (!free & tag_ok(sites, counter, input.packet, input.set)))
+        & ((any & connected) | (!any & !connected))
+        & marks_ok(outputs, i, marks)
+        & (!splitting | marks[0])
+        & (!is_aborting(phase) | (splitting & !any_remote(marks)))
+}
+
+// Net-output j.
+pub(crate) fn output_ok(sites: usize, counter: u8, j: usize, output: Output) -> bool
+    ensures { λ r. ⌜ r ≡ spec.outputOk sites counter j output ⌝ }
+{
+    let terminator = output.terminator;
+    let full = tag_ok(sites, counter, output.packet, output.set)
+        & (base::wide(output.input) < base::INPUTS)
+        & (!is_keep(terminator) | (j == 0));
+    (output.used & full) | (!output.used & zero_output(output))
+}
+
+// Entry m of an out-queue that has `count`.
+pub(crate) fn out_entry_ok(
+    sites: usize,
+    counter: u8,
+    count: usize,
+    m: usize,
+    entry: OutEntry,
+) -> bool
+    ensures { λ r. ⌜ r ≡ spec.outEntryOk sites counter count m entry ⌝ }
+{
+    let held = m < count;
+    let full = tag_ok(sites, counter, entry.packet, entry.set) & (!entry.started | (m == 0));
+    (held & full) | (!held & zero_out_entry(entry))
+}
+
+// Entry m of an in-queue that has `count`.
+pub(crate) fn in_entry_ok(sites: usize, counter: u8, count: usize, m: usize, entry: InEntry) -> bool
+    ensures { λ r. ⌜ r ≡ spec.inEntryOk sites counter count m entry ⌝ }
+{
+    let held = m < count;
+    (held & tag_ok(sites, counter, entry.packet, entry.set)) | (!held & zero_in_entry(entry))
+}
