@@ -154,3 +154,25 @@ module _ {A : Type 0} where
   upto-isum n f k (x ∷ xs) =
       upto-add n (λ j. f j k x) (λ j. isum (f j) (suc k) xs)
       ∙ ap (λ (m : ℕ). upto n (λ j. f j k x) + m) (upto-isum n f (suc k) xs)
+
+-- ---- what a loop that adds up from the front asks: one more, and all
+
+module _ {A : Type 0} where
+  pub sum-next : (f : A → ℕ) (l : List A) (i : ℕ) (d : A) → i < length l → sum f (take (i + 1) l) ≡ sum f (take i l) + f (getD l i d)
+  unfolding sum
+  sum-next f [] i d h = absurd (not-suc-le-zero h)
+  sum-next f (x ∷ xs) zero d h = omega arith
+  sum-next f (x ∷ xs) (suc i) d h = rw suc-add (omega (arith, sum-next f xs i d (le-of-suc-le-suc h)))
+
+  isum-next-from : (f : ℕ → A → ℕ) (k : ℕ) (l : List A) (i : ℕ) (d : A) → i < length l
+      → isum f k (take (i + 1) l) ≡ isum f k (take i l) + f (k + i) (getD l i d)
+  unfolding isum
+  isum-next-from f k [] i d h = absurd (not-suc-le-zero h)
+  isum-next-from f k (x ∷ xs) zero d h = let e : k + 0 ≡ k = omega arith in rw e (omega arith)
+  isum-next-from f k (x ∷ xs) (suc i) d h =
+      let e : k + suc i ≡ suc k + i = omega arith in
+      rw (suc-add, e) (omega (arith, isum-next-from f (suc k) xs i d (le-of-suc-le-suc h)))
+
+  pub isum-next : (f : ℕ → A → ℕ) (l : List A) (i : ℕ) (d : A) → i < length l
+      → isum f 0 (take (i + 1) l) ≡ isum f 0 (take i l) + f i (getD l i d)
+  isum-next f l i d h = rw zero-add at (isum-next-from f 0 l i d h)

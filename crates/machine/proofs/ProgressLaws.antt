@@ -14,8 +14,8 @@ use lib.ListN.{length}
 use Rattle.base.specs.Sizes.{setBits, sendsMost}
 use Rattle.base.specs.Bools.{cond-ok, both, first-of, second-of}
 use Rattle.base.specs.Sums.{upto, upto-last}
-use Rattle.sets.specs.Sets.{sizeIn, size}
-use Rattle.sets.proofs.LawsBit.{bit-small, count-has}
+use Rattle.sets.specs.Sets.{size}
+use Rattle.sets.proofs.LawsBit.{size-most}
 use Rattle.draws.specs.Draws.{drawn, valueAfter}
 use Rattle.draws.proofs.Laws.{value-none, value-more}
 use Rattle.model.specs.declared.State.{State}
@@ -56,11 +56,6 @@ stored-sends r h =
     (leb-true _ _ (c .0), first-of (sendsOk r) 0 8 0 (λ e. omega arith) (e .1) .0)
 
 -- ---- the sizes of the sends' sets, summed
-
-pub size-most : (S X : ℕ) → sizeIn S X ≤ S
-unfolding sizeIn
-size-most zero X = omega arith
-size-most (suc S) X = omega (arith, size-most S X, count-has S X, bit-small X S)
 
 -- of the first k sends
 abbrev pub sizesTo : Run → ℕ → ℕ

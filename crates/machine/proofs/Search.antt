@@ -4,15 +4,13 @@ use mathlib.Core.Bool.{Bool, true, false, cond, not, _&&_, _||_, and-false}
 use mathlib.Core.List.{List, [], _∷_}
 use Prim.Native.Nat.{ℕ, zero, suc, _+_, _-_, _*_, _^_, _≤_, _<_}
 use native.Mathlib.Omega.{arith}
-use native.Mathlib.Nat.{mul-le-mul}
 use native.Mathlib.Numerals.{add-one}
 use borrow.Author.Tests.{ne-eqb, eqb-false, leb-true}
 use lib.Dec.{eqb, leb}
 use lib.ListN.{getD, set, length, drop, drop-of-length-le}
 use lib.Seq.{drop-cons}
 use Rattle.base.specs.Sizes.{portCount}
-use Rattle.base.specs.Bools.{both, cond-ok, count, clash}
-use Rattle.base.specs.Sums.{sum}
+use Rattle.base.specs.Bools.{both, cond-ok, clash}
 use Rattle.sets.specs.Sets.{has, only, minus, size, lowest}
 use Rattle.sets.proofs.Laws.{minus-le}
 use Rattle.sets.proofs.LawsSize.{minus-pos}
@@ -75,10 +73,6 @@ pub done : (n : Network) (s : ℕ) (os : List Output) (Y S t : ℕ) (sets : List
 unfolding gatherFrom
 done n s os Y S t sets l = let e : S - t ≡ 0 = omega arith in rw e
 
--- a place in rows of the network's own S lies within the array
-pub place-below : (s t S m : ℕ) → s < S → t < S → S ≤ m → s * S + t < m * m
-place-below s t S m hs ht hn = let a : (s + 1) * S ≤ m * m = mul-le-mul (omega arith) hn in omega arith
-
 -- ---- what the search finds serves, or is 0; so it is at most 4
 
 pub found-at-most : (ok : ℕ → Bool) (l : List ℕ) → ((p : ℕ) → ok p ≡ true → p ≤ portCount) → firstPort ok l ≤ portCount
@@ -95,17 +89,6 @@ first-chosen-below sets =
   where
     at-most : ℕ → Type 0
     at-most r = r ≤ portCount
-
--- ---- the outputs of a choice, counted from the front
-
-pub counted-step : (sets : List ℕ) (i : ℕ) → i < length sets
-    → sum (λ z. count (not (eqb z 0))) (drop i sets) ≡ count (not (eqb (getD sets i 0) 0)) + sum (λ z. count (not (eqb z 0))) (drop (i + 1) sets)
-unfolding sum
-counted-step sets i h = rw (add-one i, drop-cons sets i 0 h)
-
-pub counted-end : (sets : List ℕ) (i : ℕ) → length sets ≤ i → sum (λ z. count (not (eqb z 0))) (drop i sets) ≡ 0
-unfolding sum
-counted-end sets i h = rw (drop-of-length-le sets h)
 
 -- ---- the router's cases, as its branches come to them
 

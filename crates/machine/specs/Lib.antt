@@ -1,3 +1,4 @@
+pub mod Owing
 pub mod Progress
 pub mod Router
 pub mod Step

@@ -2,6 +2,7 @@
 mod clock;
 mod events;
 mod inputs;
+mod owing;
 mod phases;
 mod places;
 mod queues;

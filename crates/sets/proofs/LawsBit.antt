@@ -76,3 +76,9 @@ pub size-upto : (S X : ℕ) → sizeIn S X ≡ upto S (λ t. bit X t)
 unfolding sizeIn upto
 size-upto zero X = refl
 size-upto (suc S) X = omega (arith, size-upto S X, count-has S X, upto-last S (λ t. bit X t))
+
+-- at most S sites are counted
+pub size-most : (S X : ℕ) → sizeIn S X ≤ S
+unfolding sizeIn
+size-most zero X = omega arith
+size-most (suc S) X = omega (arith, size-most S X, count-has S X, bit-small X S)

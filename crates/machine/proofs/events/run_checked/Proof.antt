@@ -7,7 +7,6 @@ use Rattle.model.proofs.Networks.{valid-ok}
 use Rattle.machine.specs.Step.{stored, ofAct, farAt, fourEnds, Passable}
 use Rattle.machine.proofs.Seen.{range-runnable, valid-bytes, act-passable}
 use Rattle.machine.proofs.Single.{run-stored}
-use native.Mathlib.Omega.{arith}
 use Rattle.machine.proofs.events.run_checked.Statement.{statement}
 use Rattle.machine.proofs.events.run_checked.Tie as tie
 use Rattle.machine.proofs.events.run_checked.Reads as reads

@@ -9,8 +9,6 @@ use Rattle.base.specs.Over.{over, over-none, over-step, length-over}
 use Rattle.model.specs.Types.{outOf, outTerm, mark}
 use Rattle.model.specs.NetInput.{give}
 use Rattle.machine.specs.Turns.{givenAt}
-use native.Mathlib.Omega.{arith}
-use borrow.Author.Needs.{needs}
 use Rattle.machine.proofs.inputs.give_terminators.Statement.{statement}
 use Rattle.machine.proofs.inputs.give_terminators.Tie as tie
 use Rattle.machine.proofs.inputs.give_terminators.Reads as reads

@@ -3,7 +3,6 @@ use native.Mathlib.Omega.{arith}
 use Rattle.model.specs.Types.{mark}
 use Rattle.model.specs.Router.{route}
 use Rattle.machine.proofs.ByNumber.{when-seek, when-open, when-wait, when-done, when-last, when-fin, when-none, choice-back}
-use native.Mathlib.Omega.{arith}
 use borrow.Author.Needs.{needs}
 use Rattle.machine.proofs.inputs.net_input.Statement.{statement}
 use Rattle.machine.proofs.inputs.net_input.Tie as tie

@@ -10,8 +10,6 @@ use Rattle.base.specs.Over.{over, over-none, over-step, length-over}
 use Rattle.model.specs.Types.{outOf}
 use Rattle.model.specs.Router.{isChosen}
 use Rattle.model.specs.NetInput.{occupy, taken}
-use native.Mathlib.Omega.{arith}
-use borrow.Author.Needs.{needs}
 use Rattle.machine.proofs.inputs.occupied.Statement.{statement}
 use Rattle.machine.proofs.inputs.occupied.Tie as tie
 use Rattle.machine.proofs.inputs.occupied.Reads as reads

@@ -4,7 +4,6 @@ use borrow.Author.Tests.{eq-eqb, ne-eqb, lt-ltb, le-ltb, ltb-true}
 use lib.Dec.{ltb}
 use Rattle.base.specs.Bools.{both}
 use Rattle.model.specs.Places.{localOutput}
-use native.Mathlib.Omega.{arith}
 use borrow.Author.Needs.{needs}
 use Rattle.machine.proofs.places.local_output.Statement.{statement}
 use Rattle.machine.proofs.places.local_output.Tie as tie

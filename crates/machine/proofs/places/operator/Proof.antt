@@ -3,7 +3,6 @@ use native.Mathlib.Omega.{arith}
 use borrow.Author.Tests.{eq-eqb, ne-eqb, lt-ltb, le-ltb}
 use Rattle.model.specs.Places.{operate, serviceIf}
 use Rattle.machine.proofs.Work.{same-work}
-use native.Mathlib.Omega.{arith}
 use borrow.Author.Needs.{needs}
 use Rattle.machine.proofs.places.operator.Statement.{statement}
 use Rattle.machine.proofs.places.operator.Tie as tie

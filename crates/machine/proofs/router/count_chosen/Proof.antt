@@ -4,28 +4,27 @@ use mathlib.Core.Bool.{not}
 use Prim.Native.Nat.{ℕ, _+_, _-_, _≤_}
 use native.Mathlib.Omega.{arith}
 use lib.Dec.{eqb}
-use lib.ListN.{length, drop}
+use lib.ListN.{length, take}
+use lib.Seq.{take-all}
 use borrow.Author.Needs.{needs}
 use borrow.Author.Tests.{eq-eqb, ne-eqb}
 use Rattle.base.specs.Bools.{count}
-use Rattle.base.specs.Sums.{sum}
-use Rattle.machine.proofs.Search.{counted-step, counted-end}
-use native.Mathlib.Omega.{arith}
-use borrow.Author.Needs.{needs}
+use Rattle.base.specs.Sums.{sum, sum-next}
 use Rattle.machine.proofs.router.count_chosen.Statement.{statement}
 use Rattle.machine.proofs.router.count_chosen.Tie as tie
 use Rattle.machine.proofs.router.count_chosen.Reads as reads
 use Rattle.machine.proofs.router.count_chosen.Lts as lts
 
 abbrev Inv-loop : tie.InvT-loop
-Inv-loop sets n₀ j₀ n j = (j ≤ 5) × (n ≤ j) × (n + sum (λ z. count (not (eqb z 0))) (drop j sets) ≡ sum (λ z. count (not (eqb z 0))) sets)
+Inv-loop sets n₀ j₀ n j = (j ≤ 5) × (n ≤ j) × (n ≡ sum (λ z. count (not (eqb z 0))) (take j sets))
 
 abbrev μ-loop : tie.MeasureT-loop
 μ-loop sets n₀ j₀ n j = 5 - j
 
 -- src/router.rt:97:5
 loop-holds : tie.Need-loop-holds Inv-loop μ-loop
-loop-holds c = (omega arith, omega arith, omega arith)
+unfolding sum
+loop-holds c = (omega arith, omega arith, refl)
 
 -- src/router.rt:98:12
 mul-if1 : tie.Need-mul-if1 Inv-loop μ-loop
@@ -52,7 +51,7 @@ loop-again : tie.Need-loop-again Inv-loop μ-loop
 loop-again c =
     let l = c .before .before .loop in
     let e : length (c .before .before .before .args .t1) ≡ 5 = search needs in
-    let s = counted-step (c .before .before .before .args .t1) (l .j) (omega arith) in
+    let s = sum-next (λ z. count (not (eqb z 0))) (c .before .before .before .args .t1) (l .j) 0 (omega arith) in
     ⊎-elim (λ w. (omega arith, omega arith, omega (arith, l .inv .2, s, w .1, ap (λ b. count (not b)) (ne-eqb _ 0 (w .0 .taken))))) (λ w. (omega arith, omega arith, omega (arith, l .inv .2, s, w .1, ap (λ b. count (not b)) (eq-eqb _ 0 (w .0 .left))))) (c .if1 .came)
 
 -- src/router.rt:93:1
@@ -60,7 +59,7 @@ returns : tie.Need-returns Inv-loop μ-loop
 returns c =
     let l = c .before .loop in
     let e : length (c .before .before .args .t1) ≡ 5 = search needs in
-    omega (arith, l .inv .2, counted-end (c .before .before .args .t1) (l .j) (omega arith))
+    l .inv .2 ∙ ap (sum (λ z. count (not (eqb z 0)))) (take-all (l .j) (c .before .before .args .t1) (omega arith))
 
 pub count-chosen-spec : {M : Type 1} → statement M
 count-chosen-spec =

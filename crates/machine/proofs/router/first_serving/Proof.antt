@@ -5,8 +5,6 @@ use lib.ListN.{length, drop}
 use borrow.Author.Needs.{needs}
 use Rattle.model.specs.Router.{firstPort, serves}
 use Rattle.machine.proofs.Search.{port-hit, port-miss, port-none}
-use native.Mathlib.Omega.{arith}
-use borrow.Author.Needs.{needs}
 use Rattle.machine.proofs.router.first_serving.Statement.{statement}
 use Rattle.machine.proofs.router.first_serving.Tie as tie
 use Rattle.machine.proofs.router.first_serving.Reads as reads

@@ -9,8 +9,8 @@ use Rattle.sets.specs.Sets.{has}
 use Rattle.model.specs.Network.{listOf}
 use Rattle.model.specs.Router.{firstPort, serves, gatherFrom, gather}
 use Rattle.machine.specs.Router.{ofGathered}
-use Rattle.machine.proofs.Search.{port-hit, port-miss, port-none, is-port, pass-by, no-port, with-port, starts, done, place-below}
-use borrow.Author.Needs.{needs}
+use Rattle.checks.proofs.NetworkLaws.{place-below}
+use Rattle.machine.proofs.Search.{port-hit, port-miss, port-none, is-port, pass-by, no-port, with-port, starts, done}
 use Rattle.machine.proofs.router.gather_outputs.Statement.{statement}
 use Rattle.machine.proofs.router.gather_outputs.Tie as tie
 use Rattle.machine.proofs.router.gather_outputs.Reads as reads

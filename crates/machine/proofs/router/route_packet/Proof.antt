@@ -7,7 +7,6 @@ use borrow.Author.Tests.{eq-eqb, ne-eqb, lt-ltb, not-true, not-false}
 use Rattle.sets.specs.Sets.{only, size, lowest, minus}
 use Rattle.machine.specs.Router.{ofChoice}
 use Rattle.machine.proofs.Search.{own-busy, own-empty, route-single, route-busy, route-every, route-missing, every-of, missing-of, lowest-in, other-in}
-use native.Mathlib.Omega.{arith}
 use borrow.Author.Needs.{needs}
 use Rattle.machine.proofs.router.route_packet.Statement.{statement}
 use Rattle.machine.proofs.router.route_packet.Tie as tie

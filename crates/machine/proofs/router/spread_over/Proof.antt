@@ -3,7 +3,6 @@ use native.Mathlib.Omega.{arith}
 use borrow.Author.Tests.{eq-eqb, ne-eqb}
 use Rattle.machine.specs.Router.{ofChoice}
 use Rattle.machine.proofs.Search.{first-chosen-below, spread-local, spread-single, spread-remote}
-use native.Mathlib.Omega.{arith}
 use borrow.Author.Needs.{needs}
 use Rattle.machine.proofs.router.spread_over.Statement.{statement}
 use Rattle.machine.proofs.router.spread_over.Tie as tie

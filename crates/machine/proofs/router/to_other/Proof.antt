@@ -4,8 +4,8 @@ use borrow.Author.Tests.{eq-eqb, ne-eqb}
 use Rattle.model.specs.Network.{listOf}
 use Rattle.model.specs.Router.{serves, unchosen}
 use Rattle.machine.specs.Router.{ofChoice}
-use Rattle.machine.proofs.Search.{place-below, found-at-most, is-port}
-use native.Mathlib.Omega.{arith}
+use Rattle.checks.proofs.NetworkLaws.{place-below}
+use Rattle.machine.proofs.Search.{found-at-most, is-port}
 use borrow.Author.Needs.{needs}
 use Rattle.machine.proofs.router.to_other.Statement.{statement}
 use Rattle.machine.proofs.router.to_other.Tie as tie

@@ -11,7 +11,6 @@ use Rattle.model.specs.Steps.{setBoth, netOutput, act}
 use Rattle.machine.specs.Step.{ofAct, farAt, flags}
 use Rattle.machine.proofs.Lifts.{input-changed, input-stayed, local-changed, local-stayed, queue-changed, queue-stayed, channel-changed, channel-stayed, work-serviced, work-cleared, work-rested}
 use Rattle.machine.proofs.Ready.{by-flags}
-use native.Mathlib.Omega.{arith}
 use borrow.Author.Needs.{needs}
 use Rattle.machine.proofs.step.input_step.Statement.{statement}
 use Rattle.machine.proofs.step.input_step.Tie as tie

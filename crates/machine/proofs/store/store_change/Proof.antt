@@ -3,7 +3,6 @@ use native.Mathlib.Omega.{arith}
 use native.Mathlib.Numerals.{add-one}
 use borrow.Author.Tests.{lt-ltb}
 use Rattle.machine.specs.Step.{isPass}
-use native.Mathlib.Omega.{arith}
 use borrow.Author.Needs.{needs}
 use Rattle.machine.proofs.store.store_change.Statement.{statement}
 use Rattle.machine.proofs.store.store_change.Tie as tie
