@@ -122,3 +122,12 @@ runR-script = refl
 pub runR-counts : countsOf (playedRun runR) ≡ record { accepted = 1; pairs = 1; serviced = 0; owed = 1 }
 unfolding runR playedRun played script scriptTo marked valueAfter drawn owedPairs sum isum all any over has plus minus sizeIn lowest trailingZeros firstPort gatherFrom gather spread orElse route hears give occupy marksOf seek inState localOutput deliver channelOutput outQueue operate cutAt netOutput act run enqueue
 runR-counts = refl
+
+-- "d may equal the number of draws": run R with its send after the last draw
+pub lateRun : StoredRun
+lateRun = record { network = one 1; seed = 1; draws = 2; count = 1; sends = record { set = 1; draw = 2; site = 0 } ∷ replicate 254 sendD }
+
+pub late-script : script lateRun
+    ≡ record { draw = 0; event = Run 0 8 } ∷ record { draw = 1; event = Run 0 5 } ∷ record { draw = 2; event = Send 0 1 } ∷ []
+unfolding lateRun script scriptTo marked valueAfter drawn
+late-script = refl

@@ -31,7 +31,8 @@ ready there far os j = outOf os j .used && outOf os j .head && hears there far j
 abbrev pub allReady : (ℕ → Bool) → List Bool → Bool
 allReady isReady bs = all (λ j. implies (mark bs j) (isReady j)) outputCount
 
--- the table: "abort, any: abort, abort"; "end: unicast, passthru, handed: end, end; all-remote: end, abort; some-local: end, keep-local"
+-- the table, by what was received, the connection and the output: abort gives abort; end gives the remote outputs end, and output 0 end, but
+-- abort for all-remote and keep-local for some-local
 abbrev pub atZero : ℕ → Terminator → Terminator → Terminator
 atZero j zeroth remote = cond (eqb j 0) zeroth remote
 
@@ -71,7 +72,7 @@ seek T i y os Unserved =
     cond (ltb (y .tries) T) (To (triedAgain y) os)
     (cond (isEmpty os 0) (opened i y os Handed (set unchosen 0 (y .set))) Stay)
 
--- net-input i of site s with the outputs os, by its state; "Net-inputs in free and in abort" have no rule
+-- net-input i of site s with the outputs os, by its state; free and abort have no rule
 unfoldable pub inState : Network → ℕ → ℕ → Input → List Output → (ℕ → Bool) → Phase → Turn Input (List Output)
 inState n s i y os isReady Free = Stay
 -- "Seek: ask the router."
