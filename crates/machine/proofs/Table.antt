@@ -8,7 +8,6 @@ use Rattle.model.specs.declared.Connection.the-variants.{the-data as Connection
 use Rattle.model.specs.declared.Received.the-variants.{the-data as Received, End as gotEnd, Abort as gotAbort}
 use Rattle.model.specs.declared.Terminator.the-variants.{the-data as Terminator, None as tNone, End as tEnd, Abort as tAbort, KeepLocal as tKeep}
 use Rattle.model.specs.Numbers.{connectionNumber, receivedNumber}
-use Rattle.model.specs.Phases.{asTerminator}
 use Rattle.model.specs.NetInput.{table}
 use Rattle.machine.specs.Turns.{tableRow}
 
@@ -23,6 +22,14 @@ connection-below AllRemote = lit< tt
 connection-below SomeLocal = lit< tt
 connection-below Handed = lit< tt
 
+-- the column of the remote outputs, and that of output 0
+abbrev pub remote : List (List Terminator)
+remote =
+    (tNone ∷ tNone ∷ tNone ∷ tNone ∷ tNone ∷ tNone ∷ [])
+    ∷ (tNone ∷ tEnd ∷ tEnd ∷ tEnd ∷ tEnd ∷ tEnd ∷ [])
+    ∷ (tNone ∷ tAbort ∷ tAbort ∷ tAbort ∷ tAbort ∷ tAbort ∷ [])
+    ∷ []
+
 abbrev pub local : List (List Terminator)
 local =
     (tNone ∷ tNone ∷ tNone ∷ tNone ∷ tNone ∷ tNone ∷ [])
@@ -30,20 +37,24 @@ local =
     ∷ (tNone ∷ tAbort ∷ tAbort ∷ tAbort ∷ tAbort ∷ tAbort ∷ [])
     ∷ []
 
-pub right : (r : Received) (c : Connection) → getD (getD local (receivedNumber r) []) (connectionNumber c) tNone ≡ table r c 0
-right gotEnd Unicast = refl
-right gotEnd Passthru = refl
-right gotEnd AllRemote = refl
-right gotEnd SomeLocal = refl
-right gotEnd Handed = refl
-right gotAbort Unicast = refl
-right gotAbort Passthru = refl
-right gotAbort AllRemote = refl
-right gotAbort SomeLocal = refl
-right gotAbort Handed = refl
+-- both are the table's, at each of the ten places
+abbrev place : List (List Terminator) → Received → Connection → Terminator
+place l r c = getD (getD l (receivedNumber r) []) (connectionNumber c) tNone
 
--- the remote outputs get what was received
-pub remotes : (r : Received) (c : Connection) → tableRow r c ≡ table r c 0 ∷ asTerminator r ∷ asTerminator r ∷ asTerminator r ∷ asTerminator r ∷ []
+pub right : (r : Received) (c : Connection) → (place remote r c ≡ table r c 1) × (place local r c ≡ table r c 0)
+right gotEnd Unicast = (refl, refl)
+right gotEnd Passthru = (refl, refl)
+right gotEnd AllRemote = (refl, refl)
+right gotEnd SomeLocal = (refl, refl)
+right gotEnd Handed = (refl, refl)
+right gotAbort Unicast = (refl, refl)
+right gotAbort Passthru = (refl, refl)
+right gotAbort AllRemote = (refl, refl)
+right gotAbort SomeLocal = (refl, refl)
+right gotAbort Handed = (refl, refl)
+
+-- every remote output gets the same
+pub remotes : (r : Received) (c : Connection) → tableRow r c ≡ table r c 0 ∷ table r c 1 ∷ table r c 1 ∷ table r c 1 ∷ table r c 1 ∷ []
 remotes gotEnd Unicast = refl
 remotes gotEnd Passthru = refl
 remotes gotEnd AllRemote = refl

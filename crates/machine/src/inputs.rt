@@ -33,7 +33,35 @@ pub struct InputTurn {
     pub changed: bool,
 }
 
-// The terminator of output 0, by received kind (1 end, 2 abort) and connection (1 to 5). Row and column 0 are not used.
+// The terminator table, its column for the remote outputs and its column for output 0: a row for each received kind (1 end, 2 abort), in it
+// a terminator for each connection (1 to 5). Row 0 and place 0 are not used.
+const REMOTE: [[Terminator; 6]; 3] = [
+    [
+        Terminator::None,
+        Terminator::None,
+        Terminator::None,
+        Terminator::None,
+        Terminator::None,
+        Terminator::None,
+    ],
+    [
+        Terminator::None,
+        Terminator::End,
+        Terminator::End,
+        Terminator::End,
+        Terminator::End,
+        Terminator::End,
+    ],
+    [
+        Terminator::None,
+        Terminator::Abort,
+        Terminator::Abort,
+        Terminator::Abort,
+        Terminator::Abort,
+        Terminator::Abort,
+    ],
+];
+
 const LOCAL: [[Terminator; 6]; 3] = [
     [
         Terminator::None,
@@ -61,6 +89,15 @@ const LOCAL: [[Terminator; 6]; 3] = [
     ],
 ];
 
+// The terminator that the table gives a remote output.
+fn remote_terminator(received: Received, connection: Connection) -> Terminator
+    ensures { λ r. ⌜ r ≡ rule.table received connection 1 ⌝ }
+{
+    let row = model::received_number(received) as usize;
+    let column = model::connection_number(connection) as usize;
+    REMOTE[row][column]
+}
+
 // The terminator that the table gives output 0.
 fn local_terminator(received: Received, connection: Connection) -> Terminator
     ensures { λ r. ⌜ r ≡ rule.table received connection 0 ⌝ }
@@ -74,14 +111,9 @@ fn local_terminator(received: Received, connection: Connection) -> Terminator
 fn terminators(received: Received, connection: Connection) -> [Terminator; base::OUTPUTS]
     ensures { λ r. ⌜ r ≡ tableRow received connection ⌝ }
 {
-    let remote = as_terminator(received);
-    [
-        local_terminator(received, connection),
-        remote,
-        remote,
-        remote,
-        remote,
-    ]
+    let local = local_terminator(received, connection);
+    let remote = remote_terminator(received, connection);
+    [local, remote, remote, remote, remote]
 }
 
 // The terminators that a net-input's state gives the outputs 0 to 4; none in a state without a received terminator.

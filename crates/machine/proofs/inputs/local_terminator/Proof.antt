@@ -38,7 +38,7 @@ index-2-result c = rw (c .connection-number .ensures) (connection-below (c .befo
 
 -- src/inputs.rt:37:1
 returns : tie.Need-returns
-returns c = rw (c .before .before .received-number .ensures, c .before .connection-number .ensures) (right (c .before .before .before .args .received) (c .before .before .before .args .connection))
+returns c = rw (c .before .before .received-number .ensures, c .before .connection-number .ensures) (right (c .before .before .before .args .received) (c .before .before .before .args .connection) .1)
 
 pub local-terminator-spec : {M : Type 1} → statement M
 local-terminator-spec =

@@ -6,19 +6,20 @@ use Rattle.machine.proofs.inputs.terminators.Tie as tie
 use Rattle.machine.proofs.inputs.terminators.Reads as reads
 use Rattle.machine.proofs.inputs.terminators.Lts as lts
 use Rattle.machine.proofs.inputs.local_terminator.Reads as local-terminator-reads
-use Rattle.machine.proofs.phases.as_terminator.Reads as as-terminator-reads
+use Rattle.machine.proofs.inputs.remote_terminator.Reads as remote-terminator-reads
 
--- src/inputs.rt:49:9
-as-terminator-requires : tie.Need-as-terminator-requires
-as-terminator-requires c κs = search needs
-
--- src/inputs.rt:50:6
+-- src/inputs.rt:114:9
 local-terminator-requires : tie.Need-local-terminator-requires
 local-terminator-requires c κs = search needs
 
--- src/inputs.rt:46:1
+-- src/inputs.rt:115:9
+remote-terminator-requires : tie.Need-remote-terminator-requires
+remote-terminator-requires c κs = search needs
+
+-- src/inputs.rt:111:1
 returns : tie.Need-returns
-returns c = rw (c .local-terminator .ensures, c .before .as-terminator .ensures) (sym (remotes (c .before .before .args .received) (c .before .before .args .connection)))
+returns c = rw (c .before .local-terminator .ensures, c .remote-terminator .ensures) (sym (remotes (c .before .before .args .received) (c .before .before .args .connection)))
 
 pub terminators-spec : {M : Type 1} → statement M
-terminators-spec = tie.close (tie.spec as-terminator-requires local-terminator-requires returns)
+terminators-spec =
+    tie.close (tie.spec local-terminator-requires remote-terminator-requires returns)
