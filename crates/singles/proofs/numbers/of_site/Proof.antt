@@ -1,0 +1,82 @@
+-- `numbers::of_site` is safe and ends: each of the five inputs and outputs has its places. Assumes nothing.
+use Prim.Native.Nat.{_≤_, _-_}
+use borrow.Author.Needs.{needs}
+use Rattle.singles.proofs.numbers.of_site.Statement.{statement}
+use Rattle.singles.proofs.numbers.of_site.Tie as tie
+
+abbrev Inv-loop : tie.InvT-loop
+Inv-loop site n₀ inputs outputs i₀ n i = i ≤ 5
+
+abbrev μ-loop : tie.MeasureT-loop
+μ-loop site n₀ inputs outputs i₀ n i = 5 - i
+
+loop-holds : tie.Need-loop-holds Inv-loop μ-loop
+loop-holds c = search needs
+
+mul-put-input : tie.Need-mul-put-input Inv-loop μ-loop
+mul-put-input c = search needs
+
+mul-put-input-2 : tie.Need-mul-put-input-2 Inv-loop μ-loop
+mul-put-input-2 c = search needs
+
+array-copy-out-put-input : tie.Need-array-copy-out-put-input Inv-loop μ-loop
+array-copy-out-put-input c = search needs
+
+put-input-requires : tie.Need-put-input-requires Inv-loop μ-loop
+put-input-requires c κs = search needs
+
+mul-put-output : tie.Need-mul-put-output Inv-loop μ-loop
+mul-put-output c = search needs
+
+add-put-output : tie.Need-add-put-output Inv-loop μ-loop
+add-put-output c = search needs
+
+mul-put-output-2 : tie.Need-mul-put-output-2 Inv-loop μ-loop
+mul-put-output-2 c = search needs
+
+array-copy-out-put-output : tie.Need-array-copy-out-put-output Inv-loop μ-loop
+array-copy-out-put-output c = search needs
+
+put-output-requires : tie.Need-put-output-requires Inv-loop μ-loop
+put-output-requires c κs = search needs
+
+add-i : tie.Need-add-i Inv-loop μ-loop
+add-i c = search needs
+
+loop-less : tie.Need-loop-less Inv-loop μ-loop
+loop-less c = search needs
+
+loop-again : tie.Need-loop-again Inv-loop μ-loop
+loop-again c = search needs
+
+put-out-queue-requires : tie.Need-put-out-queue-requires Inv-loop μ-loop
+put-out-queue-requires c κs = search needs
+
+put-in-queue-requires : tie.Need-put-in-queue-requires Inv-loop μ-loop
+put-in-queue-requires c κs = search needs
+
+returns : tie.Need-returns Inv-loop μ-loop
+returns c = search needs
+
+pub of-site-spec : {M : Type 1} → statement M
+of-site-spec =
+    tie.close
+    (tie.spec
+    Inv-loop
+    μ-loop
+    loop-holds
+    mul-put-input
+    mul-put-input-2
+    array-copy-out-put-input
+    put-input-requires
+    mul-put-output
+    add-put-output
+    mul-put-output-2
+    array-copy-out-put-output
+    put-output-requires
+    add-i
+    loop-less
+    loop-again
+    put-out-queue-requires
+    put-in-queue-requires
+    returns)

@@ -1,0 +1,195 @@
+// Replays single events: reads the cases of docs/TESTING.md ('Single event cases: the text form') from standard input,
+// each with its own network and state, calls SEND or RUN, and writes `refusal answer packet site` and the state handed
+// back. `stdin` and `stdout` are the second model's, by its program `cases`.
+mod line;
+mod numbers;
+mod site;
+mod text;
+
+ghost use mathlib.Core.Path.{_≡_};
+ghost use Prim.Native.Nat.{_%_};
+use model::Network;
+use model::Ran;
+use model::Sent;
+use model::State;
+use site::NUMBERS;
+use text::Cursor;
+use text::PIECE;
+
+struct ReadNetwork {
+    network: Network,
+    cursor: Cursor,
+}
+
+struct ReadState {
+    state: State,
+    cursor: Cursor,
+}
+
+fn short_of(n: u64) -> u16
+    ensures { λ r. ⌜ r ≡ n % 65536 ⌝ }
+{
+    (n % 65536) as u16
+}
+
+fn channels_of(room: &[u64; 256]) -> [u8; 64] {
+    let mut channels = [0u8; 64];
+    let mut i: usize = 0;
+    while i < 64 {
+        channels[i] = site::byte_of(room[i]);
+        i += 1;
+    }
+    channels
+}
+
+fn routes_of(room: &[u64; 256]) -> [u16; 256] {
+    let mut routes = [0u16; 256];
+    let mut i: usize = 0;
+    while i < 256 {
+        routes[i] = short_of(room[i]);
+        i += 1;
+    }
+    routes
+}
+
+fn read_network(piece: &mut [u8; PIECE], from: Cursor) -> ReadNetwork {
+    let sites = text::number(piece, from);
+    let tries = text::number(piece, sites.cursor);
+    let depth = text::number(piece, tries.cursor);
+    let mut room = [0u64; 256];
+    let behind = text::filled(piece, depth.cursor, &mut room);
+    let channels = channels_of(&room);
+    let cursor = text::filled(piece, behind, &mut room);
+    let routes = routes_of(&room);
+    ReadNetwork {
+        network: Network {
+            sites: sites.value as usize,
+            depth: depth.value as usize,
+            tries: site::byte_of(tries.value),
+            channels,
+            routes,
+        },
+        cursor,
+    }
+}
+
+fn read_state(piece: &mut [u8; PIECE], from: Cursor) -> ReadState {
+    let counter = text::number(piece, from);
+    let mut state = machine::empty_state();
+    state.counter = site::byte_of(counter.value);
+    let mut cursor = counter.cursor;
+    let mut s: usize = 0;
+    while s < base::SITES {
+        let mark = text::number(piece, cursor);
+        cursor = mark.cursor;
+        if mark.value == 1 {
+            let mut room = [0u64; NUMBERS];
+            cursor = text::site_numbers(piece, cursor, &mut room);
+            state.sites[s] = site::site_of(&room);
+        }
+        s += 1;
+    }
+    ReadState { state, cursor }
+}
+
+fn put_numbers(refusal: u64, answer: u64, packet: u64, site: u64) {
+    let mut text = [0u8; line::ROOM];
+    let a = line::put(&mut text, 0, refusal);
+    let b = line::put(&mut text, a, answer);
+    let c = line::put(&mut text, b, packet);
+    let d = line::put(&mut text, c, site);
+    line::write(text, d);
+}
+
+fn put_sent(answer: Sent) {
+    match answer {
+        Sent::Accepted(packet) => put_numbers(0, packet as u64, 0, 0),
+        Sent::Refused(n) => put_numbers(n as u64, 0, 0, 0),
+    }
+}
+
+fn put_ran(answer: Ran) {
+    match answer {
+        Ran::Nothing => put_numbers(0, 0, 0, 0),
+        Ran::Changed => put_numbers(0, 1, 0, 0),
+        Ran::Serviced(packet, site) => put_numbers(0, 2, packet as u64, site as u64),
+        Ran::Refused(n) => put_numbers(n as u64, 0, 0, 0),
+    }
+}
+
+fn is_zero(n: &[u64; NUMBERS]) -> bool {
+    let mut i: usize = 0;
+    while i < NUMBERS {
+        if n[i] != 0 {
+            return false;
+        }
+        i += 1;
+    }
+    true
+}
+
+fn put_site(n: &[u64; NUMBERS]) {
+    let mut text = [0u8; line::ROOM];
+    if is_zero(n) {
+        let end = line::put(&mut text, 0, 0);
+        line::write(text, end);
+        return;
+    }
+    let mut end = line::put(&mut text, 0, 1);
+    let mut i: usize = 0;
+    while i < NUMBERS {
+        end = line::put(&mut text, end, n[i]);
+        i += 1;
+    }
+    line::write(text, end);
+}
+
+fn put_state(state: State) {
+    let mut text = [0u8; line::ROOM];
+    let end = line::put(&mut text, 0, state.counter as u64);
+    line::write(text, end);
+    let sites = state.sites;
+    let mut s: usize = 0;
+    while s < base::SITES {
+        let n = numbers::of_site(sites[s]);
+        put_site(&n);
+        s += 1;
+    }
+}
+
+// One case: 1 is RUN, anything else SEND.
+fn replay(piece: &mut [u8; PIECE], from: Cursor) -> Cursor {
+    let net = read_network(piece, from);
+    let start = read_state(piece, net.cursor);
+    let kind = text::number(piece, start.cursor);
+    let site = text::number(piece, kind.cursor);
+    let last = text::number(piece, site.cursor);
+    let network = net.network;
+    let state = start.state;
+    if kind.value == 1 {
+        let ran = machine::run(network, state, site.value as usize, last.value as usize);
+        let answer = ran.answer;
+        put_ran(answer);
+        put_state(ran.state);
+    } else {
+        let sent = machine::send(network, state, site.value as usize, last.value);
+        let answer = sent.answer;
+        put_sent(answer);
+        put_state(sent.state);
+    }
+    last.cursor
+}
+
+fn main() {
+    let mut piece = [0u8; PIECE];
+    let count = text::number(&mut piece, text::start());
+    let mut cursor = count.cursor;
+    let mut left = count.value;
+    while left > 0 {
+        if cursor.over {
+            return;
+        }
+        cursor = replay(&mut piece, cursor);
+        left -= 1;
+    }
+}

@@ -1,0 +1,141 @@
+// The 135 numbers of a site, in the order of docs/TESTING.md (see site.rt).
+ghost use Prim.Native.Nat.{_≤_};
+use crate::site::IN_QUEUE;
+use crate::site::NUMBERS;
+use crate::site::OUT_QUEUE;
+use model::Connection;
+use model::InEntry;
+use model::InQueue;
+use model::Input;
+use model::OutEntry;
+use model::OutQueue;
+use model::Output;
+use model::Phase;
+use model::Received;
+use model::Site;
+
+fn wide(n: u8) -> u64 {
+    n as u64
+}
+
+fn mark(b: bool) -> u64 {
+    b as u64
+}
+
+fn connection_number(c: Connection) -> u64 {
+    let n = model::connection_number(c);
+    wide(n)
+}
+
+fn received_number(r: Received) -> u64 {
+    let n = model::received_number(r);
+    wide(n)
+}
+
+fn phase_connection(phase: Phase) -> u64 {
+    match phase {
+        Phase::Free => 0,
+        Phase::Seek => 0,
+        Phase::Open(c) => connection_number(c),
+        Phase::Wait(c) => connection_number(c),
+        Phase::Done(c, _) => connection_number(c),
+        Phase::Last(c, _) => connection_number(c),
+        Phase::Abort(c) => connection_number(c),
+        Phase::FinAbort(c, _) => connection_number(c),
+    }
+}
+
+fn phase_received(phase: Phase) -> u64 {
+    match phase {
+        Phase::Free => 0,
+        Phase::Seek => 0,
+        Phase::Open(_) => 0,
+        Phase::Wait(_) => 0,
+        Phase::Done(_, r) => received_number(r),
+        Phase::Last(_, r) => received_number(r),
+        Phase::Abort(_) => 0,
+        Phase::FinAbort(_, r) => received_number(r),
+    }
+}
+
+fn put_input(n: &mut [u64; NUMBERS], at: usize, x: Input)
+    requires { ⌜ at ≤ 124 ⌝ }
+{
+    let phase = x.phase;
+    let marks = x.outputs;
+    n[at] = wide(model::state_number(phase));
+    n[at + 1] = phase_connection(phase);
+    n[at + 2] = phase_received(phase);
+    n[at + 3] = wide(x.packet);
+    n[at + 4] = x.set;
+    n[at + 5] = mark(marks[0]);
+    n[at + 6] = mark(marks[1]);
+    n[at + 7] = mark(marks[2]);
+    n[at + 8] = mark(marks[3]);
+    n[at + 9] = mark(marks[4]);
+    n[at + 10] = wide(x.tries);
+}
+
+fn put_output(n: &mut [u64; NUMBERS], at: usize, x: Output)
+    requires { ⌜ at ≤ 129 ⌝ }
+{
+    let terminator = x.terminator;
+    n[at] = mark(x.used);
+    n[at + 1] = wide(x.packet);
+    n[at + 2] = x.set;
+    n[at + 3] = wide(x.input);
+    n[at + 4] = mark(x.head);
+    n[at + 5] = wide(model::terminator_number(terminator));
+}
+
+fn put_out_entry(n: &mut [u64; NUMBERS], at: usize, x: OutEntry)
+    requires { ⌜ at ≤ 132 ⌝ }
+{
+    n[at] = wide(x.packet);
+    n[at + 1] = x.set;
+    n[at + 2] = mark(x.started);
+}
+
+fn put_in_entry(n: &mut [u64; NUMBERS], at: usize, x: InEntry)
+    requires { ⌜ at ≤ 132 ⌝ }
+{
+    let terminator = x.terminator;
+    n[at] = wide(x.packet);
+    n[at + 1] = x.set;
+    n[at + 2] = wide(model::terminator_number(terminator));
+}
+
+fn put_out_queue(n: &mut [u64; NUMBERS], queue: OutQueue) {
+    let entries = queue.entries;
+    n[OUT_QUEUE] = queue.count as u64;
+    let mut m: usize = 0;
+    while m < base::QUEUE {
+        put_out_entry(n, OUT_QUEUE + 1 + 3 * m, entries[m]);
+        m += 1;
+    }
+}
+
+fn put_in_queue(n: &mut [u64; NUMBERS], queue: InQueue) {
+    let entries = queue.entries;
+    n[IN_QUEUE] = queue.count as u64;
+    let mut m: usize = 0;
+    while m < base::QUEUE {
+        put_in_entry(n, IN_QUEUE + 1 + 3 * m, entries[m]);
+        m += 1;
+    }
+}
+
+pub(crate) fn of_site(site: Site) -> [u64; NUMBERS] {
+    let mut n = [0u64; NUMBERS];
+    let inputs = site.inputs;
+    let outputs = site.outputs;
+    let mut i: usize = 0;
+    while i < base::INPUTS {
+        put_input(&mut n, 11 * i, inputs[i]);
+        put_output(&mut n, 55 + 6 * i, outputs[i]);
+        i += 1;
+    }
+    put_out_queue(&mut n, site.outgoing);
+    put_in_queue(&mut n, site.incoming);
+    n
+}
