@@ -27,7 +27,7 @@ abbrev one : ℕ → Network
 one D = record { sites = 1; depth = D; tries = 3; channels = replicate 64 noChannel; routes = replicate 256 0 }
 
 -- "two sites joined on ports 1 both ways, each route port 1"
-abbrev two : Network
+abbrev pub two : Network
 two =
     record {
       sites = 2;
@@ -47,7 +47,7 @@ answers n st [] = []
 answers n st (e ∷ es) = numbers n st e ∷ answers n (after n st e) es
 
 -- codes run at one site
-at : ℕ → List ℕ → List Event
+unfoldable pub at : ℕ → List ℕ → List Event
 at s [] = []
 at s (c ∷ cs) = Run s c ∷ at s cs
 
