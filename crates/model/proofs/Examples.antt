@@ -20,7 +20,7 @@ use Rattle.model.specs.Places.{localOutput, deliver, channelOutput, outQ
 use Rattle.model.specs.Steps.{netOutput, act, run, enqueue}
 use Rattle.model.specs.Events.{Event, Send, Run, ran, sent, runRefusal, sendRefusal, after, final}
 use Rattle.model.specs.Owing.{owedPairs}
-use Rattle.model.specs.Runs.{storedRefusal, marked, scriptTo, script, played, playedRun, countsOf}
+use Rattle.model.specs.Runs.{storedRefusal, marked, scriptTo, script, bookBytes, played, playedRun, countsOf}
 
 -- "one site"
 abbrev one : ℕ → Network
@@ -131,3 +131,33 @@ pub late-script : script lateRun
     ≡ record { draw = 0; event = Run 0 8 } ∷ record { draw = 1; event = Run 0 5 } ∷ record { draw = 2; event = Send 0 1 } ∷ []
 unfolding lateRun script scriptTo marked valueAfter drawn
 late-script = refl
+
+-- ---- a run worked out by hand, draw by draw: one site, T = 1, D = 1, 8 draws, four sends of {0} at draws 0, 0, 4 and 8, of which the second and
+-- the last find the out-queue full. Its codes are 10, 0, 5, 10, 0, 5, 5, 11: draw 7 services packet 0; packet 1 is still owed.
+
+pub handRun : StoredRun
+handRun =
+    record {
+      network = record { sites = 1; depth = 1; tries = 1; channels = replicate 64 noChannel; routes = replicate 256 0 };
+      seed = 539674;
+      draws = 8;
+      count = 4;
+      sends =
+          record { set = 1; draw = 0; site = 0 }
+          ∷ record { set = 1; draw = 0; site = 0 }
+          ∷ record { set = 1; draw = 4; site = 0 }
+          ∷ record { set = 1; draw = 8; site = 0 }
+          ∷ replicate 251 sendD;
+    }
+
+pub played-runs : (storedRefusal runR ∷ storedRefusal handRun ∷ []) ≡ (0 ∷ 0 ∷ [])
+unfolding runR handRun storedRefusal all any
+played-runs = refl
+
+pub hand-book : bookBytes (playedRun handRun .book) ≡ 0 ∷ 7 ∷ 0 ∷ 0 ∷ []
+unfolding handRun bookBytes playedRun played script scriptTo marked valueAfter drawn owedPairs sum isum all any over has plus minus sizeIn lowest trailingZeros firstPort gatherFrom gather spread orElse route hears give occupy marksOf seek inState localOutput deliver channelOutput outQueue operate cutAt netOutput act run enqueue
+hand-book = refl
+
+pub hand-counts : countsOf (playedRun handRun) ≡ record { accepted = 2; pairs = 2; serviced = 1; owed = 1 }
+unfolding handRun playedRun played script scriptTo marked valueAfter drawn owedPairs sum isum all any over has plus minus sizeIn lowest trailingZeros firstPort gatherFrom gather spread orElse route hears give occupy marksOf seek inState localOutput deliver channelOutput outQueue operate cutAt netOutput act run enqueue
+hand-counts = refl
