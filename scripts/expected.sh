@@ -1,6 +1,7 @@
 #!/bin/sh
-# Makes the corpus and its expected outputs anew under target/ and compares them with the committed ones.
-# With --write the committed ones are replaced instead (not corpus/typed, which is typed by hand).
+# Makes the corpus (crates/batch/data, to which corpus leads) and its expected outputs (crates/batch/stdout, for the names
+# of crates/batch/stdin) anew under target/ and compares them with the committed ones. With --write the committed ones are
+# replaced instead (not corpus/typed, which is typed by hand).
 # It needs cargo; nothing is fetched.
 set -eu
 export LC_ALL=C
@@ -8,6 +9,16 @@ root=$(CDPATH= cd -- "$(dirname -- "$0")/.." && pwd)
 export CARGO_TARGET_DIR="$root/target/reference"
 programs="$CARGO_TARGET_DIR/release"
 fresh="$root/target/corpus"
+names="$root/crates/batch/stdin"
+outputs="$root/crates/batch/stdout"
+
+# Every archive of the corpus by name, and then names that lead to no archive and one that is longer than need be.
+list() {
+    (cd "$root/corpus" && ls -- *.bin)
+    printf '%s\n' . missing.bin ''
+    printf 'long-%.0s' $(seq 60)
+    printf '%s\n%s' .bin ./01-run-r.bin
+}
 
 (cd "$root/reference" && cargo build --release --offline --quiet)
 rm -rf "$fresh"
@@ -17,8 +28,9 @@ mkdir -p "$fresh"
 if [ "${1:-}" = --write ]; then
     rm -f "$root"/corpus/*.bin
     cp "$fresh"/*.bin "$root/corpus/"
-    (cd "$root/corpus" && ls -- *.bin | "$programs/batch" --services > expected.txt)
-    echo "expected: written, $(tail -n 1 "$root/corpus/expected.txt")"
+    list > "$names"
+    (cd "$root/corpus" && "$programs/batch" --services < "$names" > "$outputs")
+    echo "expected: written, $(tail -n 1 "$outputs")"
     exit 0
 fi
 
@@ -38,11 +50,12 @@ for file in "$root"/corpus/*.bin; do
     [ -e "$fresh/$name" ] || differs "corpus/$name has no recipe"
 done
 
-# The committed outputs are those of the second model.
-(cd "$root/corpus" && ls -- *.bin | "$programs/batch" --services) > "$root/target/expected.txt"
-if ! cmp -s "$root/target/expected.txt" "$root/corpus/expected.txt"; then
-    differs "corpus/expected.txt is not what the second model prints:"
-    diff "$root/corpus/expected.txt" "$root/target/expected.txt" | head -n 20 >&2 || true
+# The committed outputs are those of the second model, for all of them.
+list | cmp -s - "$names" || differs "crates/batch/stdin is not the corpus's names and the odd ones"
+(cd "$root/corpus" && "$programs/batch" --services < "$names") > "$root/target/expected.txt"
+if ! cmp -s "$root/target/expected.txt" "$outputs"; then
+    differs "crates/batch/stdout is not what the second model prints:"
+    diff "$outputs" "$root/target/expected.txt" | head -n 20 >&2 || true
 fi
 
 # The outputs typed from document 01 are those of the second model.
@@ -56,4 +69,4 @@ for file in "$root"/corpus/typed/*.out; do
 done
 
 [ "$bad" = 0 ] || exit 1
-echo "expected: $(tail -n 1 "$root/corpus/expected.txt"), $typed typed by hand"
+echo "expected: $(tail -n 1 "$outputs"), $typed typed by hand"

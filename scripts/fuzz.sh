@@ -2,8 +2,8 @@
 # fuzz.sh [SECONDS] [SEED]: plays fresh archives, a third of them damaged, through the product and the second
 # model, and stops at the first difference. Not part of the gate.
 # The archive that differs stays under target/fuzz/. The product's programs are target/bin/play and
-# target/bin/batch, or those that FENNQUALO_PLAY and FENNQUALO_BATCH name, as seen from the root; with batch it
-# is much faster.
+# target/bin/batch (run as scripts/program.sh says), or those that FENNQUALO_PLAY and FENNQUALO_BATCH name, as seen
+# from the root; with batch it is much faster.
 # Exit: 0 no difference, 1 a difference, 2 nothing compared.
 set -eu
 export LC_ALL=C
@@ -12,26 +12,27 @@ seed=${2:-$(date +%s)}
 each=2000
 root=$(CDPATH= cd -- "$(dirname -- "$0")/.." && pwd)
 cd "$root"
-play=$(realpath -m -- "${FENNQUALO_PLAY:-target/bin/play}")
-batch=$(realpath -m -- "${FENNQUALO_BATCH:-target/bin/batch}")
+. "$root/scripts/program.sh"
+play=$(from_root "${FENNQUALO_PLAY:-target/bin/play}")
+batch=$(from_root "${FENNQUALO_BATCH:-target/bin/batch}")
 export CARGO_TARGET_DIR="$root/target/reference"
 second="$CARGO_TARGET_DIR/release"
 folder="$root/target/fuzz"
 
-if [ ! -x "$play" ] && [ ! -x "$batch" ]; then
-    echo "fuzz: the product's play is not there ($play), nor its batch ($batch): nothing is compared yet." >&2
+if ! can_run "$play" && ! can_run "$batch"; then
+    echo "fuzz: neither the product's play ($play) nor its batch can be run: $why; nothing is compared." >&2
     exit 2
 fi
 (cd "$root/reference" && cargo build --release --offline --quiet)
 
 # Prints what the product says of the archives named on standard input, in the form of batch --services.
 product() {
-    if [ -x "$batch" ]; then
-        "$batch" --services | sed '$d'
+    if can_run "$batch"; then
+        run "$batch" --services | sed '$d'
         return
     fi
     while read -r name; do
-        "$play" < "$name" | sed "\$s|^|$name: |"
+        run "$play" < "$name" | sed "\$s|^|$name: |"
     done
 }
 

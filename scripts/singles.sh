@@ -1,6 +1,7 @@
 #!/bin/sh
 # Single events through the product and the second model: makes COUNT cases (3000) from SEED (1) with the second model,
-# replays them with the proved program target/bin/singles and compares what both print, byte by byte.
+# replays them with the proved program target/bin/singles (run as scripts/program.sh says) and compares what both print,
+# byte by byte.
 # Prints one line; fails at any difference, and leaves the texts in target/singles/. Run it after `rt ci` or `rt check`.
 # usage: scripts/singles.sh [COUNT] [SEED]. It needs cargo; nothing is fetched.
 set -eu
@@ -16,10 +17,15 @@ if [ ! -x "$program" ]; then
     echo "singles: target/bin/singles is missing: 'rt check singles' makes it" >&2
     exit 1
 fi
+. "$root/scripts/program.sh"
+if ! can_run "$program"; then
+    echo "singles: $why" >&2
+    exit 1
+fi
 (cd "$root/reference" && cargo build --release --offline --quiet)
 mkdir -p "$texts"
 "$CARGO_TARGET_DIR/release/cases" "$seed" "$count" "$texts/cases" "$texts/expected" > "$texts/counters"
-if ! "$program" < "$texts/cases" > "$texts/printed"; then
+if ! run "$program" < "$texts/cases" > "$texts/printed"; then
     echo "singles: target/bin/singles failed on target/singles/cases" >&2
     exit 1
 fi

@@ -176,6 +176,26 @@ fn writers() {
     show_same(b"room as it was", check::same(&room, &nines));
 }
 
+// Run R with a depth and a number of sites, as the writer judges it.
+fn show_limits(label: &[u8], depth: usize, sites: usize) {
+    let b = R;
+    let d = archive::read(&b);
+    let mut run = d.run;
+    let mut network = run.network;
+    network.depth = depth;
+    network.sites = sites;
+    run.network = network;
+    let mut room = [9u8; 24];
+    show_written(label, archive::write(run, &mut room));
+}
+
+// The writer's own limits, each alone.
+fn limits() {
+    show_limits(b"written with D 8", 8, 1);
+    show_limits(b"written with D 9", 9, 1);
+    show_limits(b"written with S 17", 1, 17);
+}
+
 // The largest archive, read, written again, and one byte short of room; and with 17 for its 16 sites.
 fn largest(b: &[u8]) {
     show(b"bytes", b.len() as u64);
@@ -202,6 +222,7 @@ fn main() {
     bodies();
     rooms();
     writers();
+    limits();
     let mut buffer = io::large_buffer();
     let n = io::read_full(0, &mut buffer);
     largest(&buffer[..n]);

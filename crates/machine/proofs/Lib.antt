@@ -1,7 +1,11 @@
 -- Laws that belong to no one function.
 pub mod ByNumber
 pub mod Cut
+pub mod LentClock
 pub mod Lifts
+pub mod PlayerAnswers
+pub mod PlayerRoom
+pub mod PlayerWays
 pub mod Popped
 pub mod ProgressLaws
 pub mod ProgressLawsArms
@@ -9,8 +13,10 @@ pub mod ProgressLawsBook
 pub mod ProgressLawsEvents
 pub mod ProgressLawsOrder
 pub mod Ready
+pub mod Resting
 pub mod Search
 pub mod Seen
 pub mod Single
 pub mod Table
+pub mod Waiting
 pub mod Work

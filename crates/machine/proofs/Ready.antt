@@ -1,10 +1,11 @@
 -- Readiness as the code computes it, for the net-input's rule, and the two kinds of net-output. Assumes nothing.
-use Prim.Native.Nat.{ℕ, zero, suc, _+_, _-_, _<_}
-use mathlib.Core.Path.{_≡_, refl, ap, ap₂}
+use Prim.Native.Nat.{ℕ, zero, suc, _+_, _-_, _*_, _<_}
+use mathlib.Core.Path.{_≡_, refl, ap, ap₂, _∙_}
 use mathlib.Core.List.{List, [], _∷_}
 use mathlib.Core.Bool.{Bool, true, false, cond, _&&_}
 use native.Mathlib.Omega.{arith}
 use native.Mathlib.Numerals.{add-one}
+use lib.ListN.{getD}
 use Rattle.base.specs.Bools.{implies}
 use Rattle.base.specs.All.{all, all-same}
 use Rattle.model.specs.declared.Phase.the-variants.{the-data as Phase, Free, Seek, Open, Wait, Done, Last, Abort as Aborted, FinAbort}
@@ -18,7 +19,7 @@ use Rattle.model.specs.Phases.{listening}
 use Rattle.model.specs.NetInput.{allReady, hears, ready, inState}
 use Rattle.model.specs.Places.{localOutput, channelOutput}
 use Rattle.model.specs.Steps.{ownTurn, passTurn, netOutput}
-use Rattle.machine.specs.Step.{flags}
+use Rattle.machine.specs.Step.{flags, fourFlags, isEnd}
 
 pub flag-at : (f : ℕ → Bool) (j : ℕ) → j < 5 → mark (flags f) j ≡ f j
 flag-at f zero h = refl
@@ -28,7 +29,7 @@ flag-at f (suc (suc (suc zero))) h = refl
 flag-at f (suc (suc (suc (suc zero)))) h = refl
 flag-at f (suc (suc (suc (suc (suc j))))) h = absurd (omega arith)
 
-all-flags : (f : ℕ → Bool) (bs : List Bool) → allReady (mark (flags f)) bs ≡ allReady f bs
+pub all-flags : (f : ℕ → Bool) (bs : List Bool) → allReady (mark (flags f)) bs ≡ allReady f bs
 all-flags f bs = all-same (λ j. implies (mark bs j) (mark (flags f) j)) (λ j. implies (mark bs j) (f j)) 5 (λ j h. ap (λ (b : Bool). implies (mark bs j) b) (flag-at f j h))
 
 pub by-flags : (n : Network) (s i : ℕ) (y : Input) (os : List Output) (f : ℕ → Bool) (ph : Phase) → inState n s i y os (mark (flags f)) ph ≡ inState n s i y os f ph
@@ -54,6 +55,32 @@ heard-at there far os j = refl
 pub local-at : (there : ℕ → Bool) (far : ℕ → Input) (os : List Output) → (outOf os 0 .used && outOf os 0 .head && true) ≡ ready there far os 0
 unfolding hears
 local-at there far os = refl
+
+-- ---- two ways to tell which outputs 1 to 4 have a channel
+
+pub ready-there : (f g : ℕ → Bool) (far : ℕ → Input) (os : List Output) → ((j : ℕ) → j < 4 → f j ≡ g j) → (j : ℕ) → j < 5
+    → ready f far os j ≡ ready g far os j
+unfolding hears
+ready-there f g far os same zero h = refl
+ready-there f g far os same (suc j) h =
+    ap (λ (b : Bool). outOf os (suc j) .used && outOf os (suc j) .head && (b && listening (far j .phase))) (same j (omega arith))
+
+pub flags-there : (f g : ℕ → Bool) (far : ℕ → Input) (os : List Output) → ((j : ℕ) → j < 4 → f j ≡ g j)
+    → flags (ready f far os) ≡ flags (ready g far os)
+flags-there f g far os same =
+    let at = ready-there f g far os same in
+    five (at 0 (omega arith)) (at 1 (omega arith)) (at 2 (omega arith)) (at 3 (omega arith)) (at 4 (omega arith))
+
+-- by the channels' bytes
+pub ends-read : (n : Network) (s a b c d : ℕ) → a ≡ getD (n .channels) (4 * s) 0 → b ≡ getD (n .channels) (4 * s + 1) 0
+    → c ≡ getD (n .channels) (4 * s + 2) 0 → d ≡ getD (n .channels) (4 * s + 3) 0 → (j : ℕ) → j < 4
+    → mark (fourFlags (λ k. isEnd (getD (a ∷ b ∷ c ∷ d ∷ []) k 0))) j ≡ joined n s j
+ends-read n s a b c d ha hb hc hd zero h =
+    let k : 4 * s ≡ 4 * s + 0 = omega arith in ap isEnd (ha ∙ ap (λ (i : ℕ). getD (n .channels) i 0) k)
+ends-read n s a b c d ha hb hc hd (suc zero) h = ap isEnd hb
+ends-read n s a b c d ha hb hc hd (suc (suc zero)) h = ap isEnd hc
+ends-read n s a b c d ha hb hc hd (suc (suc (suc zero))) h = ap isEnd hd
+ends-read n s a b c d ha hb hc hd (suc (suc (suc (suc j)))) h = absurd (omega arith)
 
 -- ---- net-output 0, and j for any other
 

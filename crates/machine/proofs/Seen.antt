@@ -21,7 +21,7 @@ use Rattle.model.specs.declared.Network.{Network}
 use Rattle.model.specs.Types.{inAt, outAt, siteAt, mark, outOf, setIn, setOut, withInQueue, withOutQueue}
 use Rattle.model.specs.Numbers.{stateNumber}
 use Rattle.model.specs.Network.{joined, channel, networkRefusal}
-use Rattle.model.specs.Phases.{isFree, connected, splitting, aborting, isNone}
+use Rattle.model.specs.Phases.{isFree, listening, connected, splitting, aborting, isNone}
 use Rattle.model.specs.Range.{inputOk, outputOk, outQueueOk, inQueueOk, siteOk, placeOk, inRange, tagOk, zeroInput, zeroOutput, anyMark, anyRemote, fedBy}
 use Rattle.model.specs.NetInput.{Turn, Stay, To, allReady, hears, ready, inState, netInput}
 use Rattle.model.specs.Places.{Work, Rest, Cleared, Service, localOutput, deliver, channelOutput, outQueue, operator, timeout}
@@ -30,13 +30,33 @@ use Rattle.model.proofs.Networks.{Valid, valid-ok}
 use Rattle.machine.specs.declared.step.Act.the-variants.{Idle as didNothing, Own as didOwn, Serve as didServe, Pass as didPass}
 use Rattle.machine.specs.Step.{ofAct, Runnable, Bytes, Passable, isPass, farAt, fourEnds}
 
--- ---- two ways to see the far ends that agree on the four channels
+-- ---- an output without a channel does nothing
 
-module _ (n : Network) (s : ℕ) (x : Site) (f g : ℕ → Input) (same : (j : ℕ) → j < 4 → f j ≡ g j) where
+unjoined : (o : Output) (y : Input) → channelOutput false o y ≡ Stay
+unfolding channelOutput deliver
+unjoined o y =
+    cond-ok (λ (t : Turn Output Input). t ≡ Stay) (o .used) _ _
+    (λ a. cond-ok (λ (t : Turn Output Input). t ≡ Stay) (o .head) _ _ (λ b. told (o .terminator)) (λ b. refl)) (λ a. refl)
+  where
+    told : (k : Terminator) → deliver false y k ≡ Stay
+    told tNone = refl
+    told tEnd = refl
+    told tAbort = refl
+    told tKeep = refl
+
+-- ---- two ways to see the far ends that agree on the channels that there are
+
+module _ (n : Network) (s : ℕ) (x : Site) (f g : ℕ → Input)
+    (same : (j : ℕ) → j < 4 → joined n s j ≡ true → f j ≡ g j) where
   ready-same : (os : List Output) (j : ℕ) → j < 5 → ready (joined n s) f os j ≡ ready (joined n s) g os j
   unfolding hears
   ready-same os zero h = refl
-  ready-same os (suc j) h = rw (same j (omega arith)) refl
+  ready-same os (suc j) h =
+      ap (λ (b : Bool). outOf os (suc j) .used && outOf os (suc j) .head && b) (go (joined n s j) refl)
+    where
+      go : (b : Bool) → joined n s j ≡ b → (b && listening (f j .phase)) ≡ (b && listening (g j .phase))
+      go true e = ap (λ (y : Input). listening (y .phase)) (same j (omega arith) e)
+      go false e = refl
 
   all-same-ready : (os : List Output) (bs : List Bool) → allReady (ready (joined n s) f os) bs ≡ allReady (ready (joined n s) g os) bs
   all-same-ready os bs = all-same (λ j. implies (mark bs j) (ready (joined n s) f os j)) (λ j. implies (mark bs j) (ready (joined n s) g os j)) 5 (λ j h. ap (λ (b : Bool). implies (mark bs j) b) (ready-same os j h))
@@ -55,7 +75,14 @@ module _ (n : Network) (s : ℕ) (x : Site) (f g : ℕ → Input) (same : (j : �
   output-same : (j : ℕ) → j < 5 → netOutput n s x f j ≡ netOutput n s x g j
   unfolding netOutput
   output-same zero h = refl
-  output-same (suc j) h = rw (same j (omega arith)) refl
+  output-same (suc j) h = ap (passTurn x j) (go (joined n s j) refl)
+    where
+      o : Output
+      o = outAt x (suc j)
+
+      go : (b : Bool) → joined n s j ≡ b → channelOutput b o (f j) ≡ channelOutput b o (g j)
+      go true e = ap (channelOutput true o) (same j (omega arith) e)
+      go false e = unjoined o (f j) ∙ sym (unjoined o (g j))
 
   pub act-same : (code : ℕ) → act n s x f code ≡ act n s x g code
   unfolding act
@@ -75,18 +102,6 @@ four-at f (suc (suc (suc zero))) h = refl
 four-at f (suc (suc (suc (suc j)))) h = absurd (omega arith)
 
 -- ---- what is passed on goes along a channel of the network
-
-unjoined : (o : Output) (y : Input) → channelOutput false o y ≡ Stay
-unfolding channelOutput deliver
-unjoined o y =
-    cond-ok (λ (t : Turn Output Input). t ≡ Stay) (o .used) _ _
-    (λ a. cond-ok (λ (t : Turn Output Input). t ≡ Stay) (o .head) _ _ (λ b. told (o .terminator)) (λ b. refl)) (λ a. refl)
-  where
-    told : (k : Terminator) → deliver false y k ≡ Stay
-    told tNone = refl
-    told tEnd = refl
-    told tAbort = refl
-    told tKeep = refl
 
 module _ (n : Network) (val : Valid n) (s : ℕ) (x : Site) (hs : s < n .sites) where
   abbrev PassOk : Act → Type 0

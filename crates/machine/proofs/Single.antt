@@ -15,7 +15,7 @@ use Rattle.model.specs.declared.AfterSend.{AfterSend}
 use Rattle.model.specs.declared.Sent.the-variants.{Refused as SendRefused}
 use Rattle.model.specs.declared.Ran.the-variants.{Refused as RunRefused}
 use Rattle.model.specs.Types.{siteAt}
-use Rattle.model.specs.Network.{networkRefusal}
+use Rattle.model.specs.Network.{networkRefusal, joined}
 use Rattle.model.specs.Range.{inRange}
 use Rattle.model.specs.Steps.{Act, Idle, Own, Serve, Pass, patch, act, ends, run}
 use Rattle.model.specs.Events.{refusalThen, runFault, sendFault, runRefusal, sendRefusal, runs, sends, ran, sent}
@@ -87,5 +87,14 @@ pub run-stored : (n : Network) (st : State) (s code : ℕ)
     → stored st s (ofAct n s (siteAt (st .sites) s) (act n s (siteAt (st .sites) s) (farAt (fourEnds (ends n (st .sites) s))) code)) ≡ runs n st s code
 unfolding run
 run-stored n st s code =
-    ap (λ (a : Act). stored st s (ofAct n s (siteAt (st .sites) s) a)) (act-same n s (siteAt (st .sites) s) (farAt (fourEnds (ends n (st .sites) s))) (ends n (st .sites) s) (four-at (ends n (st .sites) s)) code)
+    ap (λ (a : Act). stored st s (ofAct n s (siteAt (st .sites) s) a)) (act-same n s (siteAt (st .sites) s) (farAt (fourEnds (ends n (st .sites) s))) (ends n (st .sites) s) (λ j h e. four-at (ends n (st .sites) s) j h) code)
+    ∙ stored-is n st s (act n s (siteAt (st .sites) s) (ends n (st .sites) s) code)
+
+-- the same with other inputs in the places of channels that there are not
+pub run-heard : (n : Network) (st : State) (s code : ℕ) (far : List Input)
+    → ((j : ℕ) → j < 4 → joined n s j ≡ true → farAt far j ≡ ends n (st .sites) s j)
+    → stored st s (ofAct n s (siteAt (st .sites) s) (act n s (siteAt (st .sites) s) (farAt far) code)) ≡ runs n st s code
+unfolding run
+run-heard n st s code far same =
+    ap (λ (a : Act). stored st s (ofAct n s (siteAt (st .sites) s) a)) (act-same n s (siteAt (st .sites) s) (farAt far) (ends n (st .sites) s) same code)
     ∙ stored-is n st s (act n s (siteAt (st .sites) s) (ends n (st .sites) s) code)

@@ -1,4 +1,6 @@
+pub mod Idle
 pub mod Owing
+pub mod Play
 pub mod Progress
 pub mod Router
 pub mod Step

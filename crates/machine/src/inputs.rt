@@ -227,7 +227,7 @@ fn marks(sets: [u64; base::OUTPUTS]) -> [bool; base::OUTPUTS]
 }
 
 // Whether all outputs that are marked are ready.
-fn all_ready(ready: [bool; base::OUTPUTS], marks: [bool; base::OUTPUTS]) -> bool
+pub(crate) fn all_ready(ready: [bool; base::OUTPUTS], marks: [bool; base::OUTPUTS]) -> bool
     ensures { λ r. ⌜ r ≡ rule.allReady (spec.mark ready) marks ⌝ }
 {
     (!marks[0] | ready[0])

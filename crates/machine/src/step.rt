@@ -3,13 +3,14 @@ ghost use mathlib.Core.Path.{_≡_};
 ghost use Prim.Native.Nat.{_<_, _≤_};
 ghost use mathlib.Core.Bool.{true, _&&_};
 ghost use Prim.Native.Nat.{_+_};
+ghost use lib.ListN.{getD};
 ghost use Rattle.model.specs.Phases.{listening};
 ghost use Rattle.model.specs.Types as spec;
 ghost use Rattle.model.specs.Network as net;
 ghost use Rattle.model.specs.NetInput as rule;
 ghost use Rattle.model.specs.Places as places;
 ghost use Rattle.model.specs.Steps as steps;
-ghost use Rattle.machine.specs.Step.{ofAct, unchanged, changed, farAt, flags, Runnable};
+ghost use Rattle.machine.specs.Step.{ofAct, unchanged, changed, farAt, flags, fourFlags, isEnd, Runnable};
 use crate::inputs::net_input;
 use crate::phases::free_input;
 use crate::phases::is_listening;
@@ -77,33 +78,41 @@ fn is_ready(output: Output) -> bool
     output.used & output.head & true
 }
 
-// Whether output j + 1 is ready: its channel's input is open or abort too.
-fn is_heard(network: Network, s: usize, j: usize, output: Output, input: Input) -> bool
-    requires { ⌜ (s < 16) × (j < 4) ⌝ }
-    ensures { λ r. ⌜ r ≡ (output .used && output .head && (net.joined network s j && listening (input .phase))) ⌝ }
+// Which of four channels there are, by their bytes.
+pub(crate) fn are_ends(bytes: [u8; base::PORTS]) -> [bool; base::PORTS]
+    ensures { λ r. ⌜ r ≡ fourFlags (λ j. isEnd (getD bytes j 0)) ⌝ }
+{
+    [
+        bytes[0] != base::NO_CHANNEL,
+        bytes[1] != base::NO_CHANNEL,
+        bytes[2] != base::NO_CHANNEL,
+        bytes[3] != base::NO_CHANNEL,
+    ]
+}
+
+// Whether an output 1 to 4 is ready: it has a channel, and the input at its end is open or abort.
+fn is_heard(there: bool, output: Output, input: Input) -> bool
+    ensures { λ r. ⌜ r ≡ (output .used && output .head && (there && listening (input .phase))) ⌝ }
 {
     let phase = input.phase;
-    let there = has_channel(network, s, j);
     let open = is_listening(phase);
     output.used & output.head & (there & open)
 }
 
-// Which outputs of site s are ready.
-fn ready_outputs(
-    network: Network,
-    s: usize,
+// Which outputs are ready; there tells which of 1 to 4 have a channel, far has the inputs at their ends.
+pub(crate) fn ready_outputs(
+    there: [bool; base::PORTS],
     far: [Input; base::PORTS],
     outputs: [Output; base::OUTPUTS],
 ) -> [bool; base::OUTPUTS]
-    requires { ⌜ s < 16 ⌝ }
-    ensures { λ r. ⌜ r ≡ flags (rule.ready (net.joined network s) (farAt far) outputs) ⌝ }
+    ensures { λ r. ⌜ r ≡ flags (rule.ready (spec.mark there) (farAt far) outputs) ⌝ }
 {
     [
         is_ready(outputs[0]),
-        is_heard(network, s, 0, outputs[1], far[0]),
-        is_heard(network, s, 1, outputs[2], far[1]),
-        is_heard(network, s, 2, outputs[3], far[2]),
-        is_heard(network, s, 3, outputs[4], far[3]),
+        is_heard(there[0], outputs[1], far[0]),
+        is_heard(there[1], outputs[2], far[1]),
+        is_heard(there[2], outputs[3], far[2]),
+        is_heard(there[3], outputs[4], far[3]),
     ]
 }
 
@@ -114,7 +123,13 @@ fn input_step(network: Network, s: usize, site: Site, far: [Input; base::PORTS],
 {
     let input = site.inputs[i];
     let outputs = site.outputs;
-    let ready = ready_outputs(network, s, far, outputs);
+    let there = are_ends([
+        network.channels[4 * s],
+        network.channels[4 * s + 1],
+        network.channels[4 * s + 2],
+        network.channels[4 * s + 3],
+    ]);
+    let ready = ready_outputs(there, far, outputs);
     let turn = net_input(network, s, i, input, outputs, ready);
     let after = turn.outputs;
     let now = turn.input;
@@ -161,7 +176,7 @@ fn channel_step(
     let output = site.outputs[j + 1];
     let input = far[j];
     let byte = network.channels[4 * s + j];
-    let turn = channel_output(has_channel(network, s, j), output, input);
+    let turn = channel_output(byte != base::NO_CHANNEL, output, input);
     let now = turn.output;
     let after = turn.input;
     if turn.changed {

@@ -1,0 +1,57 @@
+//! The refusals of an archive, by name; document 01's number is their number here too.
+
+use std::error::Error;
+use std::fmt::{self, Display, Formatter};
+
+/// Why an archive is turned down.
+#[derive(Clone, Copy, PartialEq, Eq, PartialOrd, Ord, Hash, Debug)]
+#[repr(u8)]
+pub enum Refusal {
+    Length = 1,
+    Version = 2,
+    Limits = 3,
+    Seed = 4,
+    Size = 5,
+    Channel = 6,
+    Route = 7,
+    Send = 8,
+    Room = 14,
+}
+
+/// Each refusal in words.
+const WORDS: [(Refusal, &str); 9] = [
+    (Refusal::Length, "fewer than 13 bytes, or the length field is not the number of bytes"),
+    (Refusal::Version, "the version is not 1"),
+    (Refusal::Limits, "sites, limit of tries or depth of queues outside their limits"),
+    (Refusal::Seed, "the seed is 0"),
+    (Refusal::Size, "the length does not fit the numbers of sites and sends"),
+    (Refusal::Channel, "a channel byte that names no input, or an input fed twice"),
+    (Refusal::Route, "a route not as described"),
+    (Refusal::Send, "a send's site, set or draw number impossible, or draw numbers falling"),
+    (Refusal::Room, "a lent slice is too short"),
+];
+
+impl Refusal {
+    /// The number of document 01.
+    pub fn number(self) -> u8 {
+        self as u8
+    }
+
+    /// The library's answer as a result: it is proved to be 0 or one of these numbers.
+    pub(crate) fn check(answer: u8) -> Result<(), Refusal> {
+        if answer == 0 {
+            return Ok(());
+        }
+        let found = WORDS.iter().find(|(refusal, _)| refusal.number() == answer);
+        Err(found.expect("the library answers 0 or a refusal of its table").0)
+    }
+}
+
+impl Display for Refusal {
+    fn fmt(&self, to: &mut Formatter<'_>) -> fmt::Result {
+        let words = WORDS.iter().find(|(refusal, _)| refusal == self).map_or("", |(_, words)| words);
+        write!(to, "refused {}: {words}", self.number())
+    }
+}
+
+impl Error for Refusal {}

@@ -1,0 +1,24 @@
+-- `names::front` is safe and ends. Assumes nothing.
+use native.Mathlib.Omega.{arith}
+use mathlib.Core.Path.{sym}
+use lib.Seq.{length-take-le}
+use borrow.Author.Needs.{needs}
+use Rattle.batch.proofs.names.front.Statement.{statement}
+use Rattle.batch.proofs.names.front.Tie as tie
+use Rattle.batch.proofs.names.front.Reads as reads
+use Rattle.batch.proofs.names.front.Lts as lts
+
+-- src/names.rt:120:9
+slice-aggregate-result : tie.Need-slice-aggregate-result
+slice-aggregate-result c = sym (length-take-le _ _ (omega arith))
+
+-- src/names.rt:118:1
+returns : tie.Need-returns
+returns c = search needs
+
+-- src/names.rt:118:1
+returns-2 : tie.Need-returns-2
+returns-2 c = search needs
+
+pub front-spec : {M : Type 1} → statement M
+front-spec = tie.close (tie.spec slice-aggregate-result returns returns-2)

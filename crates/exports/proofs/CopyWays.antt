@@ -1,0 +1,81 @@
+-- The ways of `fennqualo_copy`: its refusal and the room by what reader and writer answer. Assumes what each law names.
+use Prim.Native.Nat.{ℕ, _+_, _≤_, _<_}
+use mathlib.Core.Path.{_≡_, refl, sym, ap, _∙_}
+use mathlib.Core.Bool.{Bool, true, false, cond}
+use mathlib.Core.List.{List}
+use native.Mathlib.Omega.{arith}
+use borrow.Author.Tests.{eqb-true, ne-eqb}
+use lib.Dec.{eqb, ltb}
+use lib.ListN.{length, drop}
+use Rattle.base.specs.Sizes.{sendsMost}
+use Rattle.model.specs.declared.Run.{Run}
+use Rattle.model.specs.Runs.{storedRefusal}
+use Rattle.archive.specs.declared.Decoded.{Decoded}
+use Rattle.archive.specs.declared.Written.{Written}
+use Rattle.archive.specs.Format.{lengthOf, encode, runOf, noRun}
+use Rattle.archive.specs.Refusals.{readRefusal, decode, writeRefusal, writeAnswer, put, written}
+use Rattle.archive.proofs.Parts.{length-encode}
+use Rattle.archive.proofs.RoundTripBytes.{Bytes, write-read}
+use Rattle.machine.proofs.PlayerAnswers.{read-run, read-count, read-stored}
+use Rattle.exports.specs.Calls.{atFront, copyRefusal, copyAfter}
+
+-- reader and writer, their answers taken apart
+read-refusal : (b : List ℕ) → decode b .refusal ≡ readRefusal b
+unfolding decode
+read-refusal b = go (eqb (readRefusal b) 0) refl
+  where
+    go : (t : Bool) → eqb (readRefusal b) 0 ≡ t
+        → cond {A = Decoded} t (record { refusal = 0; run = runOf b })
+        (record { refusal = readRefusal b; run = noRun }) .refusal
+        ≡ readRefusal b
+    go true e = sym (eqb-true (readRefusal b) 0 e)
+    go false e = refl
+
+write-refusal : (r : Run) (room : ℕ) → writeAnswer r room .refusal ≡ writeRefusal r room
+unfolding writeAnswer
+write-refusal r room = go (eqb (writeRefusal r room) 0) refl
+  where
+    go : (t : Bool) → eqb (writeRefusal r room) 0 ≡ t
+        → cond {A = Written} t (record { refusal = 0; length = lengthOf r })
+        (record { refusal = writeRefusal r room; length = 0 }) .refusal ≡ writeRefusal r room
+    go true e = sym (eqb-true (writeRefusal r room) 0 e)
+    go false e = refl
+
+put-front : (out xs : List ℕ) → put out 0 xs ≡ atFront xs out
+unfolding put atFront
+put-front out xs = let e : 0 + length xs ≡ length xs = omega arith in rw e refl
+
+module _ (b out : List ℕ) (d : Decoded) (ed : d ≡ decode b) where
+  -- what the contract says of an answer, and of the room after the call
+  abbrev Answered : ℕ → List ℕ → Type 0
+  Answered r after = (r ≡ copyRefusal b (length out)) × (after ≡ copyAfter b out)
+
+  same-refusal : d .refusal ≡ readRefusal b
+  same-refusal = ap (λ (d : Decoded). d .refusal) ed ∙ read-refusal b
+
+  pub copy-refused : (d .refusal ≡ 0 → ⊥) → Answered (d .refusal) out
+  unfolding copyRefusal copyAfter
+  copy-refused h =
+      let f = ne-eqb (readRefusal b) 0 (λ z. h (same-refusal ∙ z)) in (rw (f) same-refusal, rw (f, f) refl)
+
+  module _ (w : Bytes b) (z : d .refusal ≡ 0) where
+    passes : readRefusal b ≡ 0
+    passes = sym same-refusal ∙ z
+
+    long : lengthOf (runOf b) ≡ length b
+    long = sym (length-encode (runOf b)) ∙ ap length (write-read b w passes)
+
+    stored : storedRefusal (runOf b) ≡ 0
+    stored = rw (read-run b d ed z) at (read-stored b d ed z (read-count b d ed z (w 12)))
+
+    same-room : writeRefusal (d .run) (length out) ≡ copyRefusal b (length out)
+    unfolding writeRefusal copyRefusal
+    same-room = rw (read-run b d ed z, stored, long, passes) refl
+
+    pub copy-written : (a : Written) (after : List ℕ) → a ≡ writeAnswer (d .run) (length out)
+        → after ≡ written (d .run) out → Answered (a .refusal) after
+    unfolding copyAfter written
+    copy-written a after ea ew = (
+      ap (λ (a : Written). a .refusal) ea ∙ write-refusal (d .run) (length out) ∙ same-room,
+      ew ∙ (rw (same-room, read-run b d ed z, write-read b w passes, put-front out b) refl),
+    )

@@ -1,0 +1,80 @@
+// The functions that C and Rust call: an archive played, checked, copied. Each is thin over a proved function, takes
+// slices of any length and any bytes, and answers 0 or the number of document 01's refusal; a refusal leaves every lent
+// element as it was. specs/Calls.antt says what they answer, include/fennqualo.h tells it to C.
+// What no proof can see: a caller in C hands over slices that are there, that do not overlap, and that nobody else
+// changes during the call.
+ghost use mathlib.Core.Path.{_≡_};
+ghost use Prim.Native.Nat.{_≤_};
+ghost use lib.ListN.{length};
+ghost use Rattle.archive.specs.Refusals.{readRefusal};
+ghost use Rattle.exports.specs.Calls.{countPlaces, atFront, fourCounts};
+ghost use Rattle.exports.specs.Calls.{callRefusal, bookAfter, countsAfter, copyRefusal, copyAfter};
+use model::Counts;
+
+// The places of a slice that the counts of a run take.
+const COUNTS: usize = 4;
+
+// The counts at the front of a lent slice.
+fn put_counts(counts: Counts, out: &mut [u64])
+    requires { ⌜ countPlaces ≤ length (now out) ⌝ }
+    ensures { λ _. ⌜ now (out .exit) ≡ atFront (fourCounts counts) (now (out .entry)) ⌝ }
+{
+    out[0] = counts.accepted as u64;
+    out[1] = counts.pairs as u64;
+    out[2] = counts.serviced as u64;
+    out[3] = counts.owed as u64;
+}
+
+// The reader's refusal, 1 to 8; 0 for an archive.
+#[no_mangle]
+pub extern "C" fn fennqualo_check(bytes: &[u8]) -> u8
+    ensures { λ r. ⌜ r ≡ readRefusal (now (bytes .entry)) ⌝ }
+{
+    archive::check(bytes)
+}
+
+// Plays an archive: its services at the front of the book, packets accepted, pairs, services and owed pairs at the
+// front of the counts. Refusals 1 to 8, 14 for a book too short, then 14 for a slice of counts too short.
+#[no_mangle]
+pub extern "C" fn fennqualo_play(bytes: &[u8], book: &mut [u8], counts: &mut [u64]) -> u8
+    ensures { λ r. ⌜
+        (r ≡ callRefusal (now (bytes .entry)) (length (now (book .entry))) (length (now (counts .entry))))
+        × (now (book .exit) ≡ bookAfter (now (bytes .entry)) (now (book .entry)) (length (now (counts .entry))))
+        × (now (counts .exit) ≡ countsAfter (now (bytes .entry)) (length (now (book .entry))) (now (counts .entry)))
+        ⌝ }
+{
+    if counts.len() < COUNTS {
+        let refusal = archive::check(bytes);
+        if refusal != 0 {
+            return refusal;
+        }
+        return 14;
+    }
+    let played = machine::play(bytes, book);
+    let refusal = played.refusal;
+    let four = played.counts;
+    if refusal != 0 {
+        return refusal;
+    }
+    put_counts(four, counts);
+    0
+}
+
+// Reads an archive and writes it: the same bytes at the front of the room. Refusals 1 to 8, then 14 for a room too
+// short.
+#[no_mangle]
+pub extern "C" fn fennqualo_copy(bytes: &[u8], out: &mut [u8]) -> u8
+    ensures { λ r. ⌜
+        (r ≡ copyRefusal (now (bytes .entry)) (length (now (out .entry))))
+        × (now (out .exit) ≡ copyAfter (now (bytes .entry)) (now (out .entry)))
+        ⌝ }
+{
+    let decoded = archive::read(bytes);
+    let refusal = decoded.refusal;
+    let run = decoded.run;
+    if refusal != 0 {
+        return refusal;
+    }
+    let written = archive::write(run, out);
+    written.refusal
+}

@@ -1,0 +1,63 @@
+-- Document 01, "Draws and the stored run": what the player answers to any bytes, with any room lent for the book.
+-- Assumes nothing.
+use Prim.Native.Nat.{ℕ, _*_}
+use mathlib.Core.List.{List, _++_}
+use mathlib.Core.Bool.{cond}
+use lib.Dec.{eqb, ltb}
+use lib.ListN.{length, drop, getD}
+use Rattle.base.specs.Sizes.{packetsMost}
+use Rattle.base.specs.Sums.{upto}
+use Rattle.sets.specs.Sets.{targets, size}
+use Rattle.model.specs.declared.Counts.{Counts}
+use Rattle.model.specs.declared.Network.{Network}
+use Rattle.model.specs.declared.Run.{Run}
+use Rattle.model.specs.declared.StoredSend.{StoredSend}
+use Rattle.model.specs.declared.Sent.the-variants.{the-data as Sent, Accepted, Refused as SendRefused}
+use Rattle.model.specs.Types.{sendD}
+use Rattle.model.specs.Runs.{bookBytes, bookRoom, playedRun, countsOf}
+use Rattle.archive.specs.Format.{runOf}
+use Rattle.archive.specs.Refusals.{readRefusal}
+use Rattle.machine.specs.declared.player.PlayAnswer.{PlayAnswer}
+
+-- "the player 1 to 8, 14": the reader's, then "14 .. for the book below 4 times the summed sizes of the stored sends'
+-- sets"; 0 for bytes b that are played with so much room
+unfoldable pub playRefusal : List ℕ → ℕ → ℕ
+playRefusal b room = cond (eqb (readRefusal b) 0) (cond (ltb room (bookRoom (runOf b))) 14 0) (readRefusal b)
+
+-- "A refusal's other numbers are zero."
+abbrev pub noCounts : Counts
+noCounts = record { accepted = 0; pairs = 0; serviced = 0; owed = 0 }
+
+-- "The player's answer also holds the packets accepted, their summed set sizes (pairs), the services and the owed pairs
+-- counted over the final state."
+unfoldable pub playAnswer : List ℕ → ℕ → PlayAnswer
+playAnswer b room =
+    cond (eqb (playRefusal b room) 0) (record { refusal = 0; counts = countsOf (playedRun (runOf b)) })
+    (record { refusal = playRefusal b room; counts = noCounts })
+
+-- "Success writes its bytes at the front; the rest stays.": the book of run r in the lent bytes
+abbrev pub bookIn : Run → List ℕ → List ℕ
+bookIn r room = bookBytes (playedRun r .book) ++ drop (4 * length (playedRun r .book)) room
+
+unfoldable pub playBook : List ℕ → List ℕ → List ℕ
+playBook b room = cond (eqb (playRefusal b (length room)) 0) (bookIn (runOf b) room) room
+
+-- ---- what the functions of the player ask and compute on the way
+
+-- a run by its parts
+abbrev pub runWith : Network → List StoredSend → ℕ → ℕ → ℕ → Run
+runWith n sends count seed draws =
+    record { network = n; seed = seed; draws = draws; count = count; sends = sends }
+
+-- the bytes that a book of the first count sends may take
+abbrev pub roomOf : List StoredSend → ℕ → ℕ
+roomOf sends count = 4 * upto count (λ k. size (getD sends k sendD .set))
+
+-- SEND's own answer, from the numbers that it looks at: the counter c and the entries of the out-queue
+abbrev pub sendFaultBy : ℕ → ℕ → ℕ → ℕ → ℕ → ℕ → ℕ
+sendFaultBy S D c entries s X =
+    cond (ltb s S) (cond (targets S X) (cond (ltb c packetsMost) (cond (ltb entries D) 0 11) 12) 10) 9
+
+unfoldable pub sendAnswer : ℕ → ℕ → ℕ → ℕ → ℕ → ℕ → Sent
+sendAnswer S D c entries s X =
+    cond (eqb (sendFaultBy S D c entries s X) 0) (Accepted c) (SendRefused (sendFaultBy S D c entries s X))

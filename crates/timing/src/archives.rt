@@ -1,0 +1,51 @@
+// Reading and writing, many times over.
+use model::Run;
+
+// Places of the run that a number picks, put together: to answer it, the run has to be there in full.
+fn picked(run: Run, k: usize) -> usize {
+    let network = run.network;
+    let channels = network.channels;
+    let routes = network.routes;
+    let sends = run.sends;
+    let channel = channels[k % 64];
+    let route = routes[k % 256];
+    let send = sends[k % 255];
+    base::wide(channel) + (route as usize) % 65536 + (send.draw as usize) % 65536
+}
+
+// Another last byte of the seed, where the bytes reach so far.
+fn reseed(bytes: &mut [u8], k: usize) {
+    if 9 < bytes.len() {
+        bytes[9] = (k % 255 + 1) as u8;
+    }
+}
+
+// Reads the archive so many times, each time with another last byte of its seed, and answers the last reading.
+#[no_mangle]
+pub extern "C" fn timing_read(bytes: &mut [u8], times: usize) -> usize {
+    let mut last: usize = 0;
+    let mut k: usize = 0;
+    while k < times {
+        k += 1;
+        reseed(bytes, k);
+        let decoded = archive::read(bytes);
+        last = picked(decoded.run, k);
+    }
+    last
+}
+
+// Reads the archive and writes it so many times, each time with another seed; answers the length, 0 if it was refused.
+#[no_mangle]
+pub extern "C" fn timing_write(bytes: &[u8], room: &mut [u8], times: usize) -> usize {
+    let decoded = archive::read(bytes);
+    let mut run = decoded.run;
+    let mut size: usize = 0;
+    let mut k: usize = 0;
+    while k < times {
+        k += 1;
+        run.seed = (k % 65535 + 1) as u32;
+        let written = archive::write(run, room);
+        size = written.length;
+    }
+    size
+}

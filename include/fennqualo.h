@@ -1,0 +1,77 @@
+/*
+ * Fennqualo's library for C: plays, checks and copies archives (docs/FORMAT.md has their form). Link libfennqualo.a; it
+ * needs memcpy and memset and nothing else, keeps nothing between calls, and may be called from many threads at once.
+ * It is compiled for x86-64 Linux. A call takes less than 64 KB of stack.
+ *
+ * Slices. A slice is a pointer and the number of elements behind it. The caller sees to it that
+ *   - the elements are there, and a uint64_t slice is aligned as any uint64_t array is;
+ *   - no two slices of one call overlap, and no other thread writes to any of them, or reads a lent one, meanwhile.
+ * Every length is taken, 0 too: no element of an empty slice is touched, and its pointer may be NULL. Any bytes may be
+ * handed in.
+ *
+ * Answers. 0, or the number of a refusal. A call that answers a refusal has written nothing: every element of every
+ * slice is as it was. Otherwise the elements behind what is written stay as they were.
+ *
+ *    1  fewer than 13 bytes, or the length field is not the number of bytes
+ *    2  the version is not 1
+ *    3  sites, limit of tries or depth of queues outside their limits
+ *    4  the seed is 0
+ *    5  the length does not fit the numbers of sites and sends
+ *    6  a channel byte that names no input, or an input fed twice
+ *    7  a route not as described
+ *    8  a send's site, set or draw number impossible, or draw numbers falling
+ *   14  a lent slice is too short
+ *
+ * The lowest number that holds is given.
+ */
+#ifndef FENNQUALO_H
+#define FENNQUALO_H
+
+#include <stddef.h>
+#include <stdint.h>
+
+#ifdef __cplusplus
+extern "C" {
+#endif
+
+/* The longest archive, in bytes. */
+#define FENNQUALO_ARCHIVE_MOST 1864
+
+/* A book of so many bytes is never too short: 255 sends to 16 sites each, 4 bytes a service. */
+#define FENNQUALO_BOOK_MOST 16320
+
+/* The bytes of one service in a book: draw (2 bytes, the higher first), packet, site. */
+#define FENNQUALO_SERVICE 4
+
+/* The places of the counts. */
+#define FENNQUALO_COUNTS 4
+#define FENNQUALO_ACCEPTED 0 /* packets accepted */
+#define FENNQUALO_PAIRS 1    /* their summed set sizes: pairs of packet and target */
+#define FENNQUALO_SERVICED 2 /* services, which is the number of entries in the book */
+#define FENNQUALO_OWED 3     /* pairs still owed at the end */
+
+/* The refusal for a lent slice that is too short. */
+#define FENNQUALO_ROOM 14
+
+/*
+ * Plays an archive. The services go to the front of the book, in order; the four counts to the front of counts.
+ * Refusals: 1 to 8; 14 if the book is shorter than 4 bytes for each target of each stored send (FENNQUALO_BOOK_MOST is
+ * always enough), or if counts has fewer than FENNQUALO_COUNTS places.
+ */
+uint8_t fennqualo_play(const uint8_t *archive, size_t archive_length, uint8_t *book, size_t book_length,
+                       uint64_t *counts, size_t counts_length);
+
+/* Checks an archive. Refusals: 1 to 8; 0 means that fennqualo_play, with room enough, plays it. */
+uint8_t fennqualo_check(const uint8_t *archive, size_t archive_length);
+
+/*
+ * Reads an archive and writes it at the front of out: the same archive_length bytes.
+ * Refusals: 1 to 8; 14 if out is shorter than the archive (FENNQUALO_ARCHIVE_MOST is always enough).
+ */
+uint8_t fennqualo_copy(const uint8_t *archive, size_t archive_length, uint8_t *out, size_t out_length);
+
+#ifdef __cplusplus
+}
+#endif
+
+#endif

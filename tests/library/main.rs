@@ -1,0 +1,96 @@
+//! Tests of the C and Rust library against the second model: `library CORPUS COUNT SEED`.
+//!
+//! Every archive of the folder CORPUS and COUNT fresh ones of SEED, a third of them damaged, go through each function
+//! of include/fennqualo.h, with lent slices of many lengths between guards, and through the Rust wrapper. Prints one
+//! line; panics at the first difference, naming the archive and the call.
+
+mod calls;
+mod guarded;
+mod judged;
+mod wrapper;
+
+use reference::making::damage::damaged;
+use reference::making::rng::Rng;
+use reference::making::runs::any_run;
+use std::path::Path;
+
+/// What was compared, and the wrapper's player, which plays them all.
+#[derive(Default)]
+pub struct Tally {
+    archives: usize,
+    refused: [usize; 15],
+    calls: usize,
+    services: u64,
+    longest: usize,
+    player: fennqualo::Player,
+}
+
+impl Tally {
+    fn archive(&mut self, name: &str, bytes: &[u8], rng: &mut Rng) {
+        let judged = judged::Judged::of(bytes);
+        self.archives += 1;
+        self.refused[judged.refusal as usize] += 1;
+        self.services += judged.counts.map_or(0, |counts| counts[2]);
+        self.longest = self.longest.max(bytes.len());
+        self.calls += calls::compare(name, bytes, &judged, rng);
+        self.calls += wrapper::compare(name, bytes, &judged, &mut self.player);
+    }
+
+    fn print(&self) {
+        for number in 1..=8 {
+            assert!(
+                self.refused[number] > 0,
+                "no archive is refused with {number}: the comparison has a gap"
+            );
+        }
+        let played = self.refused[0];
+        let refused = self.archives - played;
+        let Tally { archives, longest, services, calls, .. } = self;
+        print!("library: {archives} archives of up to {longest} bytes, {played} played with {services} services, ");
+        println!("{refused} refused; {calls} calls, 0 differences");
+    }
+}
+
+/// The archives of a folder, by name.
+fn corpus(folder: &Path) -> Vec<(String, Vec<u8>)> {
+    let files = std::fs::read_dir(folder).expect("the corpus can be listed");
+    let mut found: Vec<(String, Vec<u8>)> = files
+        .map(|file| file.expect("the corpus can be listed").path())
+        .filter(|path| path.extension().map_or(false, |end| end == "bin"))
+        .map(|path| (path.display().to_string(), std::fs::read(&path).expect("an archive can be read")))
+        .collect();
+    found.sort();
+    assert!(!found.is_empty(), "{} has no archive", folder.display());
+    found
+}
+
+fn main() {
+    let args: Vec<String> = std::env::args().collect();
+    let [_, folder, count, seed] = &args[..] else {
+        eprintln!("usage: library CORPUS COUNT SEED");
+        std::process::exit(2);
+    };
+    let count: usize = count.parse().expect("COUNT is a number");
+    let mut rng = Rng::new(seed.parse().expect("SEED is a number"));
+    let mut tally = Tally::default();
+    for (name, bytes) in corpus(Path::new(folder)) {
+        tally.archive(&name, &bytes, &mut rng);
+    }
+    for at in 0..count {
+        let mut bytes = any_run(&mut rng, true).bytes();
+        if rng.one_in(3) {
+            bytes = damaged(&mut rng, &bytes);
+        }
+        tally.archive(&format!("archive {at} of seed {seed}"), &bytes, &mut rng);
+    }
+    // Every length of one short archive, from 0 on.
+    let whole = any_run(&mut rng, false).bytes();
+    for length in 0..whole.len() {
+        tally.archive(
+            &format!("{length} bytes of an archive of {}", whole.len()),
+            &whole[..length],
+            &mut rng,
+        );
+    }
+    tally.print();
+}

@@ -1,0 +1,42 @@
+//! The safe wrapper (bindings/rust): its types against what the second model says.
+
+use crate::judged::Judged;
+use fennqualo::{Player, Service};
+
+/// Calls each function of the wrapper on an archive, with a player that has played others before; answers how many
+/// calls were made.
+pub fn compare(name: &str, bytes: &[u8], judged: &Judged, player: &mut Player) -> usize {
+    let checked = fennqualo::check(bytes).map_err(|refusal| refusal.number());
+    let copied = fennqualo::copy(bytes).map_err(|refusal| refusal.number());
+    let played = player.play(bytes);
+    match (judged.counts, played) {
+        (None, Err(refusal)) => {
+            assert_eq!(refusal.number(), judged.refusal, "{name}: the wrapper's play");
+            assert!(
+                refusal.to_string().starts_with(&format!("refused {}: ", judged.refusal)),
+                "{name}: {refusal}"
+            );
+            assert_eq!(checked, Err(judged.refusal), "{name}: the wrapper's check");
+            assert_eq!(copied, Err(judged.refusal), "{name}: the wrapper's copy");
+        }
+        (Some(counts), Ok(played)) => {
+            let found = played.counts;
+            let four = [found.accepted, found.pairs, found.serviced, found.owed];
+            assert_eq!(four, counts, "{name}: the wrapper's counts");
+            assert_eq!(played.book(), judged.book, "{name}: the wrapper's book");
+            let again: Vec<u8> = played.services().flat_map(entry).collect();
+            assert_eq!(again, judged.book, "{name}: the wrapper's services");
+            assert_eq!(checked, Ok(()), "{name}: the wrapper's check");
+            assert_eq!(copied.as_deref(), Ok(bytes), "{name}: the wrapper's copy");
+        }
+        (_, played) => {
+            panic!("{name}: the wrapper's play answers {played:?}, the second model {}", judged.refusal)
+        }
+    }
+    3
+}
+
+fn entry(service: Service) -> [u8; 4] {
+    let [high, low] = service.draw.to_be_bytes();
+    [high, low, service.packet, service.site]
+}
