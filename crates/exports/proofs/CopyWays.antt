@@ -16,21 +16,10 @@ use Rattle.archive.specs.Format.{lengthOf, encode, runOf, noRun}
 use Rattle.archive.specs.Refusals.{readRefusal, decode, writeRefusal, writeAnswer, put, written}
 use Rattle.archive.proofs.Parts.{length-encode}
 use Rattle.archive.proofs.RoundTripBytes.{Bytes, write-read}
-use Rattle.machine.proofs.PlayerAnswers.{read-run, read-count, read-stored}
+use Rattle.machine.proofs.PlayerAnswers.{read-refusal, read-run, read-count, read-stored}
 use Rattle.exports.specs.Calls.{atFront, copyRefusal, copyAfter}
 
--- reader and writer, their answers taken apart
-read-refusal : (b : List ℕ) → decode b .refusal ≡ readRefusal b
-unfolding decode
-read-refusal b = go (eqb (readRefusal b) 0) refl
-  where
-    go : (t : Bool) → eqb (readRefusal b) 0 ≡ t
-        → cond {A = Decoded} t (record { refusal = 0; run = runOf b })
-        (record { refusal = readRefusal b; run = noRun }) .refusal
-        ≡ readRefusal b
-    go true e = sym (eqb-true (readRefusal b) 0 e)
-    go false e = refl
-
+-- the writer's answer, taken apart
 write-refusal : (r : Run) (room : ℕ) → writeAnswer r room .refusal ≡ writeRefusal r room
 unfolding writeAnswer
 write-refusal r room = go (eqb (writeRefusal r room) 0) refl

@@ -3,6 +3,7 @@ pub mod ByNumber
 pub mod Cut
 pub mod LentClock
 pub mod Lifts
+pub mod PlayedArchive
 pub mod PlayerAnswers
 pub mod PlayerRoom
 pub mod PlayerWays

@@ -21,7 +21,7 @@ use Rattle.archive.proofs.Passed.{head-passes, stored-by}
 use Rattle.machine.specs.Play.{playRefusal, noCounts, playAnswer, bookIn, playBook}
 
 module _ (b : List ℕ) where
-  read-refusal : decode b .refusal ≡ readRefusal b
+  pub read-refusal : decode b .refusal ≡ readRefusal b
   unfolding decode
   read-refusal = go (eqb (readRefusal b) 0) refl
     where

@@ -14,7 +14,7 @@ use Rattle.model.specs.NetInput.{allReady, ready}
 use Rattle.model.specs.Places.{stalled}
 use Rattle.machine.specs.Step.{farAt}
 
--- "Net-inputs in free and in abort" have no rule
+-- net-inputs in free and in abort have no rule
 abbrev pub quiet : Phase → Bool
 quiet Free = true
 quiet Seek = false

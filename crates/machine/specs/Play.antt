@@ -19,7 +19,7 @@ use Rattle.archive.specs.Format.{runOf}
 use Rattle.archive.specs.Refusals.{readRefusal}
 use Rattle.machine.specs.declared.player.PlayAnswer.{PlayAnswer}
 
--- "the player 1 to 8, 14": the reader's, then "14 .. for the book below 4 times the summed sizes of the stored sends'
+-- "player 1 to 8, then 14": the reader's, then "14 .. for the book below 4 times the summed sizes of the stored sends'
 -- sets"; 0 for bytes b that are played with so much room
 unfoldable pub playRefusal : List ℕ → ℕ → ℕ
 playRefusal b room = cond (eqb (readRefusal b) 0) (cond (ltb room (bookRoom (runOf b))) 14 0) (readRefusal b)

@@ -1,4 +1,5 @@
-// The machine: the rules of document 01 as code, single SEND and RUN, each proved equal to the definitions of crate model.
+// The machine: the rules of document 01 as code, single SEND and RUN, and the player of stored runs, each proved equal to the definitions
+// of crate model and of specs/.
 mod clock;
 mod events;
 mod idle;
@@ -11,6 +12,7 @@ mod queues;
 mod router;
 mod step;
 mod store;
+mod terminators;
 mod timeout;
 mod turns;
 

@@ -1,4 +1,4 @@
-// What `play` and `batch` share: the bytes of an archive, read as far as they are seen, and the lines printed of a
+// What `play`, `batch` and `rewrite` share: the bytes of an archive, read as far as they are seen, and the lines printed of a
 // played archive. No contract can say what is read or written, so these functions are proved safe and ending, and the
 // corpus holds down what they print. Assumes nothing.
 mod text;

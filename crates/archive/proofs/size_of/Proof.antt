@@ -13,35 +13,27 @@ use Rattle.archive.proofs.size_of.Lts as lts
 square : (s : ℕ) → s < 256 → s * s ≤ 65025
 square s h = mul-le-mul {n₁ = s} {m₁ = s} {n₂ = 255} {m₂ = 255} (omega arith) (omega arith)
 
--- src/lib.rt:31:10
 mul-result : tie.Need-mul-result
 mul-result c = search needs
 
--- src/lib.rt:31:5
 add-result : tie.Need-add-result
 add-result c = search needs
 
--- src/lib.rt:31:37
 mul-result-2 : tie.Need-mul-result-2
 mul-result-2 c = omega (arith, square (c .args .sites) (c .pre .0))
 
--- src/lib.rt:31:32
 mul-result-3 : tie.Need-mul-result-3
 mul-result-3 c = omega (arith, square (c .args .sites) (c .pre .0))
 
--- src/lib.rt:31:5
 add-result-2 : tie.Need-add-result-2
 add-result-2 c = omega (arith, square (c .args .sites) (c .pre .0))
 
--- src/lib.rt:31:54
 mul-result-4 : tie.Need-mul-result-4
 mul-result-4 c = search needs
 
--- src/lib.rt:31:5
 add-result-3 : tie.Need-add-result-3
 add-result-3 c = omega (arith, square (c .args .sites) (c .pre .0))
 
--- src/lib.rt:27:1
 returns : tie.Need-returns
 returns c = search needs
 

@@ -10,23 +10,18 @@ use Rattle.exports.proofs.fennqualo_copy.Lts as lts
 use Rattle.archive.proofs.read.Reads as read-reads
 use Rattle.archive.proofs.write.Reads as write-reads
 
--- src/lib.rt:64:9
 read-requires : tie.Need-read-requires
 read-requires c κs = search needs
 
--- src/lib.rt:68:9
 returns : tie.Need-returns
 returns c = copy-refused (now (c .before .before .before .before .before .args .bytes)) (now (c .before .before .before .before .before .args .out)) (c .before .before .read .result) (c .before .before .read .ensures) (c .if1 .taken)
 
--- src/lib.rt:70:9
 write-requires : tie.Need-write-requires
 write-requires c κs = search needs
 
--- src/lib.rt:60:1
 same-length : tie.Need-same-length
 same-length c = search needs
 
--- src/lib.rt:60:1
 returns-2 : tie.Need-returns-2
 returns-2 c = copy-written (now (c .before .before .before .before .before .before .before .before .before .args .bytes)) (now (c .before .before .before .before .before .before .before .before .before .args .out)) (c .before .before .before .before .before .before .read .result) (c .before .before .before .before .before .before .read .ensures) (λ i. omega (arith, c .before .before .before .before .before .before .before .before .shared-slice-known .given i)) (c .before .before .before .before .if1 .left) (c .before .before .write .result) _ (c .before .before .write .ensures .0) (c .before .before .write .ensures .1)
 

@@ -9,43 +9,33 @@ use Rattle.archive.proofs.check.Reads as check-reads
 use Rattle.exports.proofs.put_counts.Reads as put-counts-reads
 use Rattle.machine.proofs.play.Reads as play-reads
 
--- src/lib.rt:42:13
 check-requires : tie.Need-check-requires
 check-requires c κs = search needs
 
--- src/lib.rt:44:13
 returns : tie.Need-returns
 returns c = few-refused (now (c .before .before .before .before .before .before .args .bytes)) (now (c .before .before .before .before .before .before .args .book)) (now (c .before .before .before .before .before .before .args .counts)) (c .before .check .result) (c .before .check .ensures) (c .if2 .taken)
 
--- src/lib.rt:46:9
 returns-2 : tie.Need-returns-2
 returns-2 c = few-places (now (c .before .before .before .before .before .before .args .bytes)) (now (c .before .before .before .before .before .before .args .book)) (now (c .before .before .before .before .before .before .args .counts)) (c .before .check .result) (c .before .check .ensures) (c .if2 .left) (c .before .before .if1 .taken)
 
--- src/lib.rt:48:9
 play-requires : tie.Need-play-requires
 play-requires c κs = search needs
 
--- src/lib.rt:52:9
 same-length : tie.Need-same-length
 same-length c = search needs
 
--- src/lib.rt:52:9
 returns-3 : tie.Need-returns-3
 returns-3 c = play-refused (now (c .before .before .before .before .before .before .before .before .before .before .args .bytes)) (now (c .before .before .before .before .before .before .before .before .before .before .args .book)) (now (c .before .before .before .before .before .before .before .before .before .before .args .counts)) (c .before .before .before .before .play .result) _ (c .before .before .before .before .play .ensures .0) (c .before .before .before .before .play .ensures .1) (c .if3 .taken)
 
--- src/lib.rt:54:5
 put-counts-requires : tie.Need-put-counts-requires
 put-counts-requires c κs = search needs
 
--- src/lib.rt:37:1
 same-length-2 : tie.Need-same-length-2
 same-length-2 c = search needs
 
--- src/lib.rt:37:1
 same-length-3 : tie.Need-same-length-3
 same-length-3 c = search needs
 
--- src/lib.rt:37:1
 returns-4 : tie.Need-returns-4
 returns-4 c = play-done (now (c .before .before .before .before .before .before .before .before .before .before .before .before .before .before .args .bytes)) (now (c .before .before .before .before .before .before .before .before .before .before .before .before .before .before .args .book)) (now (c .before .before .before .before .before .before .before .before .before .before .before .before .before .before .args .counts)) (c .before .before .before .before .before .before .before .before .play .result) _ (c .before .before .before .before .before .before .before .before .play .ensures .0) (c .before .before .before .before .before .before .before .before .play .ensures .1) _ (c .before .before .before .before .if3 .left) (c .before .before .before .before .before .before .before .before .before .before .if1 .left) (c .before .before .put-counts .ensures)
 

@@ -7,27 +7,21 @@ use Rattle.exports.proofs.put_counts.Tie as tie
 use Rattle.exports.proofs.put_counts.Reads as reads
 use Rattle.exports.proofs.put_counts.Lts as lts
 
--- src/lib.rt:21:5
 slice-write-out : tie.Need-slice-write-out
 slice-write-out c = search needs
 
--- src/lib.rt:22:5
 slice-write-out-2 : tie.Need-slice-write-out-2
 slice-write-out-2 c = simp length-set (search needs)
 
--- src/lib.rt:23:5
 slice-write-out-3 : tie.Need-slice-write-out-3
 slice-write-out-3 c = simp length-set (search needs)
 
--- src/lib.rt:24:5
 slice-write-out-4 : tie.Need-slice-write-out-4
 slice-write-out-4 c = search needs
 
--- src/lib.rt:17:1
 same-length : tie.Need-same-length
 same-length c = search needs
 
--- src/lib.rt:17:1
 returns : tie.Need-returns
 returns c = four-stored _ _ _ _ (now (c .args .out)) (c .pre)
 

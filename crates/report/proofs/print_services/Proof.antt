@@ -17,83 +17,63 @@ Inv-loop book count text₀ at₀ from₀ whole₀ counter₀ text at from whole
 abbrev μ-loop : tie.MeasureT-loop
 μ-loop book count text₀ at₀ from₀ whole₀ counter₀ text at from whole counter = count - counter
 
--- src/lib.rt:50:20
 buffer-requires : tie.Need-buffer-requires Inv-loop μ-loop
 buffer-requires c κs = search needs
 
--- src/lib.rt:54:5
 loop-holds : tie.Need-loop-holds Inv-loop μ-loop
 loop-holds c = search needs
 
--- src/lib.rt:55:12
 sub-if1 : tie.Need-sub-if1 Inv-loop μ-loop
 sub-if1 c = search needs
 
--- src/lib.rt:58:26
 slice-aggregate-put-service : tie.Need-slice-aggregate-put-service Inv-loop μ-loop
 slice-aggregate-put-service c = search needs
 
--- src/lib.rt:58:53
 add-put-service : tie.Need-add-put-service Inv-loop μ-loop
 add-put-service c = search needs
 
--- src/lib.rt:58:41
 sub-put-service : tie.Need-sub-put-service Inv-loop μ-loop
 sub-put-service c = search needs
 
--- src/lib.rt:58:41
 part-put-service-start : tie.Need-part-put-service-start Inv-loop μ-loop
 part-put-service-start c = search needs
 
--- src/lib.rt:58:41
 part-put-service-end : tie.Need-part-put-service-end Inv-loop μ-loop
 part-put-service-end c = search needs
 
--- src/lib.rt:58:9
 put-service-requires : tie.Need-put-service-requires Inv-loop μ-loop
 put-service-requires c κs = search needs
 
--- src/lib.rt:59:9
 add-from : tie.Need-add-from Inv-loop μ-loop
 add-from c = search needs
 
--- src/lib.rt:60:17
 sub-if2 : tie.Need-sub-if2 Inv-loop μ-loop
 sub-if2 c = search needs
 
--- src/lib.rt:61:27
 slice-aggregate-flush : tie.Need-slice-aggregate-flush Inv-loop μ-loop
 slice-aggregate-flush c = search needs
 
--- src/lib.rt:61:21
 flush-requires : tie.Need-flush-requires Inv-loop μ-loop
 flush-requires c κs = search needs
 
--- src/lib.rt:54:9
 add-counter : tie.Need-add-counter Inv-loop μ-loop
 add-counter c = search needs
 
--- src/lib.rt:54:5
 loop-less : tie.Need-loop-less Inv-loop μ-loop
 loop-less c = search needs
 
--- src/lib.rt:54:5
 loop-again : tie.Need-loop-again Inv-loop μ-loop
 loop-again c = search needs
 
--- src/lib.rt:65:11
 slice-aggregate-flush-2 : tie.Need-slice-aggregate-flush-2 Inv-loop μ-loop
 slice-aggregate-flush-2 c = search needs
 
--- src/lib.rt:65:5
 flush-requires-2 : tie.Need-flush-requires-2 Inv-loop μ-loop
 flush-requires-2 c κs = search needs
 
--- src/lib.rt:49:1
 returns : tie.Need-returns Inv-loop μ-loop
 returns c = search needs
 
--- src/lib.rt:49:1
 returns-2 : tie.Need-returns-2 Inv-loop μ-loop
 returns-2 c = search needs
 

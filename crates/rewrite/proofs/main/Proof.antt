@@ -17,51 +17,39 @@ Inv-loop totals₀ i₀ t4 i-end totals i = 1 ≤ i
 abbrev μ-loop : tie.MeasureT-loop
 μ-loop totals₀ i₀ t4 i-end totals i = i-end - i
 
--- src/main.rt:36:9
 no-files-requires : tie.Need-no-files-requires Inv-loop μ-loop
 no-files-requires c κs = search needs
 
--- src/main.rt:37:17
 arg-count-requires : tie.Need-arg-count-requires Inv-loop μ-loop
 arg-count-requires c κs = search needs
 
--- src/main.rt:37:5
 loop-holds : tie.Need-loop-holds Inv-loop μ-loop
 loop-holds c = search needs
 
--- src/main.rt:38:9
 rewrite-argument-requires : tie.Need-rewrite-argument-requires Inv-loop μ-loop
 rewrite-argument-requires c κs = search needs
 
--- src/main.rt:37:9
 add-i : tie.Need-add-i Inv-loop μ-loop
 add-i c = search needs
 
--- src/main.rt:37:5
 loop-less : tie.Need-loop-less Inv-loop μ-loop
 loop-less c = search needs
 
--- src/main.rt:37:5
 loop-again : tie.Need-loop-again Inv-loop μ-loop
 loop-again c = search needs
 
--- src/main.rt:40:9
 print-totals-requires : tie.Need-print-totals-requires Inv-loop μ-loop
 print-totals-requires c κs = search needs
 
--- src/main.rt:44:13
 slice-aggregate-write-all : tie.Need-slice-aggregate-write-all Inv-loop μ-loop
 slice-aggregate-write-all c = search needs
 
--- src/main.rt:42:9
 write-all-requires : tie.Need-write-all-requires Inv-loop μ-loop
 write-all-requires c κs = search needs
 
--- src/main.rt:35:1
 returns : tie.Need-returns Inv-loop μ-loop
 returns c = search needs
 
--- src/main.rt:35:1
 returns-2 : tie.Need-returns-2 Inv-loop μ-loop
 returns-2 c = search needs
 

@@ -16,65 +16,50 @@ use Rattle.archive.proofs.reader.word_at.Reads as word-at-reads
 use Rattle.base.proofs.wide.Reads as wide-reads
 use Rattle.checks.proofs.network_refusal.Reads as network-refusal-reads
 
--- src/reader.rt:180:9
 network-refusal-requires : tie.Need-network-refusal-requires
 network-refusal-requires c κs = search needs
 
--- src/reader.rt:182:9
 returns : tie.Need-returns
 returns c = archive-network _ (c .before .before .before .pre .0) _ (c .before .before .before .pre .1) _ (c .before .network-refusal .ensures) (c .if1 .taken)
 
--- src/reader.rt:184:28
 shared-slice-read-wide : tie.Need-shared-slice-read-wide
 shared-slice-read-wide c = search needs
 
--- src/reader.rt:184:9
 wide-requires : tie.Need-wide-requires
 wide-requires c κs = search needs
 
--- src/reader.rt:185:28
 shared-slice-read-wide-2 : tie.Need-shared-slice-read-wide-2
 shared-slice-read-wide-2 c = search needs
 
--- src/reader.rt:185:9
 wide-requires-2 : tie.Need-wide-requires-2
 wide-requires-2 c κs = search needs
 
--- src/reader.rt:186:9
 word-at-requires : tie.Need-word-at-requires
 word-at-requires c κs = search needs
 
--- src/reader.rt:187:26
 mul-sends-fit : tie.Need-mul-sends-fit
 mul-sends-fit c = search needs
 
--- src/reader.rt:187:21
 add-sends-fit : tie.Need-add-sends-fit
 add-sends-fit c = search needs
 
--- src/reader.rt:187:53
 mul-sends-fit-2 : tie.Need-mul-sends-fit-2
 mul-sends-fit-2 c = let q = ap (λ (x : ℕ). x * x) (c .before .before .before .wide .ensures .0) in omega (arith, c .before .before .before .before .before .before .before .before .pre .0 .square)
 
--- src/reader.rt:187:48
 mul-sends-fit-3 : tie.Need-mul-sends-fit-3
 mul-sends-fit-3 c = let q = ap (λ (x : ℕ). x * x) (c .before .before .before .wide .ensures .0) in omega (arith, c .before .before .before .before .before .before .before .before .pre .0 .square)
 
--- src/reader.rt:187:21
 add-sends-fit-2 : tie.Need-add-sends-fit-2
 add-sends-fit-2 c = let q = ap (λ (x : ℕ). x * x) (c .before .before .before .wide .ensures .0) in omega (arith, c .before .before .before .before .before .before .before .before .pre .0 .square, c .before .before .before .before .before .before .before .before .pre .0 .few, c .before .before .before .wide .ensures .0)
 
--- src/reader.rt:187:8
 sends-fit-requires : tie.Need-sends-fit-requires
 sends-fit-requires c κs = let q = ap (λ (x : ℕ). x * x) (c .before .before .before .wide .ensures .0) in (omega (arith, c .before .wide2 .ensures .1), omega (arith, c .before .before .before .before .before .before .before .before .pre .0 .size, c .before .before .before .wide .ensures .0, c .before .wide2 .ensures .0))
 
--- src/reader.rt:188:9
 returns-2 : tie.Need-returns-2
 returns-2 c =
     let s = sends-read (c .before .before .before .before .before .before .before .before .before .before .args .b .now) (c .before .before .before .before .before .wide .result) (c .before .before .before .wide2 .result) (c .before .before .word-at .result) (c .before .before .before .before .before .wide .ensures .0) (c .before .before .before .wide2 .ensures .0) (c .before .before .word-at .ensures) (omega (arith, c .before .before .before .wide2 .ensures .1)) in
     archive-sends _ (c .before .before .before .before .before .before .before .before .before .before .pre .0) _ (c .before .before .before .before .before .before .before .before .before .before .pre .1) _ (c .before .before .before .before .before .before .before .before .network-refusal .ensures) (c .before .before .before .before .before .before .before .if1 .left) true (sym s ∙ sym (c .before .sends-fit .ensures) ∙ c .if2 .taken)
 
--- src/reader.rt:176:1
 returns-3 : tie.Need-returns-3
 returns-3 c =
     let s = sends-read (c .before .before .before .before .before .before .before .before .before .before .args .b .now) (c .before .before .before .before .before .wide .result) (c .before .before .before .wide2 .result) (c .before .before .word-at .result) (c .before .before .before .before .before .wide .ensures .0) (c .before .before .before .wide2 .ensures .0) (c .before .before .word-at .ensures) (omega (arith, c .before .before .before .wide2 .ensures .1)) in

@@ -11,23 +11,18 @@ use Rattle.archive.proofs.reader.body_refusal.Reads as body-refusal-rea
 use Rattle.archive.proofs.reader.head_refusal.Reads as head-refusal-reads
 use Rattle.archive.proofs.reader.read_network.Reads as read-network-reads
 
--- src/reader.rt:245:9
 head-refusal-requires : tie.Need-head-refusal-requires
 head-refusal-requires c κs = search needs
 
--- src/reader.rt:247:9
 returns : tie.Need-returns
 returns c = read-head _ _ (c .before .head-refusal .ensures) (c .if1 .taken)
 
--- src/reader.rt:249:9
 read-network-requires : tie.Need-read-network-requires
 read-network-requires c κs = head-passes _ 0 (sym (c .before .head-refusal .ensures) ∙ c .if1 .left) .0
 
--- src/reader.rt:250:5
 body-refusal-requires : tie.Need-body-refusal-requires
 body-refusal-requires c κs = (head-passes _ 0 (sym (c .before .before .head-refusal .ensures) ∙ c .before .if1 .left) .0, c .read-network .ensures)
 
--- src/reader.rt:242:1
 returns-2 : tie.Need-returns-2
 returns-2 c = read-body _ _ _ (c .before .before .before .head-refusal .ensures) (c .before .before .if1 .left) (c .body-refusal .ensures)
 

@@ -13,87 +13,68 @@ use Rattle.archive.proofs.reader.word_at.Reads as word-at-reads
 use Rattle.archive.proofs.size_of.Reads as size-of-reads
 use Rattle.base.proofs.wide.Reads as wide-reads
 
--- src/reader.rt:36:9
 returns : tie.Need-returns
 returns c = head-short _ (c .if1 .taken)
 
--- src/reader.rt:38:9
 word-at-requires : tie.Need-word-at-requires
 word-at-requires c κs = search needs
 
--- src/reader.rt:38:9
 cast-if2 : tie.Need-cast-if2
 cast-if2 c = search needs
 
--- src/reader.rt:39:9
 returns-2 : tie.Need-returns-2
 returns-2 c = head-field _ (c .before .before .if1 .left) (λ e. c .if2 .taken (c .before .word-at .ensures ∙ e))
 
--- src/reader.rt:41:8
 shared-slice-read-if3 : tie.Need-shared-slice-read-if3
 shared-slice-read-if3 c = search needs
 
--- src/reader.rt:42:9
 returns-3 : tie.Need-returns-3
 returns-3 c = head-version _ (c .before .before .before .before .if1 .left) (sym (c .before .before .before .word-at .ensures) ∙ c .before .before .if2 .left) (c .if3 .taken)
 
--- src/reader.rt:44:28
 shared-slice-read-wide : tie.Need-shared-slice-read-wide
 shared-slice-read-wide c = search needs
 
--- src/reader.rt:44:9
 wide-requires : tie.Need-wide-requires
 wide-requires c κs = search needs
 
--- src/reader.rt:45:17
 shared-slice-read-tries : tie.Need-shared-slice-read-tries
 shared-slice-read-tries c = search needs
 
--- src/reader.rt:46:28
 shared-slice-read-wide-2 : tie.Need-shared-slice-read-wide-2
 shared-slice-read-wide-2 c = search needs
 
--- src/reader.rt:46:9
 wide-requires-2 : tie.Need-wide-requires-2
 wide-requires-2 c κs = search needs
 
--- src/reader.rt:48:12
 quad-at-requires : tie.Need-quad-at-requires
 quad-at-requires c κs = search needs
 
--- src/reader.rt:49:13
 returns-4 : tie.Need-returns-4
 returns-4 c =
     let s = sizes-read _ (c .before .before .before .before .before .before .wide .result) (c .before .before .before .wide2 .result) true (c .before .before .before .before .before .before .wide .ensures .0) (c .before .before .before .wide2 .ensures .0) (c .before .before .if4 .taken) in
     head-seed _ (c .before .before .before .before .before .before .before .before .before .before .before .before .if1 .left) (sym (c .before .before .before .before .before .before .before .before .before .before .before .word-at .ensures) ∙ c .before .before .before .before .before .before .before .before .before .before .if2 .left) (c .before .before .before .before .before .before .before .before .if3 .left) s (sym (c .before .quad-at .ensures) ∙ c .if5 .taken)
 
--- src/reader.rt:51:32
 shared-slice-read-wide-3 : tie.Need-shared-slice-read-wide-3
 shared-slice-read-wide-3 c = search needs
 
--- src/reader.rt:51:13
 wide-requires-3 : tie.Need-wide-requires-3
 wide-requires-3 c κs = search needs
 
--- src/reader.rt:52:23
 size-of-requires : tie.Need-size-of-requires
 size-of-requires c κs = search needs
 
--- src/reader.rt:53:13
 returns-5 : tie.Need-returns-5
 returns-5 c =
     let s = sizes-read _ (c .before .before .before .before .before .before .before .before .before .before .wide .result) (c .before .before .before .before .before .before .before .wide2 .result) true (c .before .before .before .before .before .before .before .before .before .before .wide .ensures .0) (c .before .before .before .before .before .before .before .wide2 .ensures .0) (c .before .before .before .before .before .before .if4 .taken) in
     let n = c .before .size-of .ensures ∙ ap₂ lengthWith (c .before .before .before .before .before .before .before .before .before .before .wide .ensures .0) (c .before .before .wide3 .ensures .0) in
     sym (head-by _ 0 (c .before .before .before .before .before .before .before .before .before .before .before .before .before .before .before .before .if1 .left) (sym (c .before .before .before .before .before .before .before .before .before .before .before .before .before .before .before .word-at .ensures) ∙ c .before .before .before .before .before .before .before .before .before .before .before .before .before .before .if2 .left) (c .before .before .before .before .before .before .before .before .before .before .before .before .if3 .left) s (λ e. c .before .before .before .before .if5 .left (c .before .before .before .before .before .quad-at .ensures ∙ e)) (c .if6 .taken ∙ n))
 
--- src/reader.rt:55:9
 returns-6 : tie.Need-returns-6
 returns-6 c =
     let s = sizes-read _ (c .before .before .before .before .before .before .before .before .before .before .wide .result) (c .before .before .before .before .before .before .before .wide2 .result) true (c .before .before .before .before .before .before .before .before .before .before .wide .ensures .0) (c .before .before .before .before .before .before .before .wide2 .ensures .0) (c .before .before .before .before .before .before .if4 .taken) in
     let n = c .before .size-of .ensures ∙ ap₂ lengthWith (c .before .before .before .before .before .before .before .before .before .before .wide .ensures .0) (c .before .before .wide3 .ensures .0) in
     head-size _ (c .before .before .before .before .before .before .before .before .before .before .before .before .before .before .before .before .if1 .left) (sym (c .before .before .before .before .before .before .before .before .before .before .before .before .before .before .before .word-at .ensures) ∙ c .before .before .before .before .before .before .before .before .before .before .before .before .before .before .if2 .left) (c .before .before .before .before .before .before .before .before .before .before .before .before .if3 .left) s (λ e. c .before .before .before .before .if5 .left (c .before .before .before .before .before .quad-at .ensures ∙ e)) (λ e. c .if6 .left (e ∙ sym n))
 
--- src/reader.rt:32:1
 returns-7 : tie.Need-returns-7
 returns-7 c =
     let s = sizes-read _ (c .before .before .before .before .wide .result) (c .before .wide2 .result) false (c .before .before .before .before .wide .ensures .0) (c .before .wide2 .ensures .0) (c .if4 .left) in

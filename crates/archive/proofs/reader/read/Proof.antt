@@ -13,39 +13,30 @@ use Rattle.archive.proofs.reader.read_network.Reads as read-network-rea
 use Rattle.archive.proofs.reader.read_run.Reads as read-run-reads
 use Rattle.archive.proofs.reader.refused.Reads as refused-reads
 
--- src/reader.rt:225:9
 head-refusal-requires : tie.Need-head-refusal-requires
 head-refusal-requires c κs = search needs
 
--- src/reader.rt:227:9
 refused-requires : tie.Need-refused-requires
 refused-requires c κs = search needs
 
--- src/reader.rt:227:9
 returns : tie.Need-returns
 returns c = c .refused .ensures ∙ decode-no _ _ (read-head _ _ (c .before .before .head-refusal .ensures) (c .before .if1 .taken)) (c .before .if1 .taken)
 
--- src/reader.rt:229:9
 read-network-requires : tie.Need-read-network-requires
 read-network-requires c κs = head-passes _ 0 (sym (c .before .head-refusal .ensures) ∙ c .if1 .left) .0
 
--- src/reader.rt:230:9
 body-refusal-requires : tie.Need-body-refusal-requires
 body-refusal-requires c κs = (head-passes _ 0 (sym (c .before .before .head-refusal .ensures) ∙ c .before .if1 .left) .0, c .read-network .ensures)
 
--- src/reader.rt:232:9
 refused-requires-2 : tie.Need-refused-requires-2
 refused-requires-2 c κs = search needs
 
--- src/reader.rt:232:9
 returns-2 : tie.Need-returns-2
 returns-2 c = c .refused2 .ensures ∙ decode-no _ _ (read-body _ _ _ (c .before .before .before .before .before .head-refusal .ensures) (c .before .before .before .before .if1 .left) (c .before .before .body-refusal .ensures)) (c .before .if2 .taken)
 
--- src/reader.rt:234:9
 read-run-requires : tie.Need-read-run-requires
 read-run-requires c κs = (head-passes _ 0 (sym (c .before .before .before .before .head-refusal .ensures) ∙ c .before .before .before .if1 .left) .0, c .before .before .read-network .ensures)
 
--- src/reader.rt:222:1
 returns-3 : tie.Need-returns-3
 returns-3 c = decode-yes _ _ _ (read-body _ _ _ (c .before .before .before .before .before .head-refusal .ensures) (c .before .before .before .before .if1 .left) (c .before .before .body-refusal .ensures)) (c .before .if2 .left) (c .read-run .ensures)
 

@@ -16,35 +16,27 @@ Inv-loop b n channels₀ c₀ channels c = (c ≤ n) × (channels ≡ channelsOf
 abbrev μ-loop : tie.MeasureT-loop
 μ-loop b n channels₀ c₀ channels c = n - c
 
--- src/reader.rt:66:5
 loop-holds : tie.Need-loop-holds Inv-loop μ-loop
 loop-holds c = (omega arith, sym (over-none _ _))
 
--- src/reader.rt:67:25
 add-channels : tie.Need-add-channels Inv-loop μ-loop
 add-channels c = omega arith
 
--- src/reader.rt:67:23
 shared-slice-read-channels : tie.Need-shared-slice-read-channels Inv-loop μ-loop
 shared-slice-read-channels c = omega arith
 
--- src/reader.rt:67:9
 array-write-channels : tie.Need-array-write-channels Inv-loop μ-loop
 array-write-channels c = omega arith
 
--- src/reader.rt:68:9
 add-c : tie.Need-add-c Inv-loop μ-loop
 add-c c = omega arith
 
--- src/reader.rt:66:5
 loop-less : tie.Need-loop-less Inv-loop μ-loop
 loop-less c = omega arith
 
--- src/reader.rt:66:5
 loop-again : tie.Need-loop-again Inv-loop μ-loop
 loop-again c = (omega arith, over-step _ _ _ _ _ (c .before .before .loop .inv .1) refl (omega arith))
 
--- src/reader.rt:60:1
 returns : tie.Need-returns Inv-loop μ-loop
 returns c = let e : c .before .loop .c ≡ c .before .before .args .n = omega arith in c .before .loop .inv .1 ∙ rw e refl
 

@@ -13,51 +13,39 @@ use Rattle.archive.proofs.reader.read_channels.Reads as read-channels-r
 use Rattle.archive.proofs.reader.read_routes.Reads as read-routes-reads
 use Rattle.base.proofs.wide.Reads as wide-reads
 
--- src/reader.rt:124:28
 shared-slice-read-wide : tie.Need-shared-slice-read-wide
 shared-slice-read-wide c = search needs
 
--- src/reader.rt:124:9
 wide-requires : tie.Need-wide-requires
 wide-requires c κs = search needs
 
--- src/reader.rt:125:17
 shared-slice-read-tries : tie.Need-shared-slice-read-tries
 shared-slice-read-tries c = search needs
 
--- src/reader.rt:126:28
 shared-slice-read-wide-2 : tie.Need-shared-slice-read-wide-2
 shared-slice-read-wide-2 c = search needs
 
--- src/reader.rt:126:9
 wide-requires-2 : tie.Need-wide-requires-2
 wide-requires-2 c κs = search needs
 
--- src/reader.rt:127:37
 mul-read-channels : tie.Need-mul-read-channels
 mul-read-channels c = search needs
 
--- src/reader.rt:127:9
 read-channels-requires : tie.Need-read-channels-requires
 read-channels-requires c κs = search needs
 
--- src/reader.rt:128:38
 mul-read-routes : tie.Need-mul-read-routes
 mul-read-routes c = search needs
 
--- src/reader.rt:128:33
 add-read-routes : tie.Need-add-read-routes
 add-read-routes c = search needs
 
--- src/reader.rt:128:59
 mul-read-routes-2 : tie.Need-mul-read-routes-2
 mul-read-routes-2 c = let q = ap (λ (x : ℕ). x * x) (c .before .before .before .before .wide .ensures .0) in omega (arith, c .before .before .before .before .before .before .before .pre .square)
 
--- src/reader.rt:128:9
 read-routes-requires : tie.Need-read-routes-requires
 read-routes-requires c κs = let q = ap (λ (x : ℕ). x * x) (c .before .before .before .before .wide .ensures .0) in (omega (arith, c .before .before .before .before .before .before .before .pre .square), omega (arith, c .before .before .before .before .before .before .before .pre .square, c .before .before .before .before .before .before .before .pre .size, c .before .before .before .before .wide .ensures .0))
 
--- src/reader.rt:120:1
 returns : tie.Need-returns
 unfolding networkOf
 returns c = rw (c .read-routes .ensures, c .before .read-channels .ensures, c .before .before .wide2 .ensures .0, c .before .before .before .before .before .wide .ensures .0) refl

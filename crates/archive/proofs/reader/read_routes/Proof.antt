@@ -17,43 +17,33 @@ Inv-loop b p n routes₀ k₀ routes k = (k ≤ n) × (routes ≡ routesOf b p k
 abbrev μ-loop : tie.MeasureT-loop
 μ-loop b p n routes₀ k₀ routes k = n - k
 
--- src/reader.rt:79:5
 loop-holds : tie.Need-loop-holds Inv-loop μ-loop
 loop-holds c = (omega arith, sym (over-none _ _))
 
--- src/reader.rt:80:36
 mul-word-at : tie.Need-mul-word-at Inv-loop μ-loop
 mul-word-at c = omega arith
 
--- src/reader.rt:80:32
 add-word-at : tie.Need-add-word-at Inv-loop μ-loop
 add-word-at c = omega arith
 
--- src/reader.rt:80:21
 word-at-requires : tie.Need-word-at-requires Inv-loop μ-loop
 word-at-requires c κs = omega arith
 
--- src/reader.rt:80:9
 mul-routes : tie.Need-mul-routes Inv-loop μ-loop
 mul-routes c = omega arith
 
--- src/reader.rt:80:9
 array-write-routes : tie.Need-array-write-routes Inv-loop μ-loop
 array-write-routes c = omega arith
 
--- src/reader.rt:81:9
 add-k : tie.Need-add-k Inv-loop μ-loop
 add-k c = omega arith
 
--- src/reader.rt:79:5
 loop-less : tie.Need-loop-less Inv-loop μ-loop
 loop-less c = omega arith
 
--- src/reader.rt:79:5
 loop-again : tie.Need-loop-again Inv-loop μ-loop
 loop-again c = (omega arith, over-step _ _ _ _ _ (c .before .before .loop .inv .1) (c .word-at .ensures) (omega arith))
 
--- src/reader.rt:73:1
 returns : tie.Need-returns Inv-loop μ-loop
 returns c = let e : c .before .loop .k ≡ c .before .before .before .args .n = omega arith in c .before .loop .inv .1 ∙ rw e refl
 

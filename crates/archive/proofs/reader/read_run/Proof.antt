@@ -14,55 +14,42 @@ use Rattle.archive.proofs.reader.read_sends.Reads as read-sends-reads
 use Rattle.archive.proofs.reader.word_at.Reads as word-at-reads
 use Rattle.base.proofs.wide.Reads as wide-reads
 
--- src/reader.rt:142:28
 shared-slice-read-wide : tie.Need-shared-slice-read-wide
 shared-slice-read-wide c = search needs
 
--- src/reader.rt:142:9
 wide-requires : tie.Need-wide-requires
 wide-requires c κs = search needs
 
--- src/reader.rt:143:28
 shared-slice-read-wide-2 : tie.Need-shared-slice-read-wide-2
 shared-slice-read-wide-2 c = search needs
 
--- src/reader.rt:143:9
 wide-requires-2 : tie.Need-wide-requires-2
 wide-requires-2 c κs = search needs
 
--- src/reader.rt:144:9
 quad-at-requires : tie.Need-quad-at-requires
 quad-at-requires c κs = search needs
 
--- src/reader.rt:145:9
 word-at-requires : tie.Need-word-at-requires
 word-at-requires c κs = search needs
 
--- src/reader.rt:146:36
 mul-read-sends : tie.Need-mul-read-sends
 mul-read-sends c = search needs
 
--- src/reader.rt:146:31
 add-read-sends : tie.Need-add-read-sends
 add-read-sends c = search needs
 
--- src/reader.rt:146:63
 mul-read-sends-2 : tie.Need-mul-read-sends-2
 mul-read-sends-2 c = let q = ap (λ (x : ℕ). x * x) (c .before .before .before .before .wide .ensures .0) in omega (arith, c .before .before .before .before .before .before .before .pre .0 .square)
 
--- src/reader.rt:146:58
 mul-read-sends-3 : tie.Need-mul-read-sends-3
 mul-read-sends-3 c = let q = ap (λ (x : ℕ). x * x) (c .before .before .before .before .wide .ensures .0) in omega (arith, c .before .before .before .before .before .before .before .pre .0 .square)
 
--- src/reader.rt:146:31
 add-read-sends-2 : tie.Need-add-read-sends-2
 add-read-sends-2 c = let q = ap (λ (x : ℕ). x * x) (c .before .before .before .before .wide .ensures .0) in omega (arith, c .before .before .before .before .before .before .before .pre .0 .square, c .before .before .before .before .before .before .before .pre .0 .few, c .before .before .before .before .wide .ensures .0)
 
--- src/reader.rt:146:9
 read-sends-requires : tie.Need-read-sends-requires
 read-sends-requires c κs = let q = ap (λ (x : ℕ). x * x) (c .before .before .before .before .wide .ensures .0) in (omega (arith, c .before .before .wide2 .ensures .1), omega (arith, c .before .before .before .before .before .before .before .pre .0 .size, c .before .before .before .before .wide .ensures .0, c .before .before .wide2 .ensures .0))
 
--- src/reader.rt:138:1
 returns : tie.Need-returns
 unfolding runOf
 returns c = rw (c .read-sends .ensures, c .before .word-at .ensures, c .before .before .quad-at .ensures, c .before .before .before .wide2 .ensures .0, c .before .before .before .before .before .wide .ensures .0, c .before .before .before .before .before .before .before .before .pre .1) refl

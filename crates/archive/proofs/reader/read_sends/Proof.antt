@@ -17,43 +17,33 @@ Inv-loop b p n sends₀ k₀ sends k = (k ≤ n) × (sends ≡ sendsOf b p k)
 abbrev μ-loop : tie.MeasureT-loop
 μ-loop b p n sends₀ k₀ sends k = n - k
 
--- src/reader.rt:108:5
 loop-holds : tie.Need-loop-holds Inv-loop μ-loop
 loop-holds c = (omega arith, sym (over-none _ _))
 
--- src/reader.rt:109:35
 mul-send-at : tie.Need-mul-send-at Inv-loop μ-loop
 mul-send-at c = omega arith
 
--- src/reader.rt:109:31
 add-send-at : tie.Need-add-send-at Inv-loop μ-loop
 add-send-at c = omega arith
 
--- src/reader.rt:109:20
 send-at-requires : tie.Need-send-at-requires Inv-loop μ-loop
 send-at-requires c κs = omega arith
 
--- src/reader.rt:109:9
 mul-sends : tie.Need-mul-sends Inv-loop μ-loop
 mul-sends c = omega arith
 
--- src/reader.rt:109:9
 array-set-from-sends : tie.Need-array-set-from-sends Inv-loop μ-loop
 array-set-from-sends c = omega arith
 
--- src/reader.rt:110:9
 add-k : tie.Need-add-k Inv-loop μ-loop
 add-k c = omega arith
 
--- src/reader.rt:108:5
 loop-less : tie.Need-loop-less Inv-loop μ-loop
 loop-less c = omega arith
 
--- src/reader.rt:108:5
 loop-again : tie.Need-loop-again Inv-loop μ-loop
 loop-again c = (omega arith, over-step _ _ _ _ _ (c .before .before .loop .inv .1) (c .send-at .ensures) (omega arith))
 
--- src/reader.rt:97:1
 returns : tie.Need-returns Inv-loop μ-loop
 returns c = let e : c .before .loop .k ≡ c .before .before .before .args .n = omega arith in c .before .loop .inv .1 ∙ rw e refl
 

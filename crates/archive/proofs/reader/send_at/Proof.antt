@@ -7,31 +7,24 @@ use Rattle.archive.proofs.reader.send_at.Reads as reads
 use Rattle.archive.proofs.reader.send_at.Lts as lts
 use Rattle.archive.proofs.reader.word_at.Reads as word-at-reads
 
--- src/reader.rt:91:25
 add-word-at : tie.Need-add-word-at
 add-word-at c = search needs
 
--- src/reader.rt:91:14
 word-at-requires : tie.Need-word-at-requires
 word-at-requires c κs = search needs
 
--- src/reader.rt:91:14
 cast-t5 : tie.Need-cast-t5
 cast-t5 c = search needs
 
--- src/reader.rt:92:15
 word-at-requires-2 : tie.Need-word-at-requires-2
 word-at-requires-2 c κs = search needs
 
--- src/reader.rt:93:17
 add-t7 : tie.Need-add-t7
 add-t7 c = search needs
 
--- src/reader.rt:93:15
 shared-slice-read-t9 : tie.Need-shared-slice-read-t9
 shared-slice-read-t9 c = search needs
 
--- src/reader.rt:86:1
 returns : tie.Need-returns
 returns c = rw (c .before .before .word-at .ensures, c .before .word-at2 .ensures) refl
 

@@ -23,49 +23,39 @@ Inv-loop b p n sites draws last₀ k₀ last k = (k ≤ n) × (last ≡ drawBefo
 abbrev μ-loop : tie.MeasureT-loop
 μ-loop b p n sites draws last₀ k₀ last k = n - k
 
--- src/reader.rt:163:5
 loop-holds : tie.Need-loop-holds Inv-loop μ-loop
 loop-holds c = (omega arith, refl, all-none _)
 
--- src/reader.rt:164:35
 mul-send-at : tie.Need-mul-send-at Inv-loop μ-loop
 mul-send-at c = omega arith
 
--- src/reader.rt:164:31
 add-send-at : tie.Need-add-send-at Inv-loop μ-loop
 add-send-at c = omega arith
 
--- src/reader.rt:164:13
 send-at-requires : tie.Need-send-at-requires Inv-loop μ-loop
 send-at-requires c κs = omega arith
 
--- src/reader.rt:165:12
 send-ok-requires : tie.Need-send-ok-requires Inv-loop μ-loop
 send-ok-requires c κs = search needs
 
--- src/reader.rt:167:13
 add-k : tie.Need-add-k Inv-loop μ-loop
 add-k c = omega arith
 
--- src/reader.rt:163:5
 loop-less : tie.Need-loop-less Inv-loop μ-loop
 loop-less c = omega arith
 
--- src/reader.rt:163:5
 loop-again : tie.Need-loop-again Inv-loop μ-loop
 loop-again c =
     let a = c .before .before .before .before .before .before .args in
     let e = c .before .send-ok .ensures ∙ ap₂ (λ (l : ℕ) (x : StoredSend). sendAfter (a .sites) (a .draws) l x) (c .before .before .before .before .loop .inv .1) (c .before .before .send-at .ensures) in
     (omega arith, ap (λ (x : StoredSend). x .draw) (c .before .before .send-at .ensures) ∙ draw-next (sendsFrom (a .b .now) (a .p)) (c .before .before .before .before .loop .k), all-more _ _ (c .before .before .before .before .loop .inv .2) (sym e ∙ c .if1 .taken))
 
--- src/reader.rt:169:13
 returns : tie.Need-returns Inv-loop μ-loop
 returns c =
     let a = c .before .before .before .before .before .before .args in
     let e = c .before .send-ok .ensures ∙ ap₂ (λ (l : ℕ) (x : StoredSend). sendAfter (a .sites) (a .draws) l x) (c .before .before .before .before .loop .inv .1) (c .before .before .send-at .ensures) in
     sym (all-fails _ (c .before .before .before .before .loop .k) _ (c .before .before .before .loop-test .taken) (sym e ∙ c .if1 .left))
 
--- src/reader.rt:157:1
 returns-2 : tie.Need-returns-2 Inv-loop μ-loop
 returns-2 c = let e : c .before .loop .k ≡ c .before .before .before .args .n = omega arith in sym (rw e at (c .before .loop .inv .2))
 

@@ -23,45 +23,36 @@ Inv-loop sites draws count sends last₀ k₀ last k = (k ≤ count) × (last �
 abbrev μ-loop : tie.MeasureT-loop
 μ-loop sites draws count sends last₀ k₀ last k = count - k
 
--- src/sends.rt:30:5
 loop-holds : tie.Need-loop-holds Inv-loop μ-loop
 loop-holds c = (omega arith, refl, all-none _)
 
--- src/sends.rt:31:20
 mul-send : tie.Need-mul-send Inv-loop μ-loop
 mul-send c = omega arith
 
--- src/sends.rt:31:20
 array-copy-out-send : tie.Need-array-copy-out-send Inv-loop μ-loop
 array-copy-out-send c = omega arith
 
--- src/sends.rt:32:12
 send-ok-requires : tie.Need-send-ok-requires Inv-loop μ-loop
 send-ok-requires c κs = search needs
 
--- src/sends.rt:34:13
 add-k : tie.Need-add-k Inv-loop μ-loop
 add-k c = omega arith
 
--- src/sends.rt:30:5
 loop-less : tie.Need-loop-less Inv-loop μ-loop
 loop-less c = omega arith
 
--- src/sends.rt:30:5
 loop-again : tie.Need-loop-again Inv-loop μ-loop
 loop-again c =
     let r = c .before .before .before .before .before .before .before .args .run in
     let e = c .before .send-ok .ensures ∙ ap (λ (l : ℕ). sendAfter (r .network .sites) (r .draws) l (getD (r .sends) (c .before .before .before .before .loop .k) sendD)) (c .before .before .before .before .loop .inv .1) in
     (omega arith, draw-next (λ (j : ℕ). getD (r .sends) j sendD) (c .before .before .before .before .loop .k), all-more _ _ (c .before .before .before .before .loop .inv .2) (sym e ∙ c .if1 .taken))
 
--- src/sends.rt:36:13
 returns : tie.Need-returns Inv-loop μ-loop
 returns c =
     let r = c .before .before .before .before .before .before .before .args .run in
     let e = c .before .send-ok .ensures ∙ ap (λ (l : ℕ). sendAfter (r .network .sites) (r .draws) l (getD (r .sends) (c .before .before .before .before .loop .k) sendD)) (c .before .before .before .before .loop .inv .1) in
     sym (sym (sends-in r) ∙ all-fails _ (c .before .before .before .before .loop .k) _ (c .before .before .before .loop-test .taken) (sym e ∙ c .if1 .left))
 
--- src/sends.rt:19:1
 returns-2 : tie.Need-returns-2 Inv-loop μ-loop
 returns-2 c = let e : c .before .loop .k ≡ c .before .before .before .before .args .run .count = omega arith in sym (sym (sends-in (c .before .before .before .before .args .run)) ∙ (rw e at (c .before .loop .inv .2)))
 

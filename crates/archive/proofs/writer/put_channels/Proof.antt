@@ -18,39 +18,30 @@ Inv-loop out₀ n channels k₀ out k = (k ≤ n) × (length out ≡ length out�
 abbrev μ-loop : tie.MeasureT-loop
 μ-loop out₀ n channels k₀ out k = n - k
 
--- src/writer.rt:91:5
 loop-holds : tie.Need-loop-holds Inv-loop μ-loop
 loop-holds c = (omega arith, refl, channels-none (c .args .t2) _ headLength)
 
--- src/writer.rt:92:23
 array-read-out : tie.Need-array-read-out Inv-loop μ-loop
 array-read-out c = omega arith
 
--- src/writer.rt:92:13
 add-out : tie.Need-add-out Inv-loop μ-loop
 add-out c = omega arith
 
--- src/writer.rt:92:9
 slice-write-out : tie.Need-slice-write-out Inv-loop μ-loop
 slice-write-out c = omega arith
 
--- src/writer.rt:93:9
 add-k : tie.Need-add-k Inv-loop μ-loop
 add-k c = omega arith
 
--- src/writer.rt:91:5
 loop-less : tie.Need-loop-less Inv-loop μ-loop
 loop-less c = omega arith
 
--- src/writer.rt:91:5
 loop-again : tie.Need-loop-again Inv-loop μ-loop
 loop-again c = (omega arith, simp length-set (c .before .loop .inv .1), channels-turn (c .before .before .args .t2) _ _ (c .before .loop .k) (c .before .loop .inv .2) (omega arith) (c .before .loop .inv .1))
 
--- src/writer.rt:86:1
 same-length : tie.Need-same-length Inv-loop μ-loop
 same-length c = c .before .loop .inv .1
 
--- src/writer.rt:86:1
 returns : tie.Need-returns Inv-loop μ-loop
 returns c = let e : c .before .loop .k ≡ c .before .before .args .n = omega arith in c .before .loop .inv .2 ∙ rw e refl
 

@@ -10,107 +10,81 @@ use Rattle.archive.proofs.writer.put_head.Tie as tie
 use Rattle.archive.proofs.writer.put_head.Reads as reads
 use Rattle.archive.proofs.writer.put_head.Lts as lts
 
--- src/writer.rt:71:14
 cast-out : tie.Need-cast-out
 cast-out c = search needs
 
--- src/writer.rt:71:5
 slice-write-out : tie.Need-slice-write-out
 slice-write-out c = search needs
 
--- src/writer.rt:72:14
 cast-out-2 : tie.Need-cast-out-2
 cast-out-2 c = search needs
 
--- src/writer.rt:72:5
 slice-write-out-2 : tie.Need-slice-write-out-2
 slice-write-out-2 c = simp length-set (omega (arith, c .pre .0))
 
--- src/writer.rt:73:5
 slice-write-out-3 : tie.Need-slice-write-out-3
 slice-write-out-3 c = simp length-set (omega (arith, c .pre .0))
 
--- src/writer.rt:74:14
 cast-out-3 : tie.Need-cast-out-3
 cast-out-3 c = search needs
 
--- src/writer.rt:74:5
 slice-write-out-4 : tie.Need-slice-write-out-4
 slice-write-out-4 c = simp length-set (omega (arith, c .pre .0))
 
--- src/writer.rt:75:5
 slice-write-out-5 : tie.Need-slice-write-out-5
 slice-write-out-5 c = simp length-set (omega (arith, c .pre .0))
 
--- src/writer.rt:76:14
 cast-out-4 : tie.Need-cast-out-4
 cast-out-4 c = search needs
 
--- src/writer.rt:76:5
 slice-write-out-6 : tie.Need-slice-write-out-6
 slice-write-out-6 c = simp length-set (omega (arith, c .pre .0))
 
--- src/writer.rt:77:14
 cast-out-5 : tie.Need-cast-out-5
 cast-out-5 c = search needs
 
--- src/writer.rt:77:5
 slice-write-out-7 : tie.Need-slice-write-out-7
 slice-write-out-7 c = simp length-set (omega (arith, c .pre .0))
 
--- src/writer.rt:78:14
 cast-out-6 : tie.Need-cast-out-6
 cast-out-6 c = search needs
 
--- src/writer.rt:78:5
 slice-write-out-8 : tie.Need-slice-write-out-8
 slice-write-out-8 c = simp length-set (omega (arith, c .pre .0))
 
--- src/writer.rt:79:14
 cast-out-7 : tie.Need-cast-out-7
 cast-out-7 c = search needs
 
--- src/writer.rt:79:5
 slice-write-out-9 : tie.Need-slice-write-out-9
 slice-write-out-9 c = simp length-set (omega (arith, c .pre .0))
 
--- src/writer.rt:80:14
 cast-out-8 : tie.Need-cast-out-8
 cast-out-8 c = search needs
 
--- src/writer.rt:80:5
 slice-write-out-10 : tie.Need-slice-write-out-10
 slice-write-out-10 c = simp length-set (omega (arith, c .pre .0))
 
--- src/writer.rt:81:15
 cast-out-9 : tie.Need-cast-out-9
 cast-out-9 c = search needs
 
--- src/writer.rt:81:5
 slice-write-out-11 : tie.Need-slice-write-out-11
 slice-write-out-11 c = simp length-set (omega (arith, c .pre .0))
 
--- src/writer.rt:82:15
 cast-out-10 : tie.Need-cast-out-10
 cast-out-10 c = search needs
 
--- src/writer.rt:82:5
 slice-write-out-12 : tie.Need-slice-write-out-12
 slice-write-out-12 c = simp length-set (omega (arith, c .pre .0))
 
--- src/writer.rt:83:15
 cast-out-11 : tie.Need-cast-out-11
 cast-out-11 c = search needs
 
--- src/writer.rt:83:5
 slice-write-out-13 : tie.Need-slice-write-out-13
 slice-write-out-13 c = simp length-set (omega (arith, c .pre .0))
 
--- src/writer.rt:58:1
 same-length : tie.Need-same-length
 same-length c = simp length-set
 
--- src/writer.rt:58:1
 returns : tie.Need-returns
 returns c = let a = c .args in put-sets _ 0 (headWith (a .size) (a .sites) (a .tries) (a .depth) (a .seed) (a .draws) (a .count)) (c .pre .0)
 

@@ -19,47 +19,36 @@ Inv-loop out₀ p n routes k₀ out k = (k ≤ n) × (length out ≡ length out�
 abbrev μ-loop : tie.MeasureT-loop
 μ-loop out₀ p n routes k₀ out k = n - k
 
--- src/writer.rt:102:5
 loop-holds : tie.Need-loop-holds Inv-loop μ-loop
 loop-holds c = (omega arith, refl, routes-none (c .before .args .t2) _ (c .before .args .p))
 
--- src/writer.rt:103:27
 mul-put-word : tie.Need-mul-put-word Inv-loop μ-loop
 mul-put-word c = omega arith
 
--- src/writer.rt:103:23
 add-put-word : tie.Need-add-put-word Inv-loop μ-loop
 add-put-word c = omega arith
 
--- src/writer.rt:103:34
 mul-put-word-2 : tie.Need-mul-put-word-2 Inv-loop μ-loop
 mul-put-word-2 c = omega arith
 
--- src/writer.rt:103:34
 array-read-put-word : tie.Need-array-read-put-word Inv-loop μ-loop
 array-read-put-word c = omega arith
 
--- src/writer.rt:103:9
 put-word-requires : tie.Need-put-word-requires Inv-loop μ-loop
 put-word-requires c κs = omega arith
 
--- src/writer.rt:104:9
 add-k : tie.Need-add-k Inv-loop μ-loop
 add-k c = omega arith
 
--- src/writer.rt:102:5
 loop-less : tie.Need-loop-less Inv-loop μ-loop
 loop-less c = omega arith
 
--- src/writer.rt:102:5
 loop-again : tie.Need-loop-again Inv-loop μ-loop
 loop-again c = (omega arith, ap length (c .before .before .put-word .ensures) ∙ length-put _ _ _ (omega arith) ∙ c .before .before .before .before .before .loop .inv .1, routes-turn (c .before .before .before .before .before .before .before .args .t2) _ _ _ (c .before .before .before .before .before .before .before .args .p) (c .before .before .before .before .before .loop .k) (c .before .before .before .before .before .loop .inv .2) (c .before .before .put-word .ensures) (omega arith))
 
--- src/writer.rt:97:1
 same-length : tie.Need-same-length Inv-loop μ-loop
 same-length c = c .before .loop .inv .1
 
--- src/writer.rt:97:1
 returns : tie.Need-returns Inv-loop μ-loop
 returns c = let e : c .before .loop .k ≡ c .before .before .before .args .n = omega arith in c .before .loop .inv .2 ∙ rw e refl
 

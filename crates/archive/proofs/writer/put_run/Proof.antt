@@ -11,63 +11,48 @@ use Rattle.archive.proofs.writer.put_head.Reads as put-head-reads
 use Rattle.archive.proofs.writer.put_routes.Reads as put-routes-reads
 use Rattle.archive.proofs.writer.put_sends.Reads as put-sends-reads
 
--- src/writer.rt:132:18
 mul-square : tie.Need-mul-square
 mul-square c = search needs
 
--- src/writer.rt:133:9
 size-of-requires : tie.Need-size-of-requires
 size-of-requires c κs = search needs
 
--- src/writer.rt:134:5
 put-head-requires : tie.Need-put-head-requires
 put-head-requires c κs = search needs
 
--- src/writer.rt:135:33
 mul-put-channels : tie.Need-mul-put-channels
 mul-put-channels c = search needs
 
--- src/writer.rt:135:5
 put-channels-requires : tie.Need-put-channels-requires
 put-channels-requires c κs = search needs
 
--- src/writer.rt:136:34
 mul-put-routes : tie.Need-mul-put-routes
 mul-put-routes c = search needs
 
--- src/writer.rt:136:29
 add-put-routes : tie.Need-add-put-routes
 add-put-routes c = search needs
 
--- src/writer.rt:136:5
 put-routes-requires : tie.Need-put-routes-requires
 put-routes-requires c κs = search needs
 
--- src/writer.rt:137:32
 mul-put-sends : tie.Need-mul-put-sends
 mul-put-sends c = search needs
 
--- src/writer.rt:137:27
 add-put-sends : tie.Need-add-put-sends
 add-put-sends c = search needs
 
--- src/writer.rt:137:54
 mul-put-sends-2 : tie.Need-mul-put-sends-2
 mul-put-sends-2 c = search needs
 
--- src/writer.rt:137:27
 add-put-sends-2 : tie.Need-add-put-sends-2
 add-put-sends-2 c = search needs
 
--- src/writer.rt:137:5
 put-sends-requires : tie.Need-put-sends-requires
 put-sends-requires c κs = search needs
 
--- src/writer.rt:120:1
 same-length : tie.Need-same-length
 same-length c = search needs
 
--- src/writer.rt:120:1
 returns : tie.Need-returns
 returns c = put-parts (c .before .before .before .before .before .before .before .before .before .before .before .before .before .before .before .before .before .before .before .before .before .before .args .run) _ _ _ _ _ _ (c .before .before .before .before .before .before .before .before .before .before .before .before .before .before .before .before .before .before .before .before .before .before .pre .1) (c .before .before .before .before .before .before .before .before .before .before .before .before .before .before .before .before .size-of .ensures) (c .before .before .before .before .before .before .before .before .before .before .before .before .before .before .put-head .ensures) (c .before .before .before .before .before .before .before .before .before .before .put-channels .ensures) (c .before .before .before .before .before .before .put-routes .ensures) (c .before .before .put-sends .ensures)
 

@@ -19,47 +19,36 @@ Inv-loop out₀ p n sends k₀ out k = (k ≤ n) × (length out ≡ length out�
 abbrev μ-loop : tie.MeasureT-loop
 μ-loop out₀ p n sends k₀ out k = n - k
 
--- src/writer.rt:113:5
 loop-holds : tie.Need-loop-holds Inv-loop μ-loop
 loop-holds c = (omega arith, refl, sends-none (c .before .args .t2) _ (c .before .args .p))
 
--- src/writer.rt:114:20
 mul-send : tie.Need-mul-send Inv-loop μ-loop
 mul-send c = omega arith
 
--- src/writer.rt:114:20
 array-copy-out-send : tie.Need-array-copy-out-send Inv-loop μ-loop
 array-copy-out-send c = omega arith
 
--- src/writer.rt:115:27
 mul-put-send : tie.Need-mul-put-send Inv-loop μ-loop
 mul-put-send c = omega arith
 
--- src/writer.rt:115:23
 add-put-send : tie.Need-add-put-send Inv-loop μ-loop
 add-put-send c = omega arith
 
--- src/writer.rt:115:9
 put-send-requires : tie.Need-put-send-requires Inv-loop μ-loop
 put-send-requires c κs = omega arith
 
--- src/writer.rt:116:9
 add-k : tie.Need-add-k Inv-loop μ-loop
 add-k c = omega arith
 
--- src/writer.rt:113:5
 loop-less : tie.Need-loop-less Inv-loop μ-loop
 loop-less c = omega arith
 
--- src/writer.rt:113:5
 loop-again : tie.Need-loop-again Inv-loop μ-loop
 loop-again c = (omega arith, ap length (c .before .before .put-send .ensures) ∙ length-put _ _ _ (omega arith) ∙ c .before .before .before .before .before .before .loop .inv .1, sends-turn (c .before .before .before .before .before .before .before .before .args .t2) _ _ _ (c .before .before .before .before .before .before .before .before .args .p) (c .before .before .before .before .before .before .loop .k) (c .before .before .before .before .before .before .loop .inv .2) (c .before .before .put-send .ensures) (omega arith))
 
--- src/writer.rt:108:1
 same-length : tie.Need-same-length Inv-loop μ-loop
 same-length c = c .before .loop .inv .1
 
--- src/writer.rt:108:1
 returns : tie.Need-returns Inv-loop μ-loop
 returns c = let e : c .before .loop .k ≡ c .before .before .before .args .n = omega arith in c .before .loop .inv .2 ∙ rw e refl
 

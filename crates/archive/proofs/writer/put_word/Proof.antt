@@ -9,31 +9,24 @@ use Rattle.archive.proofs.writer.put_word.Tie as tie
 use Rattle.archive.proofs.writer.put_word.Reads as reads
 use Rattle.archive.proofs.writer.put_word.Lts as lts
 
--- src/writer.rt:43:14
 cast-out : tie.Need-cast-out
 cast-out c = search needs
 
--- src/writer.rt:43:5
 slice-write-out : tie.Need-slice-write-out
 slice-write-out c = search needs
 
--- src/writer.rt:44:18
 cast-out-2 : tie.Need-cast-out-2
 cast-out-2 c = search needs
 
--- src/writer.rt:44:9
 add-out : tie.Need-add-out
 add-out c = search needs
 
--- src/writer.rt:44:5
 slice-write-out-2 : tie.Need-slice-write-out-2
 slice-write-out-2 c = simp length-set (omega arith)
 
--- src/writer.rt:39:1
 same-length : tie.Need-same-length
 same-length c = search needs
 
--- src/writer.rt:39:1
 returns : tie.Need-returns
 returns c = put-two _ _ _ _ (c .pre)
 

@@ -10,35 +10,27 @@ use Rattle.archive.proofs.writer.stored_refusal.Lts as lts
 use Rattle.archive.proofs.sends.sends_ok.Reads as sends-ok-reads
 use Rattle.checks.proofs.network_refusal.Reads as network-refusal-reads
 
--- src/writer.rt:19:9
 network-refusal-requires : tie.Need-network-refusal-requires
 network-refusal-requires c κs = search needs
 
--- src/writer.rt:21:9
 returns : tie.Need-returns
 returns c = stored-sizes (c .before .before .before .args .run) _ (c .before .network-refusal .ensures) (c .if1 .taken)
 
--- src/writer.rt:24:9
 returns-2 : tie.Need-returns-2
 returns-2 c = stored-seed (c .before .before .before .before .before .args .run) _ (c .before .before .before .network-refusal .ensures) (c .before .before .if1 .left) (c .if2 .taken)
 
--- src/writer.rt:27:9
 returns-3 : tie.Need-returns-3
 returns-3 c = stored-count (c .before .before .before .before .before .before .before .args .run) _ (c .before .before .before .before .before .network-refusal .ensures) (c .before .before .before .before .if1 .left) (c .before .before .if2 .left) (c .if3 .taken)
 
--- src/writer.rt:30:9
 returns-4 : tie.Need-returns-4
 returns-4 c = stored-network (c .before .before .before .before .before .before .before .before .args .run) _ (c .before .before .before .before .before .before .network-refusal .ensures) (c .before .before .before .before .before .if1 .left) (c .before .before .before .if2 .left) (c .before .if3 .left) (c .if4 .taken)
 
--- src/writer.rt:32:8
 sends-ok-requires : tie.Need-sends-ok-requires
 sends-ok-requires c κs = search needs
 
--- src/writer.rt:33:9
 returns-5 : tie.Need-returns-5
 returns-5 c = stored-sends (c .before .before .before .before .before .before .before .before .before .before .args .run) _ (c .before .before .before .before .before .before .before .before .network-refusal .ensures) (c .before .before .before .before .before .before .before .if1 .left) (c .before .before .before .before .before .if2 .left) (c .before .before .before .if3 .left) (c .before .before .if4 .left) true (sym (c .before .sends-ok .ensures) ∙ c .if5 .taken)
 
--- src/writer.rt:15:1
 returns-6 : tie.Need-returns-6
 returns-6 c = stored-sends (c .before .before .before .before .before .before .before .before .before .before .args .run) _ (c .before .before .before .before .before .before .before .before .network-refusal .ensures) (c .before .before .before .before .before .before .before .if1 .left) (c .before .before .before .before .before .if2 .left) (c .before .before .before .if3 .left) (c .before .before .if4 .left) false (sym (c .before .sends-ok .ensures) ∙ c .if5 .left)
 

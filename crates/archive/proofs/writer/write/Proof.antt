@@ -13,31 +13,24 @@ use Rattle.archive.proofs.size_of.Reads as size-of-reads
 use Rattle.archive.proofs.writer.put_run.Reads as put-run-reads
 use Rattle.archive.proofs.writer.stored_refusal.Reads as stored-refusal-reads
 
--- src/writer.rt:145:9
 stored-refusal-requires : tie.Need-stored-refusal-requires
 stored-refusal-requires c κs = search needs
 
--- src/writer.rt:147:9
 returns : tie.Need-returns
 returns c = write-no (c .before .before .before .args .run) _ _ (c .before .stored-refusal .ensures) (c .if1 .taken)
 
--- src/writer.rt:153:9
 size-of-requires : tie.Need-size-of-requires
 size-of-requires c κs = let f = stored-passes (c .before .before .before .before .args .run) (sym (c .before .before .stored-refusal .ensures) ∙ c .before .if1 .left) .fit in (omega arith, omega arith)
 
--- src/writer.rt:155:9
 returns-2 : tie.Need-returns-2
 returns-2 c = write-short (c .before .before .before .before .before .before .args .run) _ (sym (c .before .before .before .before .stored-refusal .ensures) ∙ c .before .before .before .if1 .left) (omega (arith, c .if2 .taken, c .before .size-of .ensures))
 
--- src/writer.rt:160:5
 put-run-requires : tie.Need-put-run-requires
 put-run-requires c κs = (stored-passes (c .before .before .before .before .before .before .before .args .run) (sym (c .before .before .before .before .before .stored-refusal .ensures) ∙ c .before .before .before .before .if1 .left) .fit, omega (arith, c .before .if2 .left, c .before .before .size-of .ensures))
 
--- src/writer.rt:142:1
 same-length : tie.Need-same-length
 same-length c = search needs
 
--- src/writer.rt:142:1
 returns-3 : tie.Need-returns-3
 returns-3 c = write-yes (c .before .before .before .before .before .before .before .before .before .before .args .run) _ _ _ (sym (c .before .before .before .before .before .before .before .before .stored-refusal .ensures) ∙ c .before .before .before .before .before .before .before .if1 .left) (omega (arith, c .before .before .before .before .if2 .left, c .before .before .before .before .before .size-of .ensures)) (c .before .before .before .before .before .size-of .ensures) (c .before .before .put-run .ensures)
 

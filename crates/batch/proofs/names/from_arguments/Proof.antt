@@ -17,39 +17,30 @@ Inv-loop first services totals₀ name₀ i₀ i-end totals name i = 131072 ≡ 
 abbrev μ-loop : tie.MeasureT-loop
 μ-loop first services totals₀ name₀ i₀ i-end totals name i = i-end - i
 
--- src/names.rt:14:9
 no-files-requires : tie.Need-no-files-requires Inv-loop μ-loop
 no-files-requires c κs = search needs
 
--- src/names.rt:16:21
 arg-count-requires : tie.Need-arg-count-requires Inv-loop μ-loop
 arg-count-requires c κs = search needs
 
--- src/names.rt:16:5
 loop-holds : tie.Need-loop-holds Inv-loop μ-loop
 loop-holds c = search needs
 
--- src/names.rt:17:35
 slice-aggregate-play-argument : tie.Need-slice-aggregate-play-argument Inv-loop μ-loop
 slice-aggregate-play-argument c = search needs
 
--- src/names.rt:17:9
 play-argument-requires : tie.Need-play-argument-requires Inv-loop μ-loop
 play-argument-requires c κs = search needs
 
--- src/names.rt:16:9
 add-i : tie.Need-add-i Inv-loop μ-loop
 add-i c = search needs
 
--- src/names.rt:16:5
 loop-less : tie.Need-loop-less Inv-loop μ-loop
 loop-less c = search needs
 
--- src/names.rt:16:5
 loop-again : tie.Need-loop-again Inv-loop μ-loop
 loop-again c = search needs
 
--- src/names.rt:13:1
 returns : tie.Need-returns Inv-loop μ-loop
 returns c = search needs
 

@@ -19,75 +19,57 @@ Inv-loop services name₀ names₀ turns₀ name names turns = 4096 ≡ length n
 abbrev μ-loop : tie.MeasureT-loop
 μ-loop services name₀ names₀ turns₀ name names turns = turns
 
--- src/names.rt:42:20
 buffer-requires : tie.Need-buffer-requires Inv-loop μ-loop
 buffer-requires c κs = search needs
 
--- src/names.rt:46:17
 no-files-requires : tie.Need-no-files-requires Inv-loop μ-loop
 no-files-requires c κs = search needs
 
--- src/names.rt:49:5
 loop-holds : tie.Need-loop-holds Inv-loop μ-loop
 loop-holds c = search needs
 
--- src/names.rt:50:9
 sub-turns : tie.Need-sub-turns Inv-loop μ-loop
 sub-turns c = search needs
 
--- src/names.rt:51:25
 buffer-requires-2 : tie.Need-buffer-requires-2 Inv-loop μ-loop
 buffer-requires-2 c κs = search needs
 
--- src/names.rt:52:52
 slice-aggregate-read : tie.Need-slice-aggregate-read Inv-loop μ-loop
 slice-aggregate-read c = search needs
 
--- src/names.rt:52:27
 read-requires : tie.Need-read-requires Inv-loop μ-loop
 read-requires c κs = search needs
 
--- src/names.rt:52:65
 slice-aggregate-count : tie.Need-slice-aggregate-count Inv-loop μ-loop
 slice-aggregate-count c = search needs
 
--- src/names.rt:52:13
 count-requires : tie.Need-count-requires Inv-loop μ-loop
 count-requires c κs = search needs
 
--- src/names.rt:56:28
 array-share-prefix-chunk : tie.Need-array-share-prefix-chunk Inv-loop μ-loop
 array-share-prefix-chunk c = search needs
 
--- src/names.rt:56:28
 slice-aggregate-take-chunk : tie.Need-slice-aggregate-take-chunk Inv-loop μ-loop
 slice-aggregate-take-chunk c = search needs
 
--- src/names.rt:56:41
 slice-aggregate-take-chunk-2 : tie.Need-slice-aggregate-take-chunk-2 Inv-loop μ-loop
 slice-aggregate-take-chunk-2 c = search needs
 
--- src/names.rt:56:9
 take-chunk-requires : tie.Need-take-chunk-requires Inv-loop μ-loop
 take-chunk-requires c κs = search needs
 
--- src/names.rt:49:5
 loop-less : tie.Need-loop-less Inv-loop μ-loop
 loop-less c = search needs
 
--- src/names.rt:49:5
 loop-again : tie.Need-loop-again Inv-loop μ-loop
 loop-again c = search needs
 
--- src/names.rt:59:26
 slice-aggregate-end-line : tie.Need-slice-aggregate-end-line Inv-loop μ-loop
 slice-aggregate-end-line c = search needs
 
--- src/names.rt:59:9
 end-line-requires : tie.Need-end-line-requires Inv-loop μ-loop
 end-line-requires c κs = search needs
 
--- src/names.rt:41:1
 returns : tie.Need-returns Inv-loop μ-loop
 returns c = search needs
 

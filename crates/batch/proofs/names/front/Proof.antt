@@ -8,15 +8,12 @@ use Rattle.batch.proofs.names.front.Tie as tie
 use Rattle.batch.proofs.names.front.Reads as reads
 use Rattle.batch.proofs.names.front.Lts as lts
 
--- src/names.rt:120:9
 slice-aggregate-result : tie.Need-slice-aggregate-result
 slice-aggregate-result c = sym (length-take-le _ _ (omega arith))
 
--- src/names.rt:118:1
 returns : tie.Need-returns
 returns c = search needs
 
--- src/names.rt:118:1
 returns-2 : tie.Need-returns-2
 returns-2 c = search needs
 

@@ -15,35 +15,27 @@ Inv-loop chunk name₀ services now₀ i₀ i-end name now i = length name ≡ l
 abbrev μ-loop : tie.MeasureT-loop
 μ-loop chunk name₀ services now₀ i₀ i-end name now i = i-end - i
 
--- src/names.rt:66:5
 loop-holds : tie.Need-loop-holds Inv-loop μ-loop
 loop-holds c = search needs
 
--- src/names.rt:67:25
 shared-slice-read-take-byte : tie.Need-shared-slice-read-take-byte Inv-loop μ-loop
 shared-slice-read-take-byte c = search needs
 
--- src/names.rt:67:9
 take-byte-requires : tie.Need-take-byte-requires Inv-loop μ-loop
 take-byte-requires c κs = search needs
 
--- src/names.rt:66:9
 add-i : tie.Need-add-i Inv-loop μ-loop
 add-i c = search needs
 
--- src/names.rt:66:5
 loop-less : tie.Need-loop-less Inv-loop μ-loop
 loop-less c = search needs
 
--- src/names.rt:66:5
 loop-again : tie.Need-loop-again Inv-loop μ-loop
 loop-again c = search needs
 
--- src/names.rt:64:1
 same-length : tie.Need-same-length Inv-loop μ-loop
 same-length c = search needs
 
--- src/names.rt:64:1
 returns : tie.Need-returns Inv-loop μ-loop
 returns c = search needs
 

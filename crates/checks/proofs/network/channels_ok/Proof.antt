@@ -23,63 +23,48 @@ Inv-loop channels end fed₀ c₀ fed c = (c ≤ end) × (end ≤ 64) × (all (c
 abbrev μ-loop : tie.MeasureT-loop
 μ-loop channels end fed₀ c₀ fed c = end - c
 
--- src/network.rt:28:15
 mul-end : tie.Need-mul-end Inv-loop μ-loop
 mul-end c = omega (arith, c .before .before .pre)
 
--- src/network.rt:31:5
 loop-holds : tie.Need-loop-holds Inv-loop μ-loop
 loop-holds c = (omega arith, omega (arith, c .before .before .pre), all-none _, refl, fed-none (c .before .before .args .network .channels))
 
--- src/network.rt:32:20
 array-read-byte : tie.Need-array-read-byte Inv-loop μ-loop
 array-read-byte c = omega arith
 
--- src/network.rt:34:13
 add-c : tie.Need-add-c Inv-loop μ-loop
 add-c c = omega arith
 
--- src/network.rt:31:5
 loop-less : tie.Need-loop-less Inv-loop μ-loop
 loop-less c = omega arith
 
--- src/network.rt:31:5
 loop-again : tie.Need-loop-again Inv-loop μ-loop
 loop-again c = (omega arith, omega arith, no-channel (c .before .before .before .before .before .args .network .channels) (c .before .before .loop .fed) _ (c .before .before .loop .c) _ refl (c .before .before .loop .inv .2) (c .if1 .taken), c .before .before .loop .inv .3, fed-skip (c .before .before .before .before .before .args .network .channels) (c .before .before .loop .fed) (c .before .before .loop .c) (c .before .before .loop .inv .4) (c .if1 .taken))
 
--- src/network.rt:37:13
 wide-requires : tie.Need-wide-requires Inv-loop μ-loop
 wide-requires c κs = search needs
 
--- src/network.rt:39:13
 returns : tie.Need-returns Inv-loop μ-loop
 returns c = too-high (c .before .before .before .before .before .before .before .args .network .channels) (c .before .before .before .before .loop .fed) _ (c .before .before .before .before .loop .c) (c .before .wide .result) (c .before .wide .ensures .0) (c .before .before .before .loop-test .taken) (c .before .before .if1 .left) (c .if2 .taken)
 
--- src/network.rt:41:12
 array-read-if3 : tie.Need-array-read-if3 Inv-loop μ-loop
 array-read-if3 c = omega (arith, c .before .wide .ensures .0, c .if2 .left)
 
--- src/network.rt:42:13
 returns-2 : tie.Need-returns-2 Inv-loop μ-loop
 returns-2 c = fed-twice (c .before .before .before .before .before .before .before .before .args .network .channels) (c .before .before .before .before .before .loop .fed) _ (c .before .before .before .before .before .loop .c) (c .before .before .wide .result) (c .before .before .wide .ensures .0) (c .before .before .before .before .before .loop .inv .4) (c .before .before .before .before .before .loop .inv .3) (c .before .before .before .before .loop-test .taken) (c .before .before .before .if1 .left) (c .before .if2 .left) (c .before .before .before .before .before .loop .inv .1) (c .if3 .taken)
 
--- src/network.rt:44:9
 array-write-fed : tie.Need-array-write-fed Inv-loop μ-loop
 array-write-fed c = omega (arith, c .before .before .wide .ensures .0, c .before .if2 .left)
 
--- src/network.rt:45:9
 add-c-2 : tie.Need-add-c-2 Inv-loop μ-loop
 add-c-2 c = omega arith
 
--- src/network.rt:31:5
 loop-less-2 : tie.Need-loop-less-2 Inv-loop μ-loop
 loop-less-2 c = omega arith
 
--- src/network.rt:31:5
 loop-again-2 : tie.Need-loop-again-2 Inv-loop μ-loop
 loop-again-2 c = (omega arith, omega arith, fed-once (c .before .before .before .before .before .before .before .before .args .network .channels) (c .before .before .before .before .before .loop .fed) _ (c .before .before .before .before .before .loop .c) (c .before .before .wide .result) (c .before .before .wide .ensures .0) (c .before .before .before .before .before .loop .inv .4) (c .before .before .before .before .before .loop .inv .3) (c .before .before .before .before .loop-test .taken) (c .before .before .before .if1 .left) (c .before .if2 .left) (c .before .before .before .before .before .loop .inv .1) (c .if3 .left) (c .before .before .before .before .before .loop .inv .2), simp length-set (c .before .before .before .before .before .loop .inv .3), fed-now (c .before .before .before .before .before .before .before .before .args .network .channels) (c .before .before .before .before .before .loop .fed) _ (c .before .before .before .before .before .loop .c) (c .before .before .wide .result) (c .before .before .wide .ensures .0) (c .before .before .before .before .before .loop .inv .4) (c .before .before .before .before .before .loop .inv .3) (c .before .before .before .before .loop-test .taken) (c .before .before .before .if1 .left) (c .before .if2 .left) (c .before .before .before .before .before .loop .inv .1))
 
--- src/network.rt:23:1
 returns-3 : tie.Need-returns-3 Inv-loop μ-loop
 returns-3 c = let e : c .before .loop .c ≡ 4 * c .before .before .before .before .args .network .sites = omega arith in sym (rw e at (c .before .loop .inv .2))
 

@@ -11,34 +11,27 @@ use Rattle.checks.proofs.network.channels_ok.Reads as channels-ok-reads
 use Rattle.checks.proofs.network.routes_ok.Reads as routes-ok-reads
 use Rattle.checks.proofs.network.sizes_ok.Reads as sizes-ok-reads
 
--- src/network.rt:134:8
 sizes-ok-requires : tie.Need-sizes-ok-requires
 sizes-ok-requires c κs = search needs
 
--- src/network.rt:135:12
 channels-ok-requires : tie.Need-channels-ok-requires
 channels-ok-requires c κs = sizes-few (c .before .before .args .network) (sym (c .before .sizes-ok .ensures) ∙ c .if1 .taken) .0
 
--- src/network.rt:136:16
 routes-ok-requires : tie.Need-routes-ok-requires
 routes-ok-requires c κs = sizes-few (c .before .before .before .before .args .network) (sym (c .before .before .before .sizes-ok .ensures) ∙ c .before .before .if1 .taken) .0
 
--- src/network.rt:137:17
 returns : tie.Need-returns
 unfolding networkRefusal
 returns c = rw (sym (c .before .before .before .before .before .sizes-ok .ensures) ∙ c .before .before .before .before .if1 .taken, sym (c .before .before .before .channels-ok .ensures) ∙ c .before .before .if2 .taken, sym (c .before .routes-ok .ensures) ∙ c .if3 .taken) refl
 
--- src/network.rt:139:13
 returns-2 : tie.Need-returns-2
 unfolding networkRefusal
 returns-2 c = rw (sym (c .before .before .before .before .before .sizes-ok .ensures) ∙ c .before .before .before .before .if1 .taken, sym (c .before .before .before .channels-ok .ensures) ∙ c .before .before .if2 .taken, sym (c .before .routes-ok .ensures) ∙ c .if3 .left) refl
 
--- src/network.rt:141:9
 returns-3 : tie.Need-returns-3
 unfolding networkRefusal
 returns-3 c = rw (sym (c .before .before .before .sizes-ok .ensures) ∙ c .before .before .if1 .taken, sym (c .before .channels-ok .ensures) ∙ c .if2 .left) refl
 
--- src/network.rt:131:1
 returns-4 : tie.Need-returns-4
 unfolding networkRefusal
 returns-4 c = rw (sym (c .before .sizes-ok .ensures) ∙ c .if1 .left) refl

@@ -7,39 +7,30 @@ use Rattle.checks.proofs.network.ports_of.Tie as tie
 use Rattle.checks.proofs.network.ports_of.Reads as reads
 use Rattle.checks.proofs.network.ports_of.Lts as lts
 
--- src/network.rt:57:14
 mul-at : tie.Need-mul-at
 mul-at c = search needs
 
--- src/network.rt:60:9
 array-read-t7 : tie.Need-array-read-t7
 array-read-t7 c = search needs
 
--- src/network.rt:61:18
 add-t9 : tie.Need-add-t9
 add-t9 c = search needs
 
--- src/network.rt:61:9
 array-read-t12 : tie.Need-array-read-t12
 array-read-t12 c = search needs
 
--- src/network.rt:62:18
 add-t14 : tie.Need-add-t14
 add-t14 c = search needs
 
--- src/network.rt:62:9
 array-read-t17 : tie.Need-array-read-t17
 array-read-t17 c = search needs
 
--- src/network.rt:63:18
 add-t19 : tie.Need-add-t19
 add-t19 c = search needs
 
--- src/network.rt:63:9
 array-read-t22 : tie.Need-array-read-t22
 array-read-t22 c = search needs
 
--- src/network.rt:52:1
 returns : tie.Need-returns
 returns c = rw add-zero refl
 

@@ -9,23 +9,18 @@ use Rattle.checks.proofs.network.route_ok.Tie as tie
 use Rattle.checks.proofs.network.route_ok.Reads as reads
 use Rattle.checks.proofs.network.route_ok.Lts as lts
 
--- src/network.rt:87:17
 array-read-known : tie.Need-array-read-known
 array-read-known c = search needs
 
--- src/network.rt:87:28
 array-read-known-2 : tie.Need-array-read-known-2
 array-read-known-2 c = search needs
 
--- src/network.rt:87:39
 array-read-known-3 : tie.Need-array-read-known-3
 array-read-known-3 c = search needs
 
--- src/network.rt:87:50
 array-read-known-4 : tie.Need-array-read-known-4
 array-read-known-4 c = search needs
 
--- src/network.rt:79:1
 returns : tie.Need-returns
 unfolding routeBy all
 returns c = rw or-true refl

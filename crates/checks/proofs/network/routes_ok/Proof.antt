@@ -18,31 +18,24 @@ Inv-loop network s₀ s = (s ≤ network .sites) × (all (λ k. all (routeOk net
 abbrev μ-loop : tie.MeasureT-loop
 μ-loop network s₀ s = network .sites - s
 
--- src/network.rt:120:5
 loop-holds : tie.Need-loop-holds Inv-loop μ-loop
 loop-holds c = (omega arith, all-none _)
 
--- src/network.rt:121:12
 row-ok-requires : tie.Need-row-ok-requires Inv-loop μ-loop
 row-ok-requires c κs = (c .if1 .taken, c .before .before .before .pre)
 
--- src/network.rt:122:13
 add-s : tie.Need-add-s Inv-loop μ-loop
 add-s c = omega arith
 
--- src/network.rt:120:5
 loop-less : tie.Need-loop-less Inv-loop μ-loop
 loop-less c = omega arith
 
--- src/network.rt:120:5
 loop-again : tie.Need-loop-again Inv-loop μ-loop
 loop-again c = (omega arith, all-more _ _ (c .before .before .before .before .loop .inv .1) (sym (c .before .row-ok .ensures) ∙ c .if2 .taken))
 
--- src/network.rt:124:13
 returns : tie.Need-returns Inv-loop μ-loop
 returns c = sym (all-fails _ (c .before .before .before .before .loop .s) _ (c .before .before .if1 .taken) (sym (c .before .row-ok .ensures) ∙ c .if2 .left))
 
--- src/network.rt:115:1
 returns-2 : tie.Need-returns-2 Inv-loop μ-loop
 returns-2 c = let e : c .before .before .loop .s ≡ c .before .before .before .args .network .sites = omega arith in sym (rw e at (c .before .before .loop .inv .1))
 

@@ -23,51 +23,39 @@ Inv-loop s sites routes ports t₀ t = (t ≤ sites) × (all (λ k. routeBy port
 abbrev μ-loop : tie.MeasureT-loop
 μ-loop s sites routes ports t₀ t = sites - t
 
--- src/network.rt:102:9
 ports-of-requires : tie.Need-ports-of-requires Inv-loop μ-loop
 ports-of-requires c κs = omega (arith, c .before .pre .0, c .before .pre .1)
 
--- src/network.rt:104:5
 loop-holds : tie.Need-loop-holds Inv-loop μ-loop
 loop-holds c = (omega arith, all-none _)
 
--- src/network.rt:105:28
 mul-route : tie.Need-mul-route Inv-loop μ-loop
 mul-route c = omega (arith, place-below (c .before .before .before .before .args .s) (c .before .loop .t) (c .before .before .before .before .args .network .sites) 16 (c .before .before .before .before .pre .0) (c .loop-test .taken) (c .before .before .before .before .pre .1))
 
--- src/network.rt:105:28
 add-route : tie.Need-add-route Inv-loop μ-loop
 add-route c = omega (arith, place-below (c .before .before .before .before .args .s) (c .before .loop .t) (c .before .before .before .before .args .network .sites) 16 (c .before .before .before .before .pre .0) (c .loop-test .taken) (c .before .before .before .before .pre .1))
 
--- src/network.rt:105:21
 mul-route-2 : tie.Need-mul-route-2 Inv-loop μ-loop
 mul-route-2 c = omega (arith, place-below (c .before .before .before .before .args .s) (c .before .loop .t) (c .before .before .before .before .args .network .sites) 16 (c .before .before .before .before .pre .0) (c .loop-test .taken) (c .before .before .before .before .pre .1))
 
--- src/network.rt:105:21
 array-read-route : tie.Need-array-read-route Inv-loop μ-loop
 array-read-route c = omega (arith, place-below (c .before .before .before .before .args .s) (c .before .loop .t) (c .before .before .before .before .args .network .sites) 16 (c .before .before .before .before .pre .0) (c .loop-test .taken) (c .before .before .before .before .pre .1))
 
--- src/network.rt:106:12
 route-ok-requires : tie.Need-route-ok-requires Inv-loop μ-loop
 route-ok-requires c κs = search needs
 
--- src/network.rt:107:13
 add-t : tie.Need-add-t Inv-loop μ-loop
 add-t c = omega arith
 
--- src/network.rt:104:5
 loop-less : tie.Need-loop-less Inv-loop μ-loop
 loop-less c = omega arith
 
--- src/network.rt:104:5
 loop-again : tie.Need-loop-again Inv-loop μ-loop
 loop-again c = (omega arith, all-more _ _ (c .before .before .before .loop .inv .1) (sym (c .before .route-ok .ensures) ∙ c .if1 .taken))
 
--- src/network.rt:109:13
 returns : tie.Need-returns Inv-loop μ-loop
 returns c = sym (sym (row-by (c .before .before .before .before .before .before .args .network) (c .before .before .before .before .before .before .args .s) _ _ (c .before .before .before .before .ports-of .ensures)) ∙ all-fails _ (c .before .before .before .loop .t) _ (c .before .before .loop-test .taken) (sym (c .before .route-ok .ensures) ∙ c .if1 .left))
 
--- src/network.rt:96:1
 returns-2 : tie.Need-returns-2 Inv-loop μ-loop
 returns-2 c = let e : c .before .loop .t ≡ c .before .before .before .before .args .network .sites = omega arith in sym (sym (row-by (c .before .before .before .before .args .network) (c .before .before .before .before .args .s) _ _ (c .before .before .ports-of .ensures)) ∙ (rw e at (c .before .loop .inv .1)))
 

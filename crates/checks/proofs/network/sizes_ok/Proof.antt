@@ -5,7 +5,6 @@ use Rattle.checks.proofs.network.sizes_ok.Tie as tie
 use Rattle.checks.proofs.network.sizes_ok.Reads as reads
 use Rattle.checks.proofs.network.sizes_ok.Lts as lts
 
--- src/network.rt:12:1
 returns : tie.Need-returns
 returns c = refl
 

@@ -8,21 +8,17 @@ use Rattle.checks.proofs.range.event_refusal.Lts as lts
 use Rattle.checks.proofs.network.network_refusal.Reads as network-refusal-reads
 use Rattle.checks.proofs.range.is_in_range.Reads as is-in-range-reads
 
--- src/range.rt:204:9
 network-refusal-requires : tie.Need-network-refusal-requires
 network-refusal-requires c κs = search needs
 
--- src/range.rt:206:9
 returns : tie.Need-returns
 returns c =
     let e = c .before .network-refusal .ensures in
     rw (ne-eqb _ _ (λ z. c .if1 .taken (e ∙ z))) e
 
--- src/range.rt:208:8
 is-in-range-requires : tie.Need-is-in-range-requires
 is-in-range-requires c κs = search needs
 
--- src/range.rt:209:9
 returns-2 : tie.Need-returns-2
 returns-2 c =
     rw (
@@ -31,7 +27,6 @@ returns-2 c =
     )
     refl
 
--- src/range.rt:201:1
 returns-3 : tie.Need-returns-3
 returns-3 c =
     rw (

@@ -20,37 +20,29 @@ Inv-loop sites limit counter outputs inputs ok₀ i₀ ok i =
 abbrev μ-loop : tie.MeasureT-loop
 μ-loop sites limit counter outputs inputs ok₀ i₀ ok i = inputCount - i
 
--- src/range.rt:44:5
 loop-holds : tie.Need-loop-holds Inv-loop μ-loop
 loop-holds c = (omega arith, sym (all-none _))
 
--- src/range.rt:45:21
 mul-input : tie.Need-mul-input Inv-loop μ-loop
 mul-input c = search needs
 
--- src/range.rt:45:21
 array-copy-out-input : tie.Need-array-copy-out-input Inv-loop μ-loop
 array-copy-out-input c = search needs
 
--- src/range.rt:46:19
 input-ok-requires : tie.Need-input-ok-requires Inv-loop μ-loop
 input-ok-requires c κs = search needs
 
--- src/range.rt:47:9
 add-i : tie.Need-add-i Inv-loop μ-loop
 add-i c = search needs
 
--- src/range.rt:44:5
 loop-less : tie.Need-loop-less Inv-loop μ-loop
 loop-less c = search needs
 
--- src/range.rt:44:5
 loop-again : tie.Need-loop-again Inv-loop μ-loop
 loop-again c =
     let l = c .before .before .before .loop in
     (search needs, all-next _ (l .i) _ _ (l .inv .1) (c .input-ok .ensures))
 
--- src/range.rt:33:1
 returns : tie.Need-returns Inv-loop μ-loop
 returns c =
     let l = c .before .loop in

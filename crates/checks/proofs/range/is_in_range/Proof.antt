@@ -19,37 +19,29 @@ Inv-loop state sites limit depth counter ok₀ s₀ ok s =
 abbrev μ-loop : tie.MeasureT-loop
 μ-loop state sites limit depth counter ok₀ s₀ ok s = sitesMost - s
 
--- src/range.rt:192:5
 loop-holds : tie.Need-loop-holds Inv-loop μ-loop
 loop-holds c = (omega arith, sym (all-none _))
 
--- src/range.rt:193:20
 mul-site : tie.Need-mul-site Inv-loop μ-loop
 mul-site c = search needs
 
--- src/range.rt:193:20
 element-copy-out-site : tie.Need-element-copy-out-site Inv-loop μ-loop
 element-copy-out-site c = search needs
 
--- src/range.rt:194:19
 place-ok-requires : tie.Need-place-ok-requires Inv-loop μ-loop
 place-ok-requires c κs = search needs
 
--- src/range.rt:195:9
 add-s : tie.Need-add-s Inv-loop μ-loop
 add-s c = search needs
 
--- src/range.rt:192:5
 loop-less : tie.Need-loop-less Inv-loop μ-loop
 loop-less c = search needs
 
--- src/range.rt:192:5
 loop-again : tie.Need-loop-again Inv-loop μ-loop
 loop-again c =
     let l = c .before .before .before .loop in
     (search needs, all-next _ (l .s) _ _ (l .inv .1) (c .place-ok .ensures))
 
--- src/range.rt:183:1
 returns : tie.Need-returns Inv-loop μ-loop
 unfolding inRange
 returns c =

@@ -19,37 +19,29 @@ Inv-loop sites counter outputs ok₀ j₀ ok j =
 abbrev μ-loop : tie.MeasureT-loop
 μ-loop sites counter outputs ok₀ j₀ ok j = outputCount - j
 
--- src/range.rt:57:5
 loop-holds : tie.Need-loop-holds Inv-loop μ-loop
 loop-holds c = (omega arith, sym (all-none _))
 
--- src/range.rt:58:22
 mul-output : tie.Need-mul-output Inv-loop μ-loop
 mul-output c = search needs
 
--- src/range.rt:58:22
 array-copy-out-output : tie.Need-array-copy-out-output Inv-loop μ-loop
 array-copy-out-output c = search needs
 
--- src/range.rt:59:19
 output-ok-requires : tie.Need-output-ok-requires Inv-loop μ-loop
 output-ok-requires c κs = search needs
 
--- src/range.rt:60:9
 add-j : tie.Need-add-j Inv-loop μ-loop
 add-j c = search needs
 
--- src/range.rt:57:5
 loop-less : tie.Need-loop-less Inv-loop μ-loop
 loop-less c = search needs
 
--- src/range.rt:57:5
 loop-again : tie.Need-loop-again Inv-loop μ-loop
 loop-again c =
     let l = c .before .before .before .loop in
     (search needs, all-next _ (l .j) _ _ (l .inv .1) (c .output-ok .ensures))
 
--- src/range.rt:52:1
 returns : tie.Need-returns Inv-loop μ-loop
 returns c =
     let l = c .before .loop in

@@ -8,19 +8,15 @@ use Rattle.checks.proofs.range.place_ok.Lts as lts
 use Rattle.checks.proofs.range.site_ok.Reads as site-ok-reads
 use Rattle.checks.proofs.range.zero_site.Reads as zero-site-reads
 
--- src/range.rt:177:9
 site-ok-requires : tie.Need-site-ok-requires
 site-ok-requires c κs = search needs
 
--- src/range.rt:177:9
 returns : tie.Need-returns
 returns c = rw (lt-ltb _ _ (c .before .if1 .taken), or-false) (c .site-ok .ensures)
 
--- src/range.rt:179:5
 zero-site-requires : tie.Need-zero-site-requires
 zero-site-requires c κs = search needs
 
--- src/range.rt:173:1
 returns-2 : tie.Need-returns-2
 returns-2 c = rw (le-ltb _ _ (c .before .if1 .left)) (c .zero-site .ensures)
 

@@ -9,23 +9,18 @@ use Rattle.checks.proofs.range.inputs_ok.Reads as inputs-ok-reads
 use Rattle.checks.proofs.range.out_queue_ok.Reads as out-queue-ok-reads
 use Rattle.checks.proofs.range.outputs_ok.Reads as outputs-ok-reads
 
--- src/range.rt:101:5
 inputs-ok-requires : tie.Need-inputs-ok-requires
 inputs-ok-requires c κs = search needs
 
--- src/range.rt:102:11
 outputs-ok-requires : tie.Need-outputs-ok-requires
 outputs-ok-requires c κs = search needs
 
--- src/range.rt:103:11
 out-queue-ok-requires : tie.Need-out-queue-ok-requires
 out-queue-ok-requires c κs = search needs
 
--- src/range.rt:104:11
 in-queue-ok-requires : tie.Need-in-queue-ok-requires
 in-queue-ok-requires c κs = search needs
 
--- src/range.rt:94:1
 returns : tie.Need-returns
 returns c =
     rw (

@@ -21,37 +21,29 @@ Inv-loop queue count ok₀ m₀ ok m =
 abbrev μ-loop : tie.MeasureT-loop
 μ-loop queue count ok₀ m₀ ok m = queueRoom - m
 
--- src/range.rt:153:5
 loop-holds : tie.Need-loop-holds Inv-loop μ-loop
 loop-holds c = (omega arith, sym (all-none _))
 
--- src/range.rt:154:21
 mul-entry : tie.Need-mul-entry Inv-loop μ-loop
 mul-entry c = search needs
 
--- src/range.rt:154:21
 element-copy-out-entry : tie.Need-element-copy-out-entry Inv-loop μ-loop
 element-copy-out-entry c = search needs
 
--- src/range.rt:155:19
 zero-in-entry-requires : tie.Need-zero-in-entry-requires Inv-loop μ-loop
 zero-in-entry-requires c κs = search needs
 
--- src/range.rt:156:9
 add-m : tie.Need-add-m Inv-loop μ-loop
 add-m c = search needs
 
--- src/range.rt:153:5
 loop-less : tie.Need-loop-less Inv-loop μ-loop
 loop-less c = search needs
 
--- src/range.rt:153:5
 loop-again : tie.Need-loop-again Inv-loop μ-loop
 loop-again c =
     let l = c .before .before .before .loop in
     (search needs, all-next _ (l .m) _ _ (l .inv .1) (c .zero-in-entry .ensures))
 
--- src/range.rt:147:1
 returns : tie.Need-returns Inv-loop μ-loop
 returns c =
     let l = c .before .loop in

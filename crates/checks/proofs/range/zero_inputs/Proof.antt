@@ -20,37 +20,29 @@ Inv-loop inputs ok₀ i₀ ok i =
 abbrev μ-loop : tie.MeasureT-loop
 μ-loop inputs ok₀ i₀ ok i = inputCount - i
 
--- src/range.rt:112:5
 loop-holds : tie.Need-loop-holds Inv-loop μ-loop
 loop-holds c = (omega arith, sym (all-none _))
 
--- src/range.rt:113:21
 mul-input : tie.Need-mul-input Inv-loop μ-loop
 mul-input c = search needs
 
--- src/range.rt:113:21
 array-copy-out-input : tie.Need-array-copy-out-input Inv-loop μ-loop
 array-copy-out-input c = search needs
 
--- src/range.rt:114:19
 zero-input-requires : tie.Need-zero-input-requires Inv-loop μ-loop
 zero-input-requires c κs = search needs
 
--- src/range.rt:115:9
 add-i : tie.Need-add-i Inv-loop μ-loop
 add-i c = search needs
 
--- src/range.rt:112:5
 loop-less : tie.Need-loop-less Inv-loop μ-loop
 loop-less c = search needs
 
--- src/range.rt:112:5
 loop-again : tie.Need-loop-again Inv-loop μ-loop
 loop-again c =
     let l = c .before .before .before .loop in
     (search needs, all-next _ (l .i) _ _ (l .inv .1) (c .zero-input .ensures))
 
--- src/range.rt:107:1
 returns : tie.Need-returns Inv-loop μ-loop
 returns c =
     let l = c .before .loop in

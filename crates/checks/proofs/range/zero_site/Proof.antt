@@ -9,23 +9,18 @@ use Rattle.checks.proofs.range.zero_inputs.Reads as zero-inputs-reads
 use Rattle.checks.proofs.range.zero_out_queue.Reads as zero-out-queue-reads
 use Rattle.checks.proofs.range.zero_outputs.Reads as zero-outputs-reads
 
--- src/range.rt:169:5
 zero-inputs-requires : tie.Need-zero-inputs-requires
 zero-inputs-requires c κs = search needs
 
--- src/range.rt:169:27
 zero-outputs-requires : tie.Need-zero-outputs-requires
 zero-outputs-requires c κs = search needs
 
--- src/range.rt:169:51
 zero-out-queue-requires : tie.Need-zero-out-queue-requires
 zero-out-queue-requires c κs = search needs
 
--- src/range.rt:169:78
 zero-in-queue-requires : tie.Need-zero-in-queue-requires
 zero-in-queue-requires c κs = search needs
 
--- src/range.rt:162:1
 returns : tie.Need-returns
 returns c =
     rw (

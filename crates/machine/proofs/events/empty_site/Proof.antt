@@ -8,15 +8,12 @@ use Rattle.machine.proofs.events.empty_site.Lts as lts
 use Rattle.machine.proofs.phases.empty_output.Reads as empty-output-reads
 use Rattle.machine.proofs.phases.free_input.Reads as free-input-reads
 
--- src/events.rt:31:9
 free-input-requires : tie.Need-free-input-requires
 free-input-requires c κs = search needs
 
--- src/events.rt:32:9
 empty-output-requires : tie.Need-empty-output-requires
 empty-output-requires c κs = search needs
 
--- src/events.rt:28:1
 returns : tie.Need-returns
 returns c = rw (c .before .free-input .ensures, c .empty-output .ensures) refl
 

@@ -7,11 +7,9 @@ use Rattle.machine.proofs.events.empty_state.Reads as reads
 use Rattle.machine.proofs.events.empty_state.Lts as lts
 use Rattle.machine.proofs.events.empty_site.Reads as empty-site-reads
 
--- src/events.rt:47:9
 empty-site-requires : tie.Need-empty-site-requires
 empty-site-requires c κs = search needs
 
--- src/events.rt:44:1
 returns : tie.Need-returns
 returns c = rw (c .empty-site .ensures) refl
 

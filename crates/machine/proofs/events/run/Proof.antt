@@ -11,23 +11,18 @@ use Rattle.machine.proofs.events.run.Lts as lts
 use Rattle.checks.proofs.event_refusal.Reads as event-refusal-reads
 use Rattle.machine.proofs.events.run_checked.Reads as run-checked-reads
 
--- src/events.rt:67:9
 event-refusal-requires : tie.Need-event-refusal-requires
 event-refusal-requires c κs = search needs
 
--- src/events.rt:69:9
 returns : tie.Need-returns
 returns c = let a = c .before .before .args in run-shared (a .network) (a .state) (a .site) (a .code) _ (c .before .event-refusal .ensures) (c .if1 .taken)
 
--- src/events.rt:72:9
 run-checked-requires : tie.Need-run-checked-requires
 run-checked-requires c κs = let a = c .before .before .before .args in let p = not-refused (a .network) (a .state) 0 (sym (c .before .before .event-refusal .ensures) ∙ c .before .if1 .left) in (p .0, p .1, ltb-true _ _ (both _ _ (c .if2 .taken) .0))
 
--- src/events.rt:72:9
 returns-2 : tie.Need-returns-2
 returns-2 c = let a = c .before .before .before .before .args in c .run-checked .ensures ∙ run-passes-on (a .network) (a .state) (a .site) (a .code) (sym (c .before .before .before .event-refusal .ensures) ∙ c .before .before .if1 .left) (c .before .if2 .taken)
 
--- src/events.rt:63:1
 returns-3 : tie.Need-returns-3
 returns-3 c = let a = c .before .before .before .args in run-none (a .network) (a .state) (a .site) (a .code) (sym (c .before .before .event-refusal .ensures) ∙ c .before .if1 .left) (c .if2 .left)
 

@@ -15,27 +15,21 @@ use Rattle.machine.proofs.step.step.Reads as step-reads
 use Rattle.machine.proofs.store.far_inputs.Reads as far-inputs-reads
 use Rattle.machine.proofs.store.store_change.Reads as store-change-reads
 
--- src/events.rt:56:16
 mul-site : tie.Need-mul-site
 mul-site c = omega (arith, valid-ok (c .args .network) (c .pre .0) .few)
 
--- src/events.rt:56:16
 element-copy-out-site : tie.Need-element-copy-out-site
 element-copy-out-site c = omega (arith, valid-ok (c .args .network) (c .pre .0) .few)
 
--- src/events.rt:57:9
 far-inputs-requires : tie.Need-far-inputs-requires
 far-inputs-requires c κs = let a = c .before .args in let v = valid-ok (a .network) (c .before .pre .0) in (omega (arith, v .few), valid-bytes (a .network) v (a .s) (c .before .pre .2))
 
--- src/events.rt:58:9
 step-requires : tie.Need-step-requires
 step-requires c κs = let a = c .before .before .args in range-runnable (a .network) (valid-ok (a .network) (c .before .before .pre .0)) (a .t2) (c .before .before .pre .1) (a .s) (c .before .before .pre .2)
 
--- src/events.rt:59:5
 store-change-requires : tie.Need-store-change-requires
 store-change-requires c κs = let a = c .before .before .before .args in let v = valid-ok (a .network) (c .before .before .before .pre .0) in (omega (arith, v .few), rw (c .step .ensures) (act-passable (a .network) v (a .s) (siteAt (a .t2 .sites) (a .s)) (c .before .before .before .pre .2) (farAt (c .before .far-inputs .result)) (a .code)))
 
--- src/events.rt:52:1
 returns : tie.Need-returns
 returns c = let a = c .before .before .before .before .args in c .store-change .ensures ∙ (rw (c .before .step .ensures, c .before .before .far-inputs .ensures) (run-stored (a .network) (a .t2) (a .s) (a .code)))
 

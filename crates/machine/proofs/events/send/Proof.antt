@@ -13,27 +13,21 @@ use Rattle.checks.proofs.event_refusal.Reads as event-refusal-reads
 use Rattle.machine.proofs.events.send_checked.Reads as send-checked-reads
 use Rattle.machine.proofs.events.send_fault.Reads as send-fault-reads
 
--- src/events.rt:122:9
 event-refusal-requires : tie.Need-event-refusal-requires
 event-refusal-requires c κs = search needs
 
--- src/events.rt:124:9
 returns : tie.Need-returns
 returns c = let a = c .before .before .args in send-shared (a .network) (a .state) (a .site) (a .set) _ (c .before .event-refusal .ensures) (c .if1 .taken)
 
--- src/events.rt:126:9
 send-fault-requires : tie.Need-send-fault-requires
 send-fault-requires c κs = let a = c .before .before .args in valid-ok (a .network) (not-refused (a .network) (a .state) 0 (sym (c .before .event-refusal .ensures) ∙ c .if1 .left) .0) .few
 
--- src/events.rt:128:9
 returns-2 : tie.Need-returns-2
 returns-2 c = let a = c .before .before .before .before .args in send-own (a .network) (a .state) (a .site) (a .set) _ (sym (c .before .before .before .event-refusal .ensures) ∙ c .before .before .if1 .left) (c .before .send-fault .ensures) (c .if2 .taken)
 
--- src/events.rt:130:5
 send-checked-requires : tie.Need-send-checked-requires
 send-checked-requires c κs = let a = c .before .before .before .before .args in send-facts (a .network) (a .state) (a .site) (a .set) (sym (c .before .before .before .event-refusal .ensures) ∙ c .before .before .if1 .left) (sym (c .before .send-fault .ensures) ∙ c .if2 .left)
 
--- src/events.rt:117:1
 returns-3 : tie.Need-returns-3
 returns-3 c = let a = c .before .before .before .before .before .args in c .send-checked .ensures ∙ send-passes-on (a .network) (a .state) (a .site) (a .set) (sym (c .before .before .before .before .event-refusal .ensures) ∙ c .before .before .before .if1 .left) (sym (c .before .before .send-fault .ensures) ∙ c .before .if2 .left)
 

@@ -8,31 +8,24 @@ use Rattle.machine.proofs.events.send_checked.Reads as reads
 use Rattle.machine.proofs.events.send_checked.Lts as lts
 use Rattle.machine.proofs.queues.push_out.Reads as push-out-reads
 
--- src/events.rt:106:20
 mul-site : tie.Need-mul-site
 mul-site c = search needs
 
--- src/events.rt:106:20
 element-copy-out-site : tie.Need-element-copy-out-site
 element-copy-out-site c = search needs
 
--- src/events.rt:108:9
 push-out-requires : tie.Need-push-out-requires
 push-out-requires c κs = search needs
 
--- src/events.rt:111:5
 mul-site-2 : tie.Need-mul-site-2
 mul-site-2 c = search needs
 
--- src/events.rt:111:5
 element-set-from-site : tie.Need-element-set-from-site
 element-set-from-site c = search needs
 
--- src/events.rt:112:20
 add-next : tie.Need-add-next
 add-next c = search needs
 
--- src/events.rt:101:1
 returns : tie.Need-returns
 unfolding enqueue
 returns c = rw (c .push-out .ensures) refl

@@ -7,35 +7,27 @@ use Rattle.machine.proofs.events.send_fault.Reads as reads
 use Rattle.machine.proofs.events.send_fault.Lts as lts
 use Rattle.sets.proofs.is_targets.Reads as is-targets-reads
 
--- src/events.rt:84:12
 is-targets-requires : tie.Need-is-targets-requires
 is-targets-requires c κs = search needs
 
--- src/events.rt:86:28
 mul-site : tie.Need-mul-site
 mul-site c = search needs
 
--- src/events.rt:86:28
 element-copy-out-site : tie.Need-element-copy-out-site
 element-copy-out-site c = search needs
 
--- src/events.rt:89:21
 returns : tie.Need-returns
 returns c = rw (lt-ltb _ _ (c .before .before .before .before .before .before .before .if1 .taken), ← c .before .before .before .before .before .before .is-targets .ensures, c .before .before .before .before .before .if2 .taken, lt-ltb _ _ (c .before .before .before .before .if3 .taken), lt-ltb _ _ (c .if4 .taken)) refl
 
--- src/events.rt:91:17
 returns-2 : tie.Need-returns-2
 returns-2 c = rw (lt-ltb _ _ (c .before .before .before .before .before .before .before .if1 .taken), ← c .before .before .before .before .before .before .is-targets .ensures, c .before .before .before .before .before .if2 .taken, lt-ltb _ _ (c .before .before .before .before .if3 .taken), le-ltb _ _ (c .if4 .left)) refl
 
--- src/events.rt:93:13
 returns-3 : tie.Need-returns-3
 returns-3 c = rw (lt-ltb _ _ (c .before .before .before .if1 .taken), ← c .before .before .is-targets .ensures, c .before .if2 .taken, le-ltb _ _ (c .if3 .left)) refl
 
--- src/events.rt:95:9
 returns-4 : tie.Need-returns-4
 returns-4 c = rw (lt-ltb _ _ (c .before .before .if1 .taken), ← c .before .is-targets .ensures, c .if2 .left) refl
 
--- src/events.rt:78:1
 returns-5 : tie.Need-returns-5
 returns-5 c = rw (le-ltb _ _ (c .if1 .left)) refl
 

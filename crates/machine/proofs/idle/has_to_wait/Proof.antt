@@ -10,104 +10,80 @@ use Rattle.machine.proofs.idle.input_of.Reads as input-of-reads
 use Rattle.machine.proofs.idle.input_waits.Reads as input-waits-reads
 use Rattle.machine.proofs.idle.output_waits.Reads as output-waits-reads
 
--- src/idle.rt:161:13
 input-of-requires : tie.Need-input-of-requires
 input-of-requires c κs = search needs
 
--- src/idle.rt:162:9
 input-waits-requires : tie.Need-input-waits-requires
 input-waits-requires c κs = search needs
 
--- src/idle.rt:162:9
 returns : tie.Need-returns
 unfolding hasToWait
 returns c = rw (c .input-waits .ensures, c .before .input-of .ensures, lt-ltb _ _ (c .before .before .if1 .taken)) refl
 
--- src/idle.rt:165:29
 array-read-output-waits : tie.Need-array-read-output-waits
 array-read-output-waits c = search needs
 
--- src/idle.rt:165:39
 array-copy-out-output-waits : tie.Need-array-copy-out-output-waits
 array-copy-out-output-waits c = search needs
 
--- src/idle.rt:165:51
 array-copy-out-output-waits-2 : tie.Need-array-copy-out-output-waits-2
 array-copy-out-output-waits-2 c = search needs
 
--- src/idle.rt:165:9
 output-waits-requires : tie.Need-output-waits-requires
 output-waits-requires c κs = search needs
 
--- src/idle.rt:165:9
 returns-2 : tie.Need-returns-2
 unfolding hasToWait
 returns-2 c = rw (c .output-waits .ensures, le-ltb _ _ (c .before .before .before .before .if1 .left), eq-eqb _ _ (c .before .before .before .if2 .taken)) refl
 
--- src/idle.rt:168:29
 array-read-output-waits-2 : tie.Need-array-read-output-waits-2
 array-read-output-waits-2 c = search needs
 
--- src/idle.rt:168:39
 array-copy-out-output-waits-3 : tie.Need-array-copy-out-output-waits-3
 array-copy-out-output-waits-3 c = search needs
 
--- src/idle.rt:168:51
 array-copy-out-output-waits-4 : tie.Need-array-copy-out-output-waits-4
 array-copy-out-output-waits-4 c = search needs
 
--- src/idle.rt:168:9
 output-waits-requires-2 : tie.Need-output-waits-requires-2
 output-waits-requires-2 c κs = search needs
 
--- src/idle.rt:168:9
 returns-3 : tie.Need-returns-3
 unfolding hasToWait
 returns-3 c = rw (c .output-waits2 .ensures, le-ltb _ _ (c .before .before .before .before .before .if1 .left), ne-eqb _ _ (c .before .before .before .before .if2 .left), eq-eqb _ _ (c .before .before .before .if3 .taken)) refl
 
--- src/idle.rt:171:29
 array-read-output-waits-3 : tie.Need-array-read-output-waits-3
 array-read-output-waits-3 c = search needs
 
--- src/idle.rt:171:39
 array-copy-out-output-waits-5 : tie.Need-array-copy-out-output-waits-5
 array-copy-out-output-waits-5 c = search needs
 
--- src/idle.rt:171:51
 array-copy-out-output-waits-6 : tie.Need-array-copy-out-output-waits-6
 array-copy-out-output-waits-6 c = search needs
 
--- src/idle.rt:171:9
 output-waits-requires-3 : tie.Need-output-waits-requires-3
 output-waits-requires-3 c κs = search needs
 
--- src/idle.rt:171:9
 returns-4 : tie.Need-returns-4
 unfolding hasToWait
 returns-4 c = rw (c .output-waits3 .ensures, le-ltb _ _ (c .before .before .before .before .before .before .if1 .left), ne-eqb _ _ (c .before .before .before .before .before .if2 .left), ne-eqb _ _ (c .before .before .before .before .if3 .left), eq-eqb _ _ (c .before .before .before .if4 .taken)) refl
 
--- src/idle.rt:174:29
 array-read-output-waits-4 : tie.Need-array-read-output-waits-4
 array-read-output-waits-4 c = search needs
 
--- src/idle.rt:174:39
 array-copy-out-output-waits-7 : tie.Need-array-copy-out-output-waits-7
 array-copy-out-output-waits-7 c = search needs
 
--- src/idle.rt:174:51
 array-copy-out-output-waits-8 : tie.Need-array-copy-out-output-waits-8
 array-copy-out-output-waits-8 c = search needs
 
--- src/idle.rt:174:9
 output-waits-requires-4 : tie.Need-output-waits-requires-4
 output-waits-requires-4 c κs = search needs
 
--- src/idle.rt:174:9
 returns-5 : tie.Need-returns-5
 unfolding hasToWait
 returns-5 c = rw (c .output-waits4 .ensures, le-ltb _ _ (c .before .before .before .before .before .before .before .if1 .left), ne-eqb _ _ (c .before .before .before .before .before .before .if2 .left), ne-eqb _ _ (c .before .before .before .before .before .if3 .left), ne-eqb _ _ (c .before .before .before .before .if4 .left), eq-eqb _ _ (c .before .before .before .if5 .taken)) refl
 
--- src/idle.rt:150:1
 returns-6 : tie.Need-returns-6
 unfolding hasToWait
 returns-6 c = rw (le-ltb _ _ (c .before .before .before .before .if1 .left), ne-eqb _ _ (c .before .before .before .if2 .left), ne-eqb _ _ (c .before .before .if3 .left), ne-eqb _ _ (c .before .if4 .left), ne-eqb _ _ (c .if5 .left)) refl

@@ -13,23 +13,18 @@ use Rattle.machine.proofs.idle.is_standing.Reads as is-standing-reads
 use Rattle.machine.proofs.inputs.all_ready.Reads as all-ready-reads
 use Rattle.machine.proofs.step.ready_outputs.Reads as ready-outputs-reads
 
--- src/idle.rt:133:17
 ready-outputs-requires : tie.Need-ready-outputs-requires
 ready-outputs-requires c κs = search needs
 
--- src/idle.rt:134:15
 array-read-own : tie.Need-array-read-own
 array-read-own c = search needs
 
--- src/idle.rt:135:9
 all-ready-requires : tie.Need-all-ready-requires
 all-ready-requires c κs = search needs
 
--- src/idle.rt:136:5
 is-standing-requires : tie.Need-is-standing-requires
 is-standing-requires c κs = search needs
 
--- src/idle.rt:123:1
 returns : tie.Need-returns
 unfolding inputWaits
 returns c = rw (c .is-standing .ensures, c .before .all-ready .ensures, c .before .before .ready-outputs .ensures, all-flags (ready (mark (c .before .before .before .before .args .there)) (farAt (c .before .before .before .before .args .far)) (c .before .before .before .before .args .outputs)) (c .before .before .before .before .args .input .outputs)) refl

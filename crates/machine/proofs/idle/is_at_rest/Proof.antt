@@ -6,11 +6,9 @@ use Rattle.machine.proofs.idle.is_at_rest.Reads as reads
 use Rattle.machine.proofs.idle.is_at_rest.Lts as lts
 use Rattle.machine.proofs.phases.is_none.Reads as is-none-reads
 
--- src/idle.rt:31:9
 is-none-requires : tie.Need-is-none-requires
 is-none-requires c κs = search needs
 
--- src/idle.rt:27:1
 returns : tie.Need-returns
 returns c = rw (c .before .before .is-none .ensures) refl
 

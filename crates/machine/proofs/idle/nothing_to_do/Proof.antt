@@ -12,64 +12,50 @@ use Rattle.machine.proofs.idle.is_quiet.Reads as is-quiet-reads
 use Rattle.machine.proofs.idle.output_of.Reads as output-of-reads
 use Rattle.machine.proofs.phases.is_none.Reads as is-none-reads
 
--- src/idle.rt:72:13
 input-of-requires : tie.Need-input-of-requires
 input-of-requires c κs = search needs
 
--- src/idle.rt:74:9
 is-quiet-requires : tie.Need-is-quiet-requires
 is-quiet-requires c κs = search needs
 
--- src/idle.rt:74:9
 returns : tie.Need-returns
 unfolding nothingToDo
 returns c = rw (c .is-quiet .ensures, c .before .input-of .ensures, lt-ltb _ _ (c .before .before .before .if1 .taken)) refl
 
--- src/idle.rt:78:13
 output-of-requires : tie.Need-output-of-requires
 output-of-requires c κs = search needs
 
--- src/idle.rt:79:9
 is-at-rest-requires : tie.Need-is-at-rest-requires
 is-at-rest-requires c κs = search needs
 
--- src/idle.rt:79:9
 returns-2 : tie.Need-returns-2
 unfolding nothingToDo
 returns-2 c = rw (c .is-at-rest .ensures, c .before .output-of .ensures, le-ltb _ _ (c .before .before .before .before .if1 .left), lt-ltb _ _ (c .before .before .before .if2 .taken)) refl
 
--- src/idle.rt:83:9
 returns-3 : tie.Need-returns-3
 unfolding nothingToDo
 returns-3 c = rw (le-ltb _ _ (c .before .before .before .before .if1 .left), le-ltb _ _ (c .before .before .before .if2 .left), eq-eqb _ _ (c .before .before .if3 .taken)) refl
 
--- src/idle.rt:87:21
 element-copy-out-front : tie.Need-element-copy-out-front
 element-copy-out-front c = search needs
 
--- src/idle.rt:89:13
 is-none-requires : tie.Need-is-none-requires
 is-none-requires c κs = search needs
 
--- src/idle.rt:90:9
 returns-4 : tie.Need-returns-4
 unfolding nothingToDo
 returns-4 c = rw (c .is-none .ensures, le-ltb _ _ (c .before .before .before .before .before .before .if1 .left), le-ltb _ _ (c .before .before .before .before .before .if2 .left), ne-eqb _ _ (c .before .before .before .before .if3 .left), eq-eqb _ _ (c .before .before .before .if4 .taken)) refl
 
--- src/idle.rt:93:19
 element-copy-out-own : tie.Need-element-copy-out-own
 element-copy-out-own c = search needs
 
--- src/idle.rt:95:13
 is-none-requires-2 : tie.Need-is-none-requires-2
 is-none-requires-2 c κs = search needs
 
--- src/idle.rt:96:9
 returns-5 : tie.Need-returns-5
 unfolding nothingToDo
 returns-5 c = rw (c .before .is-none2 .ensures, le-ltb _ _ (c .before .before .before .before .before .before .before .if1 .left), le-ltb _ _ (c .before .before .before .before .before .before .if2 .left), ne-eqb _ _ (c .before .before .before .before .before .if3 .left), ne-eqb _ _ (c .before .before .before .before .if4 .left), eq-eqb _ _ (c .before .before .before .if5 .taken)) refl
 
--- src/idle.rt:67:1
 returns-6 : tie.Need-returns-6
 unfolding nothingToDo
 returns-6 c = rw (le-ltb _ _ (c .before .before .before .before .if1 .left), le-ltb _ _ (c .before .before .before .if2 .left), ne-eqb _ _ (c .before .before .if3 .left), ne-eqb _ _ (c .before .if4 .left), ne-eqb _ _ (c .if5 .left)) refl

@@ -10,43 +10,33 @@ use Rattle.machine.proofs.idle.output_of.Tie as tie
 use Rattle.machine.proofs.idle.output_of.Reads as reads
 use Rattle.machine.proofs.idle.output_of.Lts as lts
 
--- src/idle.rt:58:14
 array-copy-out-result : tie.Need-array-copy-out-result
 array-copy-out-result c = search needs
 
--- src/idle.rt:59:14
 array-copy-out-result-2 : tie.Need-array-copy-out-result-2
 array-copy-out-result-2 c = search needs
 
--- src/idle.rt:60:14
 array-copy-out-result-3 : tie.Need-array-copy-out-result-3
 array-copy-out-result-3 c = search needs
 
--- src/idle.rt:61:14
 array-copy-out-result-4 : tie.Need-array-copy-out-result-4
 array-copy-out-result-4 c = search needs
 
--- src/idle.rt:62:14
 array-copy-out-result-5 : tie.Need-array-copy-out-result-5
 array-copy-out-result-5 c = search needs
 
--- src/idle.rt:53:1
 returns : tie.Need-returns
 returns c = ap (λ (k : ℕ). getD (c .before .before .args .t1) k noOutput) (sym (c .before .match .keys1))
 
--- src/idle.rt:53:1
 returns-2 : tie.Need-returns-2
 returns-2 c = ap (λ (k : ℕ). getD (c .before .before .args .t1) k noOutput) (sym (c .before .match .keys2))
 
--- src/idle.rt:53:1
 returns-3 : tie.Need-returns-3
 returns-3 c = ap (λ (k : ℕ). getD (c .before .before .args .t1) k noOutput) (sym (c .before .match .keys3))
 
--- src/idle.rt:53:1
 returns-4 : tie.Need-returns-4
 returns-4 c = ap (λ (k : ℕ). getD (c .before .before .args .t1) k noOutput) (sym (c .before .match .keys4))
 
--- src/idle.rt:53:1
 returns-5 : tie.Need-returns-5
 returns-5 c = let e : 4 ≡ c .before .before .args .j = omega arith in ap (λ (k : ℕ). getD (c .before .before .args .t1) k noOutput) e
 

@@ -7,15 +7,12 @@ use Rattle.machine.proofs.idle.output_waits.Lts as lts
 use Rattle.machine.proofs.phases.is_free.Reads as is-free-reads
 use Rattle.machine.proofs.phases.is_listening.Reads as is-listening-reads
 
--- src/idle.rt:144:9
 is-free-requires : tie.Need-is-free-requires
 is-free-requires c κs = search needs
 
--- src/idle.rt:145:9
 is-listening-requires : tie.Need-is-listening-requires
 is-listening-requires c κs = search needs
 
--- src/idle.rt:140:1
 returns : tie.Need-returns
 returns c = rw (c .before .before .is-listening .ensures, c .before .before .before .is-free .ensures) refl
 

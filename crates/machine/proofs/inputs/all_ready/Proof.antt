@@ -6,47 +6,36 @@ use Rattle.machine.proofs.inputs.all_ready.Tie as tie
 use Rattle.machine.proofs.inputs.all_ready.Reads as reads
 use Rattle.machine.proofs.inputs.all_ready.Lts as lts
 
--- src/inputs.rt:156:7
 array-read-result : tie.Need-array-read-result
 array-read-result c = search needs
 
--- src/inputs.rt:156:18
 array-read-result-2 : tie.Need-array-read-result-2
 array-read-result-2 c = search needs
 
--- src/inputs.rt:156:32
 array-read-result-3 : tie.Need-array-read-result-3
 array-read-result-3 c = search needs
 
--- src/inputs.rt:156:43
 array-read-result-4 : tie.Need-array-read-result-4
 array-read-result-4 c = search needs
 
--- src/inputs.rt:156:57
 array-read-result-5 : tie.Need-array-read-result-5
 array-read-result-5 c = search needs
 
--- src/inputs.rt:156:68
 array-read-result-6 : tie.Need-array-read-result-6
 array-read-result-6 c = search needs
 
--- src/inputs.rt:156:82
 array-read-result-7 : tie.Need-array-read-result-7
 array-read-result-7 c = search needs
 
--- src/inputs.rt:156:93
 array-read-result-8 : tie.Need-array-read-result-8
 array-read-result-8 c = search needs
 
--- src/inputs.rt:156:107
 array-read-result-9 : tie.Need-array-read-result-9
 array-read-result-9 c = search needs
 
--- src/inputs.rt:156:118
 array-read-result-10 : tie.Need-array-read-result-10
 array-read-result-10 c = search needs
 
--- src/inputs.rt:153:1
 returns : tie.Need-returns
 unfolding all
 returns c = refl

@@ -7,27 +7,21 @@ use Rattle.machine.proofs.inputs.marks.Tie as tie
 use Rattle.machine.proofs.inputs.marks.Reads as reads
 use Rattle.machine.proofs.inputs.marks.Lts as lts
 
--- src/inputs.rt:149:6
 array-read-t5 : tie.Need-array-read-t5
 array-read-t5 c = search needs
 
--- src/inputs.rt:149:20
 array-read-t9 : tie.Need-array-read-t9
 array-read-t9 c = search needs
 
--- src/inputs.rt:149:34
 array-read-t13 : tie.Need-array-read-t13
 array-read-t13 c = search needs
 
--- src/inputs.rt:149:48
 array-read-t17 : tie.Need-array-read-t17
 array-read-t17 c = search needs
 
--- src/inputs.rt:149:62
 array-read-t21 : tie.Need-array-read-t21
 array-read-t21 c = search needs
 
--- src/inputs.rt:146:1
 returns : tie.Need-returns
 unfolding over marksOf
 returns c = refl

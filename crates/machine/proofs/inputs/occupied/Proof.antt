@@ -22,51 +22,39 @@ Inv-loop packet i sets outputs next₀ j₀ next j = (j ≤ 5) × (next ≡ over
 abbrev μ-loop : tie.MeasureT-loop
 μ-loop packet i sets outputs next₀ j₀ next j = 5 - j
 
--- src/inputs.rt:137:5
 loop-holds : tie.Need-loop-holds Inv-loop μ-loop
 loop-holds c = (omega arith, sym (over-none _ _))
 
--- src/inputs.rt:138:22
 mul-output : tie.Need-mul-output Inv-loop μ-loop
 mul-output c = search needs
 
--- src/inputs.rt:138:22
 array-copy-out-output : tie.Need-array-copy-out-output Inv-loop μ-loop
 array-copy-out-output c = search needs
 
--- src/inputs.rt:139:41
 mul-taken-if : tie.Need-mul-taken-if Inv-loop μ-loop
 mul-taken-if c = search needs
 
--- src/inputs.rt:139:41
 array-read-taken-if : tie.Need-array-read-taken-if Inv-loop μ-loop
 array-read-taken-if c = search needs
 
--- src/inputs.rt:139:13
 taken-if-requires : tie.Need-taken-if-requires Inv-loop μ-loop
 taken-if-requires c κs = search needs
 
--- src/inputs.rt:140:9
 mul-next : tie.Need-mul-next Inv-loop μ-loop
 mul-next c = search needs
 
--- src/inputs.rt:140:9
 array-set-from-next : tie.Need-array-set-from-next Inv-loop μ-loop
 array-set-from-next c = let e : length (c .before .before .before .before .args .t4) ≡ 5 = search needs in omega (arith, ap length (c .before .before .before .loop .inv .1), length-over (λ k. cond (isChosen (c .before .before .before .before .args .t3) k) (taken (c .before .before .before .before .args .packet) (c .before .before .before .before .args .i) (getD (c .before .before .before .before .args .t3) k 0)) (outOf (c .before .before .before .before .args .t4) k)) (c .before .before .before .loop .j) (c .before .before .before .before .args .t4))
 
--- src/inputs.rt:137:9
 add-j : tie.Need-add-j Inv-loop μ-loop
 add-j c = search needs
 
--- src/inputs.rt:137:5
 loop-less : tie.Need-loop-less Inv-loop μ-loop
 loop-less c = search needs
 
--- src/inputs.rt:137:5
 loop-again : tie.Need-loop-again Inv-loop μ-loop
 loop-again c = let e : length (c .before .before .before .before .args .t4) ≡ 5 = search needs in (omega arith, over-step _ (c .before .before .before .loop .j) _ _ _ (c .before .before .before .loop .inv .1) (c .taken-if .ensures) (omega arith))
 
--- src/inputs.rt:132:1
 returns : tie.Need-returns Inv-loop μ-loop
 unfolding occupy
 returns c = let e : c .before .loop .j ≡ 5 = omega arith in c .before .loop .inv .1 ∙ ap (λ (k : ℕ). over (λ k. cond (isChosen (c .before .before .args .t3) k) (taken (c .before .before .args .packet) (c .before .before .args .i) (getD (c .before .before .args .t3) k 0)) (outOf (c .before .before .args .t4) k)) k (c .before .before .args .t4)) e

@@ -10,15 +10,12 @@ use Rattle.machine.proofs.inputs.opened.Lts as lts
 use Rattle.machine.proofs.inputs.marks.Reads as marks-reads
 use Rattle.machine.proofs.inputs.occupied.Reads as occupied-reads
 
--- src/inputs.rt:167:9
 marks-requires : tie.Need-marks-requires
 marks-requires c κs = search needs
 
--- src/inputs.rt:169:18
 occupied-requires : tie.Need-occupied-requires
 occupied-requires c κs = search needs
 
--- src/inputs.rt:160:1
 returns : tie.Need-returns
 returns c = rw (c .occupied .ensures, c .before .marks .ensures) refl
 

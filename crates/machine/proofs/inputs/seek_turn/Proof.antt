@@ -11,42 +11,33 @@ use Rattle.machine.proofs.inputs.seek_turn.Lts as lts
 use Rattle.machine.proofs.inputs.opened.Reads as opened-reads
 use Rattle.machine.proofs.router.one_output.Reads as one-output-reads
 
--- src/inputs.rt:189:15
 array-copy-out-own : tie.Need-array-copy-out-own
 array-copy-out-own c = search needs
 
--- src/inputs.rt:191:9
 opened-requires : tie.Need-opened-requires
 opened-requires c κs = search needs
 
--- src/inputs.rt:191:9
 returns : tie.Need-returns
 unfolding seek
 returns c = rw (c .opened .ensures, c .before .if1 .taken) refl
 
--- src/inputs.rt:203:24
 add-t21 : tie.Need-add-t21
 add-t21 c = search needs
 
--- src/inputs.rt:196:9
 returns-2 : tie.Need-returns-2
 unfolding seek
 returns-2 c = rw (c .before .before .if1 .left, lt-ltb _ _ (c .before .if2 .taken)) refl
 
--- src/inputs.rt:209:9
 returns-3 : tie.Need-returns-3
 unfolding seek
 returns-3 c = rw (c .before .before .if1 .left, le-ltb _ _ (c .before .if2 .left), c .if3 .taken) refl
 
--- src/inputs.rt:211:9
 one-output-requires : tie.Need-one-output-requires
 one-output-requires c κs = search needs
 
--- src/inputs.rt:213:5
 opened-requires-2 : tie.Need-opened-requires-2
 opened-requires-2 c κs = search needs
 
--- src/inputs.rt:182:1
 returns-4 : tie.Need-returns-4
 unfolding seek
 returns-4 c = rw (c .opened2 .ensures, c .before .before .one-output .ensures, c .before .before .before .before .before .if1 .left, le-ltb _ _ (c .before .before .before .before .if2 .left), c .before .before .before .if3 .left) refl

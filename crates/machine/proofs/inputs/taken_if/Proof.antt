@@ -7,15 +7,12 @@ use Rattle.machine.proofs.inputs.taken_if.Tie as tie
 use Rattle.machine.proofs.inputs.taken_if.Reads as reads
 use Rattle.machine.proofs.inputs.taken_if.Lts as lts
 
--- src/inputs.rt:119:9
 returns : tie.Need-returns
 returns c = rw (eq-eqb _ 0 (c .if1 .taken)) refl
 
--- src/inputs.rt:125:16
 cast-t7 : tie.Need-cast-t7
 cast-t7 c = search needs
 
--- src/inputs.rt:114:1
 returns-2 : tie.Need-returns-2
 returns-2 c = rw (ne-eqb _ 0 (c .if1 .left)) refl
 

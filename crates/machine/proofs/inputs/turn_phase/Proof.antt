@@ -8,15 +8,12 @@ use Rattle.machine.proofs.inputs.turn_phase.Lts as lts
 use Rattle.machine.proofs.inputs.turned_phase.Reads as turned-phase-reads
 use Rattle.machine.proofs.phases.in_phase.Reads as in-phase-reads
 
--- src/inputs.rt:223:9
 turned-phase-requires : tie.Need-turned-phase-requires
 turned-phase-requires c κs = search needs
 
--- src/inputs.rt:226:16
 in-phase-requires : tie.Need-in-phase-requires
 in-phase-requires c κs = search needs
 
--- src/inputs.rt:219:1
 returns : tie.Need-returns
 returns c = rw (c .in-phase .ensures, c .before .turned-phase .ensures) refl
 

@@ -19,43 +19,34 @@ Inv-loop count s entries n₀ m₀ n m = (m ≤ count) × (n ≤ 64 * m) × (n �
 abbrev μ-loop : tie.MeasureT-loop
 μ-loop count s entries n₀ m₀ n m = count - m
 
--- src/owing.rt:77:5
 loop-holds : tie.Need-loop-holds Inv-loop μ-loop
 unfolding sum
 loop-holds c = (omega arith, omega arith, refl)
 
--- src/owing.rt:78:21
 mul-entry : tie.Need-mul-entry Inv-loop μ-loop
 mul-entry c = search needs
 
--- src/owing.rt:78:21
 array-copy-out-entry : tie.Need-array-copy-out-entry Inv-loop μ-loop
 array-copy-out-entry c = let e : length (c .before .before .args .t1) ≡ 8 = search needs in omega arith
 
--- src/owing.rt:80:14
 place-pairs-requires : tie.Need-place-pairs-requires Inv-loop μ-loop
 place-pairs-requires c κs = search needs
 
--- src/owing.rt:80:9
 add-n : tie.Need-add-n Inv-loop μ-loop
 add-n c = omega (arith, c .place-pairs .ensures .1)
 
--- src/owing.rt:77:9
 add-m : tie.Need-add-m Inv-loop μ-loop
 add-m c = search needs
 
--- src/owing.rt:77:5
 loop-less : tie.Need-loop-less Inv-loop μ-loop
 loop-less c = search needs
 
--- src/owing.rt:77:5
 loop-again : tie.Need-loop-again Inv-loop μ-loop
 loop-again c =
     let l = c .before .before .before .loop in
     let e : length (c .before .before .before .before .args .t1) ≡ 8 = search needs in
     (omega arith, omega (arith, c .place-pairs .ensures .1), omega (arith, l .inv .2, c .place-pairs .ensures .0, sum-next (pairsInEntry (c .before .before .before .before .args .s)) (c .before .before .before .before .args .t1) (l .m) noInEntry (omega arith)))
 
--- src/owing.rt:72:1
 returns : tie.Need-returns Inv-loop μ-loop
 returns c = let l = c .before .loop in let e : l .m ≡ c .before .before .args .count = omega arith in (l .inv .2 ∙ ap (λ (k : ℕ). sum (pairsInEntry (c .before .before .args .s)) (take k (c .before .before .args .t1))) e, omega arith)
 

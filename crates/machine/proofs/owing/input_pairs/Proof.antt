@@ -20,47 +20,37 @@ Inv-loop s inputs n₀ i₀ n i = (i ≤ 5) × (n ≤ 64 * i) × (n ≡ sum (pai
 abbrev μ-loop : tie.MeasureT-loop
 μ-loop s inputs n₀ i₀ n i = 5 - i
 
--- src/owing.rt:39:5
 loop-holds : tie.Need-loop-holds Inv-loop μ-loop
 unfolding sum
 loop-holds c = (omega arith, omega arith, refl)
 
--- src/owing.rt:40:21
 mul-input : tie.Need-mul-input Inv-loop μ-loop
 mul-input c = search needs
 
--- src/owing.rt:40:21
 array-copy-out-input : tie.Need-array-copy-out-input Inv-loop μ-loop
 array-copy-out-input c = let e : length (c .before .before .args .t2) ≡ 5 = search needs in omega arith
 
--- src/owing.rt:42:13
 held-terminator-requires : tie.Need-held-terminator-requires Inv-loop μ-loop
 held-terminator-requires c κs = search needs
 
--- src/owing.rt:43:14
 place-pairs-requires : tie.Need-place-pairs-requires Inv-loop μ-loop
 place-pairs-requires c κs = search needs
 
--- src/owing.rt:43:9
 add-n : tie.Need-add-n Inv-loop μ-loop
 add-n c = omega (arith, c .place-pairs .ensures .1)
 
--- src/owing.rt:39:9
 add-i : tie.Need-add-i Inv-loop μ-loop
 add-i c = search needs
 
--- src/owing.rt:39:5
 loop-less : tie.Need-loop-less Inv-loop μ-loop
 loop-less c = search needs
 
--- src/owing.rt:39:5
 loop-again : tie.Need-loop-again Inv-loop μ-loop
 loop-again c =
     let l = c .before .before .before .before .loop in
     let e : length (c .before .before .before .before .before .args .t2) ≡ 5 = search needs in
     (omega arith, omega (arith, c .place-pairs .ensures .1), omega (arith, l .inv .2, c .place-pairs .ensures .0, sum-next (pairsInput (c .before .before .before .before .before .args .s)) (c .before .before .before .before .before .args .t2) (l .i) inputD (omega arith), ap (λ k. pairsAs k (c .before .before .before .before .before .args .s) (getD (c .before .before .before .before .before .args .t2) (l .i) inputD .set)) (c .before .held-terminator .ensures)))
 
--- src/owing.rt:35:1
 returns : tie.Need-returns Inv-loop μ-loop
 returns c = let l = c .before .loop in let e : length (c .before .before .args .t2) ≡ 5 = search needs in (l .inv .2 ∙ ap (sum (pairsInput (c .before .before .args .s))) (take-all (l .i) (c .before .before .args .t2) (omega arith)), omega arith)
 

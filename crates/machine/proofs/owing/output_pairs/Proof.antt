@@ -19,43 +19,34 @@ Inv-loop s outputs n₀ j₀ n j = (j ≤ 5) × (n ≤ 64 * j) × (n ≡ sum (pa
 abbrev μ-loop : tie.MeasureT-loop
 μ-loop s outputs n₀ j₀ n j = 5 - j
 
--- src/owing.rt:52:5
 loop-holds : tie.Need-loop-holds Inv-loop μ-loop
 unfolding sum
 loop-holds c = (omega arith, omega arith, refl)
 
--- src/owing.rt:53:22
 mul-output : tie.Need-mul-output Inv-loop μ-loop
 mul-output c = search needs
 
--- src/owing.rt:53:22
 array-copy-out-output : tie.Need-array-copy-out-output Inv-loop μ-loop
 array-copy-out-output c = let e : length (c .before .before .args .t2) ≡ 5 = search needs in omega arith
 
--- src/owing.rt:55:14
 place-pairs-requires : tie.Need-place-pairs-requires Inv-loop μ-loop
 place-pairs-requires c κs = search needs
 
--- src/owing.rt:55:9
 add-n : tie.Need-add-n Inv-loop μ-loop
 add-n c = omega (arith, c .place-pairs .ensures .1)
 
--- src/owing.rt:52:9
 add-j : tie.Need-add-j Inv-loop μ-loop
 add-j c = search needs
 
--- src/owing.rt:52:5
 loop-less : tie.Need-loop-less Inv-loop μ-loop
 loop-less c = search needs
 
--- src/owing.rt:52:5
 loop-again : tie.Need-loop-again Inv-loop μ-loop
 loop-again c =
     let l = c .before .before .before .loop in
     let e : length (c .before .before .before .before .args .t2) ≡ 5 = search needs in
     (omega arith, omega (arith, c .place-pairs .ensures .1), omega (arith, l .inv .2, c .place-pairs .ensures .0, sum-next (pairsOutput (c .before .before .before .before .args .s)) (c .before .before .before .before .args .t2) (l .j) noOutput (omega arith)))
 
--- src/owing.rt:48:1
 returns : tie.Need-returns Inv-loop μ-loop
 returns c = let l = c .before .loop in let e : length (c .before .before .args .t2) ≡ 5 = search needs in (l .inv .2 ∙ ap (sum (pairsOutput (c .before .before .args .s))) (take-all (l .j) (c .before .before .args .t2) (omega arith)), omega arith)
 

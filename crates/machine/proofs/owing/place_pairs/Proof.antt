@@ -9,47 +9,36 @@ use Rattle.machine.proofs.owing.place_pairs.Lts as lts
 use Rattle.sets.proofs.member.Reads as member-reads
 use Rattle.sets.proofs.size.Reads as size-reads
 
--- src/owing.rt:23:29
 enum-told : tie.Need-enum-told
 enum-told c = search needs
 
--- src/owing.rt:24:28
 enum-told-2 : tie.Need-enum-told-2
 enum-told-2 c = search needs
 
--- src/owing.rt:24:28
 size-requires : tie.Need-size-requires
 size-requires c κs = search needs
 
--- src/owing.rt:25:30
 enum-told-3 : tie.Need-enum-told-3
 enum-told-3 c = search needs
 
--- src/owing.rt:27:16
 enum-told-4 : tie.Need-enum-told-4
 enum-told-4 c = search needs
 
--- src/owing.rt:27:16
 member-requires : tie.Need-member-requires
 member-requires c κs = search needs
 
--- src/owing.rt:28:17
 returns : tie.Need-returns
 returns c = (rw (c .before .before .enum-told4 .given .1, ← c .before .member .ensures, c .if1 .taken) refl, omega arith)
 
--- src/owing.rt:19:1
 returns-2 : tie.Need-returns-2
 returns-2 c = (rw (c .enum-told .given .1) refl, omega arith)
 
--- src/owing.rt:19:1
 returns-3 : tie.Need-returns-3
 returns-3 c = (rw (c .before .enum-told2 .given .1) (c .size .ensures), omega (arith, c .size .ensures, size-most 64 (c .before .before .before .args .set)))
 
--- src/owing.rt:19:1
 returns-4 : tie.Need-returns-4
 returns-4 c = (rw (c .enum-told3 .given .1) refl, omega arith)
 
--- src/owing.rt:19:1
 returns-5 : tie.Need-returns-5
 returns-5 c = (rw (c .before .before .enum-told4 .given .1, ← c .before .member .ensures, c .if1 .left) refl, omega arith)
 

@@ -19,43 +19,34 @@ Inv-loop sites n₀ s₀ n s = (s ≤ 16) × (n ≤ 1664 * s) × (n ≡ isum pai
 abbrev μ-loop : tie.MeasureT-loop
 μ-loop sites n₀ s₀ n s = 16 - s
 
--- src/owing.rt:115:5
 loop-holds : tie.Need-loop-holds Inv-loop μ-loop
 unfolding isum
 loop-holds c = (omega arith, omega arith, refl)
 
--- src/owing.rt:116:20
 mul-site : tie.Need-mul-site Inv-loop μ-loop
 mul-site c = search needs
 
--- src/owing.rt:116:20
 array-copy-out-site : tie.Need-array-copy-out-site Inv-loop μ-loop
 array-copy-out-site c = let e : length (c .before .before .args .t1) ≡ 16 = search needs in omega arith
 
--- src/owing.rt:117:14
 site-pairs-requires : tie.Need-site-pairs-requires Inv-loop μ-loop
 site-pairs-requires c κs = c .before .before .before .pre (c .before .before .loop .s) (omega arith)
 
--- src/owing.rt:117:9
 add-n : tie.Need-add-n Inv-loop μ-loop
 add-n c = omega (arith, c .site-pairs .ensures .1)
 
--- src/owing.rt:115:9
 add-s : tie.Need-add-s Inv-loop μ-loop
 add-s c = search needs
 
--- src/owing.rt:115:5
 loop-less : tie.Need-loop-less Inv-loop μ-loop
 loop-less c = search needs
 
--- src/owing.rt:115:5
 loop-again : tie.Need-loop-again Inv-loop μ-loop
 loop-again c =
     let l = c .before .before .before .loop in
     let e : length (c .before .before .before .before .args .t1) ≡ 16 = search needs in
     (omega arith, omega (arith, c .site-pairs .ensures .1), omega (arith, l .inv .2, c .site-pairs .ensures .0, isum-next pairsSite (c .before .before .before .before .args .t1) (l .s) siteD (omega arith)))
 
--- src/owing.rt:110:1
 returns : tie.Need-returns Inv-loop μ-loop
 unfolding owedPairs
 returns c = let l = c .before .loop in let e : length (c .before .before .args .t1) ≡ 16 = search needs in l .inv .2 ∙ ap (isum pairsSite 0) (take-all (l .s) (c .before .before .args .t1) (omega arith))

@@ -5,67 +5,51 @@ use Rattle.machine.proofs.phases.receive.Tie as tie
 use Rattle.machine.proofs.phases.receive.Reads as reads
 use Rattle.machine.proofs.phases.receive.Lts as lts
 
--- src/phases.rt:83:24
 enum-told : tie.Need-enum-told
 enum-told c = search needs
 
--- src/phases.rt:84:24
 enum-told-2 : tie.Need-enum-told-2
 enum-told-2 c = search needs
 
--- src/phases.rt:85:21
 enum-known-phase : tie.Need-enum-known-phase
 enum-known-phase c = search needs
 
--- src/phases.rt:86:27
 enum-told-3 : tie.Need-enum-told-3
 enum-told-3 c = search needs
 
--- src/phases.rt:87:30
 enum-told-4 : tie.Need-enum-told-4
 enum-told-4 c = search needs
 
--- src/phases.rt:88:30
 enum-told-5 : tie.Need-enum-told-5
 enum-told-5 c = search needs
 
--- src/phases.rt:89:22
 enum-known-phase-2 : tie.Need-enum-known-phase-2
 enum-known-phase-2 c = search needs
 
--- src/phases.rt:90:34
 enum-told-6 : tie.Need-enum-told-6
 enum-told-6 c = search needs
 
--- src/phases.rt:79:1
 returns : tie.Need-returns
 returns c = search needs
 
--- src/phases.rt:79:1
 returns-2 : tie.Need-returns-2
 returns-2 c = search needs
 
--- src/phases.rt:79:1
 returns-3 : tie.Need-returns-3
 returns-3 c = rw (c .before .phase .given .1) refl
 
--- src/phases.rt:79:1
 returns-4 : tie.Need-returns-4
 returns-4 c = search needs
 
--- src/phases.rt:79:1
 returns-5 : tie.Need-returns-5
 returns-5 c = search needs
 
--- src/phases.rt:79:1
 returns-6 : tie.Need-returns-6
 returns-6 c = search needs
 
--- src/phases.rt:79:1
 returns-7 : tie.Need-returns-7
 returns-7 c = rw (c .before .phase2 .given .1) refl
 
--- src/phases.rt:79:1
 returns-8 : tie.Need-returns-8
 returns-8 c = search needs
 

@@ -7,15 +7,12 @@ use Rattle.machine.proofs.phases.with_received.Lts as lts
 use Rattle.machine.proofs.phases.in_phase.Reads as in-phase-reads
 use Rattle.machine.proofs.phases.receive.Reads as receive-reads
 
--- src/phases.rt:111:9
 receive-requires : tie.Need-receive-requires
 receive-requires c κs = search needs
 
--- src/phases.rt:112:5
 in-phase-requires : tie.Need-in-phase-requires
 in-phase-requires c κs = search needs
 
--- src/phases.rt:107:1
 returns : tie.Need-returns
 returns c = rw (c .in-phase .ensures, c .before .receive .ensures) refl
 

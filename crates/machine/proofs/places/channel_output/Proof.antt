@@ -12,73 +12,57 @@ use Rattle.machine.proofs.phases.seeking_input.Reads as seeking-input-r
 use Rattle.machine.proofs.phases.with_head.Reads as with-head-reads
 use Rattle.machine.proofs.places.deliver_terminator.Reads as deliver-terminator-reads
 
--- src/places.rt:112:37
 enum-told : tie.Need-enum-told
 enum-told c = search needs
 
--- src/places.rt:113:77
 enum-told-2 : tie.Need-enum-told-2
 enum-told-2 c = search needs
 
--- src/places.rt:113:36
 deliver-terminator-requires : tie.Need-deliver-terminator-requires
 deliver-terminator-requires c κs = search needs
 
--- src/places.rt:114:79
 enum-told-3 : tie.Need-enum-told-3
 enum-told-3 c = search needs
 
--- src/places.rt:114:38
 deliver-terminator-requires-2 : tie.Need-deliver-terminator-requires-2
 deliver-terminator-requires-2 c κs = search needs
 
--- src/places.rt:115:42
 enum-told-4 : tie.Need-enum-told-4
 enum-told-4 c = search needs
 
--- src/places.rt:111:13
 returns : tie.Need-returns
 unfolding channelOutput deliver
 returns c = rw (c .before .before .before .if1 .taken, c .before .before .if2 .taken, c .enum-told .given .1) refl
 
--- src/places.rt:111:13
 returns-2 : tie.Need-returns-2
 unfolding channelOutput deliver
 returns-2 c = rw (c .deliver-terminator .ensures, c .before .before .before .before .if1 .taken, c .before .before .before .if2 .taken, c .before .enum-told2 .given .1) refl
 
--- src/places.rt:111:13
 returns-3 : tie.Need-returns-3
 unfolding channelOutput deliver
 returns-3 c = rw (c .deliver-terminator2 .ensures, c .before .before .before .before .if1 .taken, c .before .before .before .if2 .taken, c .before .enum-told3 .given .1) refl
 
--- src/places.rt:111:13
 returns-4 : tie.Need-returns-4
 unfolding channelOutput deliver
 returns-4 c = rw (c .before .before .before .if1 .taken, c .before .before .if2 .taken, c .enum-told4 .given .1) refl
 
--- src/places.rt:118:13
 is-free-requires : tie.Need-is-free-requires
 is-free-requires c κs = search needs
 
--- src/places.rt:121:25
 with-head-requires : tie.Need-with-head-requires
 with-head-requires c κs = search needs
 
--- src/places.rt:122:24
 seeking-input-requires : tie.Need-seeking-input-requires
 seeking-input-requires c κs = search needs
 
--- src/places.rt:120:13
 returns-5 : tie.Need-returns-5
 unfolding channelOutput deliver
 returns-5 c = rw (c .seeking-input .ensures, c .before .with-head .ensures, c .before .before .before .before .before .if1 .taken, c .before .before .before .before .if2 .left, ← c .before .before .before .is-free .ensures, c .before .before .if3 .taken) refl
 
--- src/places.rt:126:9
 returns-6 : tie.Need-returns-6
 unfolding channelOutput deliver
 returns-6 c = rw (c .before .before .before .if1 .taken, c .before .before .if2 .left, ← c .before .is-free .ensures, c .if3 .left) refl
 
--- src/places.rt:104:1
 returns-7 : tie.Need-returns-7
 unfolding channelOutput deliver
 returns-7 c = rw (c .if1 .left) refl

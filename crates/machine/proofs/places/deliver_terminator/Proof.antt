@@ -10,23 +10,18 @@ use Rattle.machine.proofs.phases.empty_output.Reads as empty-output-rea
 use Rattle.machine.proofs.phases.is_listening.Reads as is-listening-reads
 use Rattle.machine.proofs.phases.with_received.Reads as with-received-reads
 
--- src/places.rt:92:9
 is-listening-requires : tie.Need-is-listening-requires
 is-listening-requires c κs = search needs
 
--- src/places.rt:95:21
 empty-output-requires : tie.Need-empty-output-requires
 empty-output-requires c κs = search needs
 
--- src/places.rt:96:20
 with-received-requires : tie.Need-with-received-requires
 with-received-requires c κs = search needs
 
--- src/places.rt:94:9
 returns : tie.Need-returns
 returns c = rw (c .with-received .ensures, c .before .empty-output .ensures, ← c .before .before .before .is-listening .ensures, c .before .before .if1 .taken) refl
 
--- src/places.rt:88:1
 returns-2 : tie.Need-returns-2
 returns-2 c = rw (← c .before .is-listening .ensures, c .if1 .left) refl
 

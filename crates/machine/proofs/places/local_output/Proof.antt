@@ -16,56 +16,44 @@ use Rattle.machine.proofs.queues.end_last.Reads as end-last-reads
 use Rattle.machine.proofs.queues.last_lacks.Reads as last-lacks-reads
 use Rattle.machine.proofs.queues.push_in.Reads as push-in-reads
 
--- src/places.rt:58:16
 is-none-requires : tie.Need-is-none-requires
 is-none-requires c κs = search needs
 
--- src/places.rt:59:17
 returns : tie.Need-returns
 unfolding localOutput
 returns c = rw (c .before .before .before .if1 .taken, c .before .before .if2 .taken, ← c .before .is-none .ensures, c .if3 .taken) refl
 
--- src/places.rt:61:16
 last-lacks-requires : tie.Need-last-lacks-requires
 last-lacks-requires c κs = search needs
 
--- src/places.rt:63:28
 end-last-requires : tie.Need-end-last-requires
 end-last-requires c κs = (ltb-true 0 (c .before .before .before .before .before .before .args .queue .count) (both (ltb 0 (c .before .before .before .before .before .before .args .queue .count)) _ (sym (c .before .last-lacks .ensures) ∙ c .if4 .taken) .0), omega arith)
 
--- src/places.rt:64:29
 empty-output-requires : tie.Need-empty-output-requires
 empty-output-requires c κs = search needs
 
--- src/places.rt:62:17
 returns-2 : tie.Need-returns-2
 unfolding localOutput
 returns-2 c = rw (c .before .end-last .ensures, c .empty-output .ensures, c .before .before .before .before .before .before .before .if1 .taken, c .before .before .before .before .before .before .if2 .taken, ← c .before .before .before .before .before .is-none .ensures, c .before .before .before .before .if3 .left, ← c .before .before .before .last-lacks .ensures, c .before .before .if4 .taken) refl
 
--- src/places.rt:68:13
 returns-3 : tie.Need-returns-3
 unfolding localOutput
 returns-3 c = rw (c .before .before .before .before .before .if1 .taken, c .before .before .before .before .if2 .taken, ← c .before .before .before .is-none .ensures, c .before .before .if3 .left, ← c .before .last-lacks .ensures, c .if4 .left) refl
 
--- src/places.rt:77:24
 push-in-requires : tie.Need-push-in-requires
 push-in-requires c κs = search needs
 
--- src/places.rt:78:25
 with-head-requires : tie.Need-with-head-requires
 with-head-requires c κs = search needs
 
--- src/places.rt:76:13
 returns-4 : tie.Need-returns-4
 unfolding localOutput
 returns-4 c = rw (c .before .push-in .ensures, c .with-head .ensures, c .before .before .before .before .if1 .taken, c .before .before .before .if2 .left, lt-ltb _ _ (c .before .before .if5 .taken)) refl
 
--- src/places.rt:82:9
 returns-5 : tie.Need-returns-5
 unfolding localOutput
 returns-5 c = rw (c .before .before .if1 .taken, c .before .if2 .left, le-ltb _ _ (c .if5 .left)) refl
 
--- src/places.rt:50:1
 returns-6 : tie.Need-returns-6
 unfolding localOutput
 returns-6 c = rw (c .if1 .left) refl

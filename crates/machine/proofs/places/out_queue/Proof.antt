@@ -14,55 +14,43 @@ use Rattle.machine.proofs.phases.with_received.Reads as with-received-r
 use Rattle.machine.proofs.queues.pop_out.Reads as pop-out-reads
 use Rattle.machine.proofs.queues.start_front.Reads as start-front-reads
 
--- src/places.rt:136:17
 element-copy-out-front : tie.Need-element-copy-out-front
 element-copy-out-front c = search needs
 
--- src/places.rt:139:9
 returns : tie.Need-returns
 unfolding outQueue
 returns c = rw (le-ltb 0 (c .before .before .args .t1 .count) (omega arith)) refl
 
--- src/places.rt:142:12
 is-listening-requires : tie.Need-is-listening-requires
 is-listening-requires c κs = search needs
 
--- src/places.rt:144:24
 pop-out-requires : tie.Need-pop-out-requires
 pop-out-requires c κs = search needs
 
--- src/places.rt:145:24
 with-received-requires : tie.Need-with-received-requires
 with-received-requires c κs = search needs
 
--- src/places.rt:143:13
 returns-2 : tie.Need-returns-2
 unfolding outQueue
 returns-2 c = rw (c .with-received .ensures, c .before .pop-out .ensures, lt-ltb 0 (c .before .before .before .before .before .before .before .args .t1 .count) (search needs), c .before .before .before .before .if2 .taken, ← c .before .before .before .is-listening .ensures, c .before .before .if3 .taken) refl
 
--- src/places.rt:149:9
 returns-3 : tie.Need-returns-3
 unfolding outQueue
 returns-3 c = rw (lt-ltb 0 (c .before .before .before .before .before .args .t1 .count) (search needs), c .before .before .if2 .taken, ← c .before .is-listening .ensures, c .if3 .left) refl
 
--- src/places.rt:151:8
 is-free-requires : tie.Need-is-free-requires
 is-free-requires c κs = search needs
 
--- src/places.rt:153:20
 start-front-requires : tie.Need-start-front-requires
 start-front-requires c κs = search needs
 
--- src/places.rt:154:20
 seeking-input-requires : tie.Need-seeking-input-requires
 seeking-input-requires c κs = search needs
 
--- src/places.rt:152:9
 returns-4 : tie.Need-returns-4
 unfolding outQueue
 returns-4 c = rw (c .seeking-input .ensures, c .before .start-front .ensures, lt-ltb 0 (c .before .before .before .before .before .before .before .args .t1 .count) (search needs), c .before .before .before .before .if2 .left, ← c .before .before .before .is-free .ensures, c .before .before .if4 .taken) refl
 
--- src/places.rt:132:1
 returns-5 : tie.Need-returns-5
 unfolding outQueue
 returns-5 c = rw (lt-ltb 0 (c .before .before .before .before .before .args .t1 .count) (search needs), c .before .before .if2 .left, ← c .before .is-free .ensures, c .if4 .left) refl

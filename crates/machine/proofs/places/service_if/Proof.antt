@@ -8,15 +8,12 @@ use Rattle.machine.proofs.places.service_if.Reads as reads
 use Rattle.machine.proofs.places.service_if.Lts as lts
 use Rattle.sets.proofs.member.Reads as member-reads
 
--- src/places.rt:165:8
 member-requires : tie.Need-member-requires
 member-requires c κs = search needs
 
--- src/places.rt:166:9
 returns : tie.Need-returns
 returns c = rw (← c .before .member .ensures, c .if1 .taken) refl
 
--- src/places.rt:162:1
 returns-2 : tie.Need-returns-2
 returns-2 c = rw (← c .before .member .ensures, c .if1 .left) refl
 

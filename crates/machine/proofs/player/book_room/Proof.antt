@@ -20,43 +20,33 @@ Inv-loop count sends sum₀ k₀ sum k = (k ≤ count) × (count ≤ 255) × (su
 abbrev μ-loop : tie.MeasureT-loop
 μ-loop count sends sum₀ k₀ sum k = count - k
 
--- src/player.rt:41:5
 loop-holds : tie.Need-loop-holds Inv-loop μ-loop
 loop-holds c = (omega arith, c .pre, sizes-none (c .args .t1))
 
--- src/player.rt:42:20
 mul-send : tie.Need-mul-send Inv-loop μ-loop
 mul-send c = search needs
 
--- src/player.rt:42:20
 array-copy-out-send : tie.Need-array-copy-out-send Inv-loop μ-loop
 array-copy-out-send c = omega (arith, c .before .loop .inv .1)
 
--- src/player.rt:43:13
 size-requires : tie.Need-size-requires Inv-loop μ-loop
 size-requires c κs = search needs
 
--- src/player.rt:44:9
 add-sum : tie.Need-add-sum Inv-loop μ-loop
 add-sum c = let b = sizes-fit (c .before .before .before .before .args .t1) (c .before .before .before .loop .k) in let e = c .before .before .before .loop .inv .2 in omega (arith, b, e, c .size .ensures, c .before .before .before .loop .inv .1, sizes-fit (c .before .before .before .before .args .t1) (c .before .before .before .loop .k + 1), sizes-next (c .before .before .before .before .args .t1) (c .before .before .before .loop .k))
 
--- src/player.rt:45:9
 add-k : tie.Need-add-k Inv-loop μ-loop
 add-k c = omega (arith, c .before .before .before .loop .inv .1)
 
--- src/player.rt:41:5
 loop-less : tie.Need-loop-less Inv-loop μ-loop
 loop-less c = omega arith
 
--- src/player.rt:41:5
 loop-again : tie.Need-loop-again Inv-loop μ-loop
 loop-again c = (omega arith, c .before .before .before .loop .inv .1, rw (c .before .before .before .loop .inv .2, c .size .ensures) (sym (sizes-next (c .before .before .before .before .args .t1) (c .before .before .before .loop .k))))
 
--- src/player.rt:47:5
 mul-result : tie.Need-mul-result Inv-loop μ-loop
 mul-result c = omega (arith, sizes-fit (c .before .before .args .t1) (c .before .loop .k), c .before .loop .inv .2, c .before .loop .inv .0, c .before .loop .inv .1)
 
--- src/player.rt:35:1
 returns : tie.Need-returns Inv-loop μ-loop
 returns c = let e : c .before .loop .k ≡ c .before .before .args .count = omega arith in rw (c .before .loop .inv .2, e) refl
 

@@ -16,21 +16,17 @@ use Rattle.archive.proofs.read.Reads as read-reads
 use Rattle.machine.proofs.player.book_room.Reads as book-room-reads
 use Rattle.machine.proofs.player.play_run.Reads as play-run-reads
 
--- src/player.rt:169:9
 read-requires : tie.Need-read-requires
 read-requires c κs = search needs
 
--- src/player.rt:178:9
 returns : tie.Need-returns
 returns c = play-refused (now (c .before .before .before .before .before .before .before .args .bytes)) (c .before .before .before .before .read .result) (c .before .before .before .before .read .ensures) (now (c .before .before .before .before .before .before .before .args .book)) (c .if1 .taken)
 
--- src/player.rt:183:9
 book-room-requires : tie.Need-book-room-requires
 book-room-requires c κs =
     let b = now (c .before .before .before .before .before .before .before .args .bytes) in
     read-count b (c .before .before .before .before .read .result) (c .before .before .before .before .read .ensures) (c .if1 .left) (omega (arith, c .before .before .before .before .before .before .shared-slice-known .given 12))
 
--- src/player.rt:185:9
 returns-2 : tie.Need-returns-2
 returns-2 c =
     let b = now (c .before .before .before .before .before .before .before .before .before .args .bytes) in
@@ -39,7 +35,6 @@ returns-2 c =
     let short : length (now (c .before .before .before .before .before .before .before .before .before .args .book)) < bookRoom (c .before .before .before .before .before .before .read .result .run) = omega (arith, c .if2 .taken, c .before .book-room .ensures, room-is (c .before .before .before .before .before .before .read .result .run) (omega (arith, few, long))) in
     play-short b (c .before .before .before .before .before .before .read .result) (c .before .before .before .before .before .before .read .ensures) (now (c .before .before .before .before .before .before .before .before .before .args .book)) (c .before .before .if1 .left) short
 
--- src/player.rt:190:9
 play-run-requires : tie.Need-play-run-requires
 play-run-requires c κs =
     let b = now (c .before .before .before .before .before .before .before .before .before .before .args .bytes) in
@@ -47,11 +42,9 @@ play-run-requires c κs =
     let long = read-long b (c .before .before .before .before .before .before .before .read .result) (c .before .before .before .before .before .before .before .read .ensures) (c .before .before .before .if1 .left) in
     (read-stored b (c .before .before .before .before .before .before .before .read .result) (c .before .before .before .before .before .before .before .read .ensures) (c .before .before .before .if1 .left) few, long, omega (arith, c .before .if2 .left, c .before .before .book-room .ensures, room-is (c .before .before .before .before .before .before .before .read .result .run) (omega (arith, few, long))))
 
--- src/player.rt:160:1
 same-length : tie.Need-same-length
 same-length c = search needs
 
--- src/player.rt:160:1
 returns-3 : tie.Need-returns-3
 returns-3 c =
     let b = now (c .before .before .before .before .before .before .before .before .before .before .before .before .before .args .bytes) in

@@ -22,8 +22,6 @@ use Rattle.machine.proofs.Seen.{range-runnable, act-passable}
 use Rattle.machine.proofs.PlayerRoom.{queues-fit}
 use mathlib.Core.List.{List, [], _∷_}
 use Rattle.machine.proofs.PlayerWays.{far-read, answer-room, due-site, passed-over, taken-up, resting, waiting, did-nothing, did-own, did-serve, not-entered, did-pass, ended}
-use native.Mathlib.Omega.{arith}
-use borrow.Author.Needs.{needs}
 use Rattle.machine.proofs.player.play_run.Statement.{statement}
 use Rattle.machine.proofs.player.play_run.Tie as tie
 use Rattle.machine.proofs.player.play_run.Reads as reads
@@ -53,45 +51,36 @@ Inv-loop network count seed draws book₀ sends sites depth channels total state
 abbrev μ-loop : tie.MeasureT-loop
 μ-loop network count seed draws book₀ sends sites depth channels total state₀ clock₀ next₀ accepted₀ pairs₀ serviced₀ turn₀ book state clock next accepted pairs serviced turn = total - turn
 
--- src/player.rt:68:17
 add-total : tie.Need-add-total Inv-loop μ-loop
 add-total c =
     let r = runWith (c .before .before .args .network) (c .before .before .args .t2) (c .before .before .args .count) (c .before .before .args .seed) (c .before .before .args .draws) in
     omega (arith, stored-sends r (c .before .before .pre .0) .0, c .before .before .fits .draws)
 
--- src/player.rt:69:21
 empty-state-requires : tie.Need-empty-state-requires Inv-loop μ-loop
 empty-state-requires c κs = search needs
 
--- src/player.rt:79:5
 loop-holds : tie.Need-loop-holds Inv-loop μ-loop
 loop-holds c =
     let r = runWith (c .before .before .before .args .network) (c .before .before .before .args .t2) (c .before .before .before .args .count) (c .before .before .before .args .seed) (c .before .before .before .args .draws) in
     (omega arith, refl, ap (λ st. record { state = st; value = c .before .before .before .args .seed; next = 0; draw = 0; accepted = 0; pairs = 0; serviced = 0; book = c .before .before .before .args .book .now }) (c .empty-state .ensures) ∙ no-turn r (c .before .before .before .args .book .now))
 
--- src/player.rt:80:9
 add-turn : tie.Need-add-turn Inv-loop μ-loop
 add-turn c =
     let r = runWith (c .before .before .before .before .before .args .network) (c .before .before .before .before .before .args .t2) (c .before .before .before .before .before .args .count) (c .before .before .before .before .before .args .seed) (c .before .before .before .before .before .args .draws) in
     omega (arith, c .before .loop .inv .0, c .before .loop .inv .1, c .before .before .before .before .before .fits .draws, stored-sends r (c .before .before .before .before .before .pre .0) .0)
 
--- src/player.rt:81:13
 capped-requires : tie.Need-capped-requires Inv-loop μ-loop
 capped-requires c κs = search needs
 
--- src/player.rt:82:21
 mul-order : tie.Need-mul-order Inv-loop μ-loop
 mul-order c = omega (arith, c .capped .ensures .1)
 
--- src/player.rt:82:21
 array-copy-out-order : tie.Need-array-copy-out-order Inv-loop μ-loop
 array-copy-out-order c = omega (arith, c .capped .ensures .1)
 
--- src/player.rt:84:12
 is-due-requires : tie.Need-is-due-requires Inv-loop μ-loop
 is-due-requires c κs = search needs
 
--- src/player.rt:85:13
 add-next : tie.Need-add-next Inv-loop μ-loop
 add-next c =
     let r = runWith (c .before .before .before .before .before .before .before .before .before .args .network) (c .before .before .before .before .before .before .before .before .before .args .t2) (c .before .before .before .before .before .before .before .before .before .args .count) (c .before .before .before .before .before .before .before .before .before .args .seed) (c .before .before .before .before .before .before .before .before .before .args .draws) in
@@ -99,11 +88,9 @@ add-next c =
     let f = facts-of r _ (c .before .before .before .before .before .loop .turn) p (c .before .before .before .before .before .loop .inv .2) in
     omega (arith, f .sends, stored-sends r (c .before .before .before .before .before .before .before .before .before .pre .0) .0)
 
--- src/player.rt:87:17
 wide-requires : tie.Need-wide-requires Inv-loop μ-loop
 wide-requires c κs = search needs
 
--- src/player.rt:88:28
 mul-site : tie.Need-mul-site Inv-loop μ-loop
 mul-site c =
     let r = runWith (c .before .before .before .before .before .before .before .before .before .before .args .network) (c .before .before .before .before .before .before .before .before .before .before .args .t2) (c .before .before .before .before .before .before .before .before .before .before .args .count) (c .before .before .before .before .before .before .before .before .before .before .args .seed) (c .before .before .before .before .before .before .before .before .before .before .args .draws) in
@@ -116,7 +103,6 @@ mul-site c =
     let hs : c .wide .result < 16 = omega (arith, c .wide .ensures .0, ap (λ e. e .site) (d .1), due-site r p (c .before .before .before .before .before .before .before .before .before .before .pre .0) (d .0), val .few) in
     omega (arith, hs)
 
--- src/player.rt:88:28
 element-copy-out-site : tie.Need-element-copy-out-site Inv-loop μ-loop
 element-copy-out-site c =
     let r = runWith (c .before .before .before .before .before .before .before .before .before .before .args .network) (c .before .before .before .before .before .before .before .before .before .before .args .t2) (c .before .before .before .before .before .before .before .before .before .before .args .count) (c .before .before .before .before .before .before .before .before .before .before .args .seed) (c .before .before .before .before .before .before .before .before .before .before .args .draws) in
@@ -129,22 +115,18 @@ element-copy-out-site c =
     let hs : c .wide .result < 16 = omega (arith, c .wide .ensures .0, ap (λ e. e .site) (d .1), due-site r p (c .before .before .before .before .before .before .before .before .before .before .pre .0) (d .0), val .few) in
     hs
 
--- src/player.rt:91:17
 send-answer-requires : tie.Need-send-answer-requires Inv-loop μ-loop
 send-answer-requires c κs = search needs
 
 enum-told : tie.Need-enum-told Inv-loop μ-loop
 enum-told c = search needs
 
--- src/player.rt:93:17
 enum-told-2 : tie.Need-enum-told-2 Inv-loop μ-loop
 enum-told-2 c = search needs
 
--- src/player.rt:79:5
 loop-less : tie.Need-loop-less Inv-loop μ-loop
 loop-less c = omega arith
 
--- src/player.rt:79:5
 loop-again : tie.Need-loop-again Inv-loop μ-loop
 loop-again c =
     let r = runWith (c .before .before .before .before .before .before .before .before .before .before .before .before .before .before .before .args .network) (c .before .before .before .before .before .before .before .before .before .before .before .before .before .before .before .args .t2) (c .before .before .before .before .before .before .before .before .before .before .before .before .before .before .before .args .count) (c .before .before .before .before .before .before .before .before .before .before .before .before .before .before .before .args .seed) (c .before .before .before .before .before .before .before .before .before .before .before .before .before .before .before .args .draws) in
@@ -155,7 +137,6 @@ loop-again c =
     let g = sym (rw (c .before .before .before .before .before .wide .ensures .0) at (c .before .before .send-answer .ensures)) ∙ c .enum-told2 .given .1 in
     (omega arith, c .before .before .before .before .before .before .before .before .before .before .before .loop .inv .1, one-turn r _ (c .before .before .before .before .before .before .before .before .before .before .before .loop .turn) p _ (c .before .before .before .before .before .before .before .before .before .before .before .loop .inv .2) (passed-over r p o (d .0) (d .1) _ g))
 
--- src/player.rt:95:17
 push-out-requires : tie.Need-push-out-requires Inv-loop μ-loop
 push-out-requires c κs =
     let r = runWith (c .before .before .before .before .before .before .before .before .before .before .before .before .before .before .before .args .network) (c .before .before .before .before .before .before .before .before .before .before .before .before .before .before .before .args .t2) (c .before .before .before .before .before .before .before .before .before .before .before .before .before .before .before .args .count) (c .before .before .before .before .before .before .before .before .before .before .before .before .before .before .before .args .seed) (c .before .before .before .before .before .before .before .before .before .before .before .before .before .before .before .args .draws) in
@@ -167,7 +148,6 @@ push-out-requires c κs =
     let w = answer-room (r .network .sites) (r .network .depth) (p .state .counter) (siteAt (p .state .sites) (c .before .before .before .before .before .wide .result) .outgoing .count) (c .before .before .before .before .before .wide .result) (o .set) _ (sym (c .before .before .send-answer .ensures) ∙ c .enum-told .given .1) in
     omega (arith, w .2, val .deep)
 
--- src/player.rt:104:13
 mul-site-2 : tie.Need-mul-site-2 Inv-loop μ-loop
 mul-site-2 c =
     let r = runWith (c .before .before .before .before .before .before .before .before .before .before .before .before .before .before .before .before .args .network) (c .before .before .before .before .before .before .before .before .before .before .before .before .before .before .before .before .args .t2) (c .before .before .before .before .before .before .before .before .before .before .before .before .before .before .before .before .args .count) (c .before .before .before .before .before .before .before .before .before .before .before .before .before .before .before .before .args .seed) (c .before .before .before .before .before .before .before .before .before .before .before .before .before .before .before .before .args .draws) in
@@ -180,7 +160,6 @@ mul-site-2 c =
     let hs : c .before .before .before .before .before .before .wide .result < 16 = omega (arith, c .before .before .before .before .before .before .wide .ensures .0, ap (λ e. e .site) (d .1), due-site r p (c .before .before .before .before .before .before .before .before .before .before .before .before .before .before .before .before .pre .0) (d .0), val .few) in
     omega (arith, hs)
 
--- src/player.rt:104:13
 element-set-from-site : tie.Need-element-set-from-site Inv-loop μ-loop
 element-set-from-site c =
     let r = runWith (c .before .before .before .before .before .before .before .before .before .before .before .before .before .before .before .before .args .network) (c .before .before .before .before .before .before .before .before .before .before .before .before .before .before .before .before .args .t2) (c .before .before .before .before .before .before .before .before .before .before .before .before .before .before .before .before .args .count) (c .before .before .before .before .before .before .before .before .before .before .before .before .before .before .before .before .args .seed) (c .before .before .before .before .before .before .before .before .before .before .before .before .before .before .before .before .args .draws) in
@@ -193,7 +172,6 @@ element-set-from-site c =
     let hs : c .before .before .before .before .before .before .wide .result < 16 = omega (arith, c .before .before .before .before .before .before .wide .ensures .0, ap (λ e. e .site) (d .1), due-site r p (c .before .before .before .before .before .before .before .before .before .before .before .before .before .before .before .before .pre .0) (d .0), val .few) in
     hs
 
--- src/player.rt:105:29
 add-state : tie.Need-add-state Inv-loop μ-loop
 add-state c =
     let r = runWith (c .before .before .before .before .before .before .before .before .before .before .before .before .before .before .before .before .args .network) (c .before .before .before .before .before .before .before .before .before .before .before .before .before .before .before .before .args .t2) (c .before .before .before .before .before .before .before .before .before .before .before .before .before .before .before .before .args .count) (c .before .before .before .before .before .before .before .before .before .before .before .before .before .before .before .before .args .seed) (c .before .before .before .before .before .before .before .before .before .before .before .before .before .before .before .before .args .draws) in
@@ -203,7 +181,6 @@ add-state c =
     let w = answer-room (r .network .sites) (r .network .depth) (p .state .counter) (siteAt (p .state .sites) (c .before .before .before .before .before .before .wide .result) .outgoing .count) (c .before .before .before .before .before .before .wide .result) (o .set) _ (sym (c .before .before .before .send-answer .ensures) ∙ c .before .enum-told .given .1) in
     omega (arith, w .1)
 
--- src/player.rt:106:13
 add-accepted : tie.Need-add-accepted Inv-loop μ-loop
 add-accepted c =
     let r = runWith (c .before .before .before .before .before .before .before .before .before .before .before .before .before .before .before .before .args .network) (c .before .before .before .before .before .before .before .before .before .before .before .before .before .before .before .before .args .t2) (c .before .before .before .before .before .before .before .before .before .before .before .before .before .before .before .before .args .count) (c .before .before .before .before .before .before .before .before .before .before .before .before .before .before .before .before .args .seed) (c .before .before .before .before .before .before .before .before .before .before .before .before .before .before .before .before .args .draws) in
@@ -211,11 +188,9 @@ add-accepted c =
     let f = facts-of r _ (c .before .before .before .before .before .before .before .before .before .before .before .before .loop .turn) p (c .before .before .before .before .before .before .before .before .before .before .before .before .loop .inv .2) in
     omega (arith, f .sends, f .accepted, stored-sends r (c .before .before .before .before .before .before .before .before .before .before .before .before .before .before .before .before .pre .0) .0)
 
--- src/player.rt:107:22
 size-requires : tie.Need-size-requires Inv-loop μ-loop
 size-requires c κs = search needs
 
--- src/player.rt:107:13
 add-pairs : tie.Need-add-pairs Inv-loop μ-loop
 add-pairs c =
     let r = runWith (c .before .before .before .before .before .before .before .before .before .before .before .before .before .before .before .before .before .args .network) (c .before .before .before .before .before .before .before .before .before .before .before .before .before .before .before .before .before .args .t2) (c .before .before .before .before .before .before .before .before .before .before .before .before .before .before .before .before .before .args .count) (c .before .before .before .before .before .before .before .before .before .before .before .before .before .before .before .before .before .args .seed) (c .before .before .before .before .before .before .before .before .before .before .before .before .before .before .before .before .before .args .draws) in
@@ -224,11 +199,9 @@ add-pairs c =
     let o = sendAt r (c .before .before .before .before .before .before .before .before .before .before .before .capped .result) in
     omega (arith, pairs-of r _ (c .before .before .before .before .before .before .before .before .before .before .before .before .before .loop .turn) p (c .before .before .before .before .before .before .before .before .before .before .before .before .before .loop .inv .2) (c .before .before .before .before .before .before .before .before .before .before .before .before .before .before .before .before .before .pre .0), size-most 64 (o .set), c .size .ensures)
 
--- src/player.rt:79:5
 loop-less-2 : tie.Need-loop-less-2 Inv-loop μ-loop
 loop-less-2 c = omega arith
 
--- src/player.rt:79:5
 loop-again-2 : tie.Need-loop-again-2 Inv-loop μ-loop
 loop-again-2 c =
     let r = runWith (c .before .before .before .before .before .before .before .before .before .before .before .before .before .before .before .before .before .args .network) (c .before .before .before .before .before .before .before .before .before .before .before .before .before .before .before .before .before .args .t2) (c .before .before .before .before .before .before .before .before .before .before .before .before .before .before .before .before .before .args .count) (c .before .before .before .before .before .before .before .before .before .before .before .before .before .before .before .before .before .args .seed) (c .before .before .before .before .before .before .before .before .before .before .before .before .before .before .before .before .before .args .draws) in
@@ -239,15 +212,12 @@ loop-again-2 c =
     let g = sym (rw (c .before .before .before .before .before .before .before .wide .ensures .0) at (c .before .before .before .before .send-answer .ensures)) ∙ c .before .before .enum-told .given .1 in
     (omega arith, c .before .before .before .before .before .before .before .before .before .before .before .before .before .loop .inv .1, one-turn r _ (c .before .before .before .before .before .before .before .before .before .before .before .before .before .loop .turn) p _ (c .before .before .before .before .before .before .before .before .before .before .before .before .before .loop .inv .2) (rw (c .before .push-out .ensures, c .size .ensures, c .before .before .before .before .before .before .before .wide .ensures .0) (taken-up r p o (d .0) (d .1) _ g)))
 
--- src/player.rt:110:13
 draw-requires : tie.Need-draw-requires Inv-loop μ-loop
 draw-requires c κs = search needs
 
--- src/player.rt:111:13
 event-of-requires : tie.Need-event-of-requires Inv-loop μ-loop
 event-of-requires c κs = search needs
 
--- src/player.rt:112:38
 add-ticked : tie.Need-add-ticked Inv-loop μ-loop
 add-ticked c =
     let r = runWith (c .before .before .before .before .before .before .before .before .before .before .before .args .network) (c .before .before .before .before .before .before .before .before .before .before .before .args .t2) (c .before .before .before .before .before .before .before .before .before .before .before .args .count) (c .before .before .before .before .before .before .before .before .before .before .before .args .seed) (c .before .before .before .before .before .before .before .before .before .before .before .args .draws) in
@@ -257,11 +227,9 @@ add-ticked c =
     let t = sym (due-at r p o (c .before .before .before .before .before .capped .result) h refl) ∙ sym (c .before .before .before .is-due .ensures) ∙ c .before .before .if1 .left in
     omega (arith, draw-below r _ (c .before .before .before .before .before .before .before .before .before .before .before .pre .0) (c .before .before .before .before .before .before .before .loop .turn) p (c .before .before .before .before .before .before .before .loop .inv .2) (omega arith) t, c .before .before .before .before .before .before .before .before .before .before .before .fits .draws)
 
--- src/player.rt:112:9
 ticked-requires : tie.Need-ticked-requires Inv-loop μ-loop
 ticked-requires c κs = search needs
 
--- src/player.rt:115:20
 mul-seen : tie.Need-mul-seen Inv-loop μ-loop
 mul-seen c =
     let r = runWith (c .before .before .before .before .before .before .before .before .before .before .before .before .args .network) (c .before .before .before .before .before .before .before .before .before .before .before .before .args .t2) (c .before .before .before .before .before .before .before .before .before .before .before .before .args .count) (c .before .before .before .before .before .before .before .before .before .before .before .before .args .seed) (c .before .before .before .before .before .before .before .before .before .before .before .before .args .draws) in
@@ -271,7 +239,6 @@ mul-seen c =
     let nm = named-below r p (c .before .before .draw .result) (c .before .event-of .result) ok (c .before .event-of .ensures) in
     omega (arith, nm .0, val .few)
 
--- src/player.rt:115:20
 element-copy-out-seen : tie.Need-element-copy-out-seen Inv-loop μ-loop
 element-copy-out-seen c =
     let r = runWith (c .before .before .before .before .before .before .before .before .before .before .before .before .args .network) (c .before .before .before .before .before .before .before .before .before .before .before .before .args .t2) (c .before .before .before .before .before .before .before .before .before .before .before .before .args .count) (c .before .before .before .before .before .before .before .before .before .before .before .before .args .seed) (c .before .before .before .before .before .before .before .before .before .before .before .before .args .draws) in
@@ -281,15 +248,12 @@ element-copy-out-seen c =
     let nm = named-below r p (c .before .before .draw .result) (c .before .event-of .result) ok (c .before .event-of .ensures) in
     omega (arith, nm .0, val .few)
 
--- src/player.rt:116:12
 nothing-to-do-requires : tie.Need-nothing-to-do-requires Inv-loop μ-loop
 nothing-to-do-requires c κs = search needs
 
--- src/player.rt:79:5
 loop-less-3 : tie.Need-loop-less-3 Inv-loop μ-loop
 loop-less-3 c = omega arith
 
--- src/player.rt:79:5
 loop-again-3 : tie.Need-loop-again-3 Inv-loop μ-loop
 loop-again-3 c =
     let r = runWith (c .before .before .before .before .before .before .before .before .before .before .before .before .before .before .before .args .network) (c .before .before .before .before .before .before .before .before .before .before .before .before .before .before .before .args .t2) (c .before .before .before .before .before .before .before .before .before .before .before .before .before .before .before .args .count) (c .before .before .before .before .before .before .before .before .before .before .before .before .before .before .before .args .seed) (c .before .before .before .before .before .before .before .before .before .before .before .before .before .before .before .args .draws) in
@@ -301,7 +265,6 @@ loop-again-3 c =
     let val = valid-ok (c .before .before .before .before .before .before .before .before .before .before .before .before .before .before .before .args .network) ok in
     (omega arith, c .before .before .before .before .before .before .before .before .before .before .before .loop .inv .1, one-turn r _ (c .before .before .before .before .before .before .before .before .before .before .before .loop .turn) p _ (c .before .before .before .before .before .before .before .before .before .before .before .loop .inv .2) (rw (c .before .before .before .ticked .ensures) (resting r p (c .before .before .before .before .before .draw .result) (c .before .before .before .before .event-of .result) ok t (c .before .before .before .before .before .draw .ensures) (c .before .before .before .before .event-of .ensures) (sym (c .before .nothing-to-do .ensures) ∙ c .if2 .taken))))
 
--- src/player.rt:119:31
 mul-byte-1 : tie.Need-mul-byte-1 Inv-loop μ-loop
 mul-byte-1 c =
     let r = runWith (c .before .before .before .before .before .before .before .before .before .before .before .before .before .before .before .args .network) (c .before .before .before .before .before .before .before .before .before .before .before .before .before .before .before .args .t2) (c .before .before .before .before .before .before .before .before .before .before .before .before .before .before .before .args .count) (c .before .before .before .before .before .before .before .before .before .before .before .before .before .before .before .args .seed) (c .before .before .before .before .before .before .before .before .before .before .before .before .before .before .before .args .draws) in
@@ -311,7 +274,6 @@ mul-byte-1 c =
     let nm = named-below r p (c .before .before .before .before .before .draw .result) (c .before .before .before .before .event-of .result) ok (c .before .before .before .before .event-of .ensures) in
     omega (arith, nm .0, val .few)
 
--- src/player.rt:119:22
 array-read-byte-1 : tie.Need-array-read-byte-1 Inv-loop μ-loop
 array-read-byte-1 c =
     let r = runWith (c .before .before .before .before .before .before .before .before .before .before .before .before .before .before .before .args .network) (c .before .before .before .before .before .before .before .before .before .before .before .before .before .before .before .args .t2) (c .before .before .before .before .before .before .before .before .before .before .before .before .before .before .before .args .count) (c .before .before .before .before .before .before .before .before .before .before .before .before .before .before .before .args .seed) (c .before .before .before .before .before .before .before .before .before .before .before .before .before .before .before .args .draws) in
@@ -321,23 +283,18 @@ array-read-byte-1 c =
     let nm = named-below r p (c .before .before .before .before .before .draw .result) (c .before .before .before .before .event-of .result) ok (c .before .before .before .before .event-of .ensures) in
     omega (arith, nm .0, val .few)
 
--- src/player.rt:120:13
 end-site-requires : tie.Need-end-site-requires Inv-loop μ-loop
 end-site-requires c κs = search needs
 
--- src/player.rt:121:23
 mul-there-1 : tie.Need-mul-there-1 Inv-loop μ-loop
 mul-there-1 c = omega (arith, c .end-site .ensures .1)
 
--- src/player.rt:121:23
 element-copy-out-there-1 : tie.Need-element-copy-out-there-1 Inv-loop μ-loop
 element-copy-out-there-1 c = omega (arith, c .end-site .ensures .1)
 
--- src/player.rt:123:13
 end-input-requires : tie.Need-end-input-requires Inv-loop μ-loop
 end-input-requires c κs = search needs
 
--- src/player.rt:124:31
 mul-byte-2 : tie.Need-mul-byte-2 Inv-loop μ-loop
 mul-byte-2 c =
     let r = runWith (c .before .before .before .before .before .before .before .before .before .before .before .before .before .before .before .before .before .before .before .args .network) (c .before .before .before .before .before .before .before .before .before .before .before .before .before .before .before .before .before .before .before .args .t2) (c .before .before .before .before .before .before .before .before .before .before .before .before .before .before .before .before .before .before .before .args .count) (c .before .before .before .before .before .before .before .before .before .before .before .before .before .before .before .before .before .before .before .args .seed) (c .before .before .before .before .before .before .before .before .before .before .before .before .before .before .before .before .before .before .before .args .draws) in
@@ -347,7 +304,6 @@ mul-byte-2 c =
     let nm = named-below r p (c .before .before .before .before .before .before .before .before .before .draw .result) (c .before .before .before .before .before .before .before .before .event-of .result) ok (c .before .before .before .before .before .before .before .before .event-of .ensures) in
     omega (arith, nm .0, val .few)
 
--- src/player.rt:124:31
 add-byte-2 : tie.Need-add-byte-2 Inv-loop μ-loop
 add-byte-2 c =
     let r = runWith (c .before .before .before .before .before .before .before .before .before .before .before .before .before .before .before .before .before .before .before .args .network) (c .before .before .before .before .before .before .before .before .before .before .before .before .before .before .before .before .before .before .before .args .t2) (c .before .before .before .before .before .before .before .before .before .before .before .before .before .before .before .before .before .before .before .args .count) (c .before .before .before .before .before .before .before .before .before .before .before .before .before .before .before .before .before .before .before .args .seed) (c .before .before .before .before .before .before .before .before .before .before .before .before .before .before .before .before .before .before .before .args .draws) in
@@ -357,7 +313,6 @@ add-byte-2 c =
     let nm = named-below r p (c .before .before .before .before .before .before .before .before .before .draw .result) (c .before .before .before .before .before .before .before .before .event-of .result) ok (c .before .before .before .before .before .before .before .before .event-of .ensures) in
     omega (arith, nm .0, val .few)
 
--- src/player.rt:124:22
 array-read-byte-2 : tie.Need-array-read-byte-2 Inv-loop μ-loop
 array-read-byte-2 c =
     let r = runWith (c .before .before .before .before .before .before .before .before .before .before .before .before .before .before .before .before .before .before .before .args .network) (c .before .before .before .before .before .before .before .before .before .before .before .before .before .before .before .before .before .before .before .args .t2) (c .before .before .before .before .before .before .before .before .before .before .before .before .before .before .before .before .before .before .before .args .count) (c .before .before .before .before .before .before .before .before .before .before .before .before .before .before .before .before .before .before .before .args .seed) (c .before .before .before .before .before .before .before .before .before .before .before .before .before .before .before .before .before .before .before .args .draws) in
@@ -367,23 +322,18 @@ array-read-byte-2 c =
     let nm = named-below r p (c .before .before .before .before .before .before .before .before .before .draw .result) (c .before .before .before .before .before .before .before .before .event-of .result) ok (c .before .before .before .before .before .before .before .before .event-of .ensures) in
     omega (arith, nm .0, val .few)
 
--- src/player.rt:125:13
 end-site-requires-2 : tie.Need-end-site-requires-2 Inv-loop μ-loop
 end-site-requires-2 c κs = search needs
 
--- src/player.rt:126:23
 mul-there-2 : tie.Need-mul-there-2 Inv-loop μ-loop
 mul-there-2 c = omega (arith, c .end-site2 .ensures .1)
 
--- src/player.rt:126:23
 element-copy-out-there-2 : tie.Need-element-copy-out-there-2 Inv-loop μ-loop
 element-copy-out-there-2 c = omega (arith, c .end-site2 .ensures .1)
 
--- src/player.rt:128:13
 end-input-requires-2 : tie.Need-end-input-requires-2 Inv-loop μ-loop
 end-input-requires-2 c κs = search needs
 
--- src/player.rt:129:31
 mul-byte-3 : tie.Need-mul-byte-3 Inv-loop μ-loop
 mul-byte-3 c =
     let r = runWith (c .before .before .before .before .before .before .before .before .before .before .before .before .before .before .before .before .before .before .before .before .before .before .before .args .network) (c .before .before .before .before .before .before .before .before .before .before .before .before .before .before .before .before .before .before .before .before .before .before .before .args .t2) (c .before .before .before .before .before .before .before .before .before .before .before .before .before .before .before .before .before .before .before .before .before .before .before .args .count) (c .before .before .before .before .before .before .before .before .before .before .before .before .before .before .before .before .before .before .before .before .before .before .before .args .seed) (c .before .before .before .before .before .before .before .before .before .before .before .before .before .before .before .before .before .before .before .before .before .before .before .args .draws) in
@@ -393,7 +343,6 @@ mul-byte-3 c =
     let nm = named-below r p (c .before .before .before .before .before .before .before .before .before .before .before .before .before .draw .result) (c .before .before .before .before .before .before .before .before .before .before .before .before .event-of .result) ok (c .before .before .before .before .before .before .before .before .before .before .before .before .event-of .ensures) in
     omega (arith, nm .0, val .few)
 
--- src/player.rt:129:31
 add-byte-3 : tie.Need-add-byte-3 Inv-loop μ-loop
 add-byte-3 c =
     let r = runWith (c .before .before .before .before .before .before .before .before .before .before .before .before .before .before .before .before .before .before .before .before .before .before .before .args .network) (c .before .before .before .before .before .before .before .before .before .before .before .before .before .before .before .before .before .before .before .before .before .before .before .args .t2) (c .before .before .before .before .before .before .before .before .before .before .before .before .before .before .before .before .before .before .before .before .before .before .before .args .count) (c .before .before .before .before .before .before .before .before .before .before .before .before .before .before .before .before .before .before .before .before .before .before .before .args .seed) (c .before .before .before .before .before .before .before .before .before .before .before .before .before .before .before .before .before .before .before .before .before .before .before .args .draws) in
@@ -403,7 +352,6 @@ add-byte-3 c =
     let nm = named-below r p (c .before .before .before .before .before .before .before .before .before .before .before .before .before .draw .result) (c .before .before .before .before .before .before .before .before .before .before .before .before .event-of .result) ok (c .before .before .before .before .before .before .before .before .before .before .before .before .event-of .ensures) in
     omega (arith, nm .0, val .few)
 
--- src/player.rt:129:22
 array-read-byte-3 : tie.Need-array-read-byte-3 Inv-loop μ-loop
 array-read-byte-3 c =
     let r = runWith (c .before .before .before .before .before .before .before .before .before .before .before .before .before .before .before .before .before .before .before .before .before .before .before .args .network) (c .before .before .before .before .before .before .before .before .before .before .before .before .before .before .before .before .before .before .before .before .before .before .before .args .t2) (c .before .before .before .before .before .before .before .before .before .before .before .before .before .before .before .before .before .before .before .before .before .before .before .args .count) (c .before .before .before .before .before .before .before .before .before .before .before .before .before .before .before .before .before .before .before .before .before .before .before .args .seed) (c .before .before .before .before .before .before .before .before .before .before .before .before .before .before .before .before .before .before .before .before .before .before .before .args .draws) in
@@ -413,23 +361,18 @@ array-read-byte-3 c =
     let nm = named-below r p (c .before .before .before .before .before .before .before .before .before .before .before .before .before .draw .result) (c .before .before .before .before .before .before .before .before .before .before .before .before .event-of .result) ok (c .before .before .before .before .before .before .before .before .before .before .before .before .event-of .ensures) in
     omega (arith, nm .0, val .few)
 
--- src/player.rt:130:13
 end-site-requires-3 : tie.Need-end-site-requires-3 Inv-loop μ-loop
 end-site-requires-3 c κs = search needs
 
--- src/player.rt:131:23
 mul-there-3 : tie.Need-mul-there-3 Inv-loop μ-loop
 mul-there-3 c = omega (arith, c .end-site3 .ensures .1)
 
--- src/player.rt:131:23
 element-copy-out-there-3 : tie.Need-element-copy-out-there-3 Inv-loop μ-loop
 element-copy-out-there-3 c = omega (arith, c .end-site3 .ensures .1)
 
--- src/player.rt:133:13
 end-input-requires-3 : tie.Need-end-input-requires-3 Inv-loop μ-loop
 end-input-requires-3 c κs = search needs
 
--- src/player.rt:134:31
 mul-byte-4 : tie.Need-mul-byte-4 Inv-loop μ-loop
 mul-byte-4 c =
     let r = runWith (c .before .before .before .before .before .before .before .before .before .before .before .before .before .before .before .before .before .before .before .before .before .before .before .before .before .before .before .args .network) (c .before .before .before .before .before .before .before .before .before .before .before .before .before .before .before .before .before .before .before .before .before .before .before .before .before .before .before .args .t2) (c .before .before .before .before .before .before .before .before .before .before .before .before .before .before .before .before .before .before .before .before .before .before .before .before .before .before .before .args .count) (c .before .before .before .before .before .before .before .before .before .before .before .before .before .before .before .before .before .before .before .before .before .before .before .before .before .before .before .args .seed) (c .before .before .before .before .before .before .before .before .before .before .before .before .before .before .before .before .before .before .before .before .before .before .before .before .before .before .before .args .draws) in
@@ -439,7 +382,6 @@ mul-byte-4 c =
     let nm = named-below r p (c .before .before .before .before .before .before .before .before .before .before .before .before .before .before .before .before .before .draw .result) (c .before .before .before .before .before .before .before .before .before .before .before .before .before .before .before .before .event-of .result) ok (c .before .before .before .before .before .before .before .before .before .before .before .before .before .before .before .before .event-of .ensures) in
     omega (arith, nm .0, val .few)
 
--- src/player.rt:134:31
 add-byte-4 : tie.Need-add-byte-4 Inv-loop μ-loop
 add-byte-4 c =
     let r = runWith (c .before .before .before .before .before .before .before .before .before .before .before .before .before .before .before .before .before .before .before .before .before .before .before .before .before .before .before .args .network) (c .before .before .before .before .before .before .before .before .before .before .before .before .before .before .before .before .before .before .before .before .before .before .before .before .before .before .before .args .t2) (c .before .before .before .before .before .before .before .before .before .before .before .before .before .before .before .before .before .before .before .before .before .before .before .before .before .before .before .args .count) (c .before .before .before .before .before .before .before .before .before .before .before .before .before .before .before .before .before .before .before .before .before .before .before .before .before .before .before .args .seed) (c .before .before .before .before .before .before .before .before .before .before .before .before .before .before .before .before .before .before .before .before .before .before .before .before .before .before .before .args .draws) in
@@ -449,7 +391,6 @@ add-byte-4 c =
     let nm = named-below r p (c .before .before .before .before .before .before .before .before .before .before .before .before .before .before .before .before .before .draw .result) (c .before .before .before .before .before .before .before .before .before .before .before .before .before .before .before .before .event-of .result) ok (c .before .before .before .before .before .before .before .before .before .before .before .before .before .before .before .before .event-of .ensures) in
     omega (arith, nm .0, val .few)
 
--- src/player.rt:134:22
 array-read-byte-4 : tie.Need-array-read-byte-4 Inv-loop μ-loop
 array-read-byte-4 c =
     let r = runWith (c .before .before .before .before .before .before .before .before .before .before .before .before .before .before .before .before .before .before .before .before .before .before .before .before .before .before .before .args .network) (c .before .before .before .before .before .before .before .before .before .before .before .before .before .before .before .before .before .before .before .before .before .before .before .before .before .before .before .args .t2) (c .before .before .before .before .before .before .before .before .before .before .before .before .before .before .before .before .before .before .before .before .before .before .before .before .before .before .before .args .count) (c .before .before .before .before .before .before .before .before .before .before .before .before .before .before .before .before .before .before .before .before .before .before .before .before .before .before .before .args .seed) (c .before .before .before .before .before .before .before .before .before .before .before .before .before .before .before .before .before .before .before .before .before .before .before .before .before .before .before .args .draws) in
@@ -459,27 +400,21 @@ array-read-byte-4 c =
     let nm = named-below r p (c .before .before .before .before .before .before .before .before .before .before .before .before .before .before .before .before .before .draw .result) (c .before .before .before .before .before .before .before .before .before .before .before .before .before .before .before .before .event-of .result) ok (c .before .before .before .before .before .before .before .before .before .before .before .before .before .before .before .before .event-of .ensures) in
     omega (arith, nm .0, val .few)
 
--- src/player.rt:135:13
 end-site-requires-4 : tie.Need-end-site-requires-4 Inv-loop μ-loop
 end-site-requires-4 c κs = search needs
 
--- src/player.rt:136:23
 mul-there-4 : tie.Need-mul-there-4 Inv-loop μ-loop
 mul-there-4 c = omega (arith, c .end-site4 .ensures .1)
 
--- src/player.rt:136:23
 element-copy-out-there-4 : tie.Need-element-copy-out-there-4 Inv-loop μ-loop
 element-copy-out-there-4 c = omega (arith, c .end-site4 .ensures .1)
 
--- src/player.rt:138:13
 end-input-requires-4 : tie.Need-end-input-requires-4 Inv-loop μ-loop
 end-input-requires-4 c κs = search needs
 
--- src/player.rt:140:13
 are-ends-requires : tie.Need-are-ends-requires Inv-loop μ-loop
 are-ends-requires c κs = search needs
 
--- src/player.rt:141:21
 mul-again : tie.Need-mul-again Inv-loop μ-loop
 mul-again c =
     let r = runWith (c .before .before .before .before .before .before .before .before .before .before .before .before .before .before .before .before .before .before .before .before .before .before .before .before .before .before .before .before .before .before .before .before .args .network) (c .before .before .before .before .before .before .before .before .before .before .before .before .before .before .before .before .before .before .before .before .before .before .before .before .before .before .before .before .before .before .before .before .args .t2) (c .before .before .before .before .before .before .before .before .before .before .before .before .before .before .before .before .before .before .before .before .before .before .before .before .before .before .before .before .before .before .before .before .args .count) (c .before .before .before .before .before .before .before .before .before .before .before .before .before .before .before .before .before .before .before .before .before .before .before .before .before .before .before .before .before .before .before .before .args .seed) (c .before .before .before .before .before .before .before .before .before .before .before .before .before .before .before .before .before .before .before .before .before .before .before .before .before .before .before .before .before .before .before .before .args .draws) in
@@ -489,7 +424,6 @@ mul-again c =
     let nm = named-below r p (c .before .before .before .before .before .before .before .before .before .before .before .before .before .before .before .before .before .before .before .before .before .before .draw .result) (c .before .before .before .before .before .before .before .before .before .before .before .before .before .before .before .before .before .before .before .before .before .event-of .result) ok (c .before .before .before .before .before .before .before .before .before .before .before .before .before .before .before .before .before .before .before .before .before .event-of .ensures) in
     omega (arith, nm .0, val .few)
 
--- src/player.rt:141:21
 element-copy-out-again : tie.Need-element-copy-out-again Inv-loop μ-loop
 element-copy-out-again c =
     let r = runWith (c .before .before .before .before .before .before .before .before .before .before .before .before .before .before .before .before .before .before .before .before .before .before .before .before .before .before .before .before .before .before .before .before .args .network) (c .before .before .before .before .before .before .before .before .before .before .before .before .before .before .before .before .before .before .before .before .before .before .before .before .before .before .before .before .before .before .before .before .args .t2) (c .before .before .before .before .before .before .before .before .before .before .before .before .before .before .before .before .before .before .before .before .before .before .before .before .before .before .before .before .before .before .before .before .args .count) (c .before .before .before .before .before .before .before .before .before .before .before .before .before .before .before .before .before .before .before .before .before .before .before .before .before .before .before .before .before .before .before .before .args .seed) (c .before .before .before .before .before .before .before .before .before .before .before .before .before .before .before .before .before .before .before .before .before .before .before .before .before .before .before .before .before .before .before .before .args .draws) in
@@ -499,15 +433,12 @@ element-copy-out-again c =
     let nm = named-below r p (c .before .before .before .before .before .before .before .before .before .before .before .before .before .before .before .before .before .before .before .before .before .before .draw .result) (c .before .before .before .before .before .before .before .before .before .before .before .before .before .before .before .before .before .before .before .before .before .event-of .result) ok (c .before .before .before .before .before .before .before .before .before .before .before .before .before .before .before .before .before .before .before .before .before .event-of .ensures) in
     omega (arith, nm .0, val .few)
 
--- src/player.rt:142:12
 has-to-wait-requires : tie.Need-has-to-wait-requires Inv-loop μ-loop
 has-to-wait-requires c κs = search needs
 
--- src/player.rt:79:5
 loop-less-4 : tie.Need-loop-less-4 Inv-loop μ-loop
 loop-less-4 c = omega (arith, c .before .before .before .before .before .before .before .before .before .before .before .before .before .before .before .before .before .before .before .before .before .before .before .before .before .before .before .before .before .before .loop-test .taken)
 
--- src/player.rt:79:5
 loop-again-4 : tie.Need-loop-again-4 Inv-loop μ-loop
 loop-again-4 c =
     let r = runWith (c .before .before .before .before .before .before .before .before .before .before .before .before .before .before .before .before .before .before .before .before .before .before .before .before .before .before .before .before .before .before .before .before .before .before .before .args .network) (c .before .before .before .before .before .before .before .before .before .before .before .before .before .before .before .before .before .before .before .before .before .before .before .before .before .before .before .before .before .before .before .before .before .before .before .args .t2) (c .before .before .before .before .before .before .before .before .before .before .before .before .before .before .before .before .before .before .before .before .before .before .before .before .before .before .before .before .before .before .before .before .before .before .before .args .count) (c .before .before .before .before .before .before .before .before .before .before .before .before .before .before .before .before .before .before .before .before .before .before .before .before .before .before .before .before .before .before .before .before .before .before .before .args .seed) (c .before .before .before .before .before .before .before .before .before .before .before .before .before .before .before .before .before .before .before .before .before .before .before .before .before .before .before .before .before .before .before .before .before .before .before .args .draws) in
@@ -523,7 +454,6 @@ loop-again-4 c =
     let hj : (j : ℕ) → j < 4 → mark (c .before .before .before .are-ends .result) j ≡ joined (c .before .before .before .before .before .before .before .before .before .before .before .before .before .before .before .before .before .before .before .before .before .before .before .before .before .before .before .before .before .before .before .before .before .before .before .args .network) (c .before .before .before .before .before .before .before .before .before .before .before .before .before .before .before .before .before .before .before .before .before .before .before .before .event-of .result .site) j = λ j h. ap (λ (l : List Bool). mark l j) (c .before .before .before .are-ends .ensures) ∙ ends-read (c .before .before .before .before .before .before .before .before .before .before .before .before .before .before .before .before .before .before .before .before .before .before .before .before .before .before .before .before .before .before .before .before .before .before .before .args .network) (c .before .before .before .before .before .before .before .before .before .before .before .before .before .before .before .before .before .before .before .before .before .before .before .before .event-of .result .site) _ _ _ _ refl refl refl refl j h in
     (omega (arith, c .before .before .before .before .before .before .before .before .before .before .before .before .before .before .before .before .before .before .before .before .before .before .before .before .before .before .before .before .before .before .loop-test .taken), c .before .before .before .before .before .before .before .before .before .before .before .before .before .before .before .before .before .before .before .before .before .before .before .before .before .before .before .before .before .before .before .loop .inv .1, one-turn r _ (c .before .before .before .before .before .before .before .before .before .before .before .before .before .before .before .before .before .before .before .before .before .before .before .before .before .before .before .before .before .before .before .loop .turn) p _ (c .before .before .before .before .before .before .before .before .before .before .before .before .before .before .before .before .before .before .before .before .before .before .before .before .before .before .before .before .before .before .before .loop .inv .2) (rw (c .before .before .before .before .before .before .before .before .before .before .before .before .before .before .before .before .before .before .before .before .before .before .before .ticked .ensures) (waiting r p (c .before .before .before .before .before .before .before .before .before .before .before .before .before .before .before .before .before .before .before .before .before .before .before .before .before .draw .result) (c .before .before .before .before .before .before .before .before .before .before .before .before .before .before .before .before .before .before .before .before .before .before .before .before .event-of .result) ok t (c .before .before .before .before .before .before .before .before .before .before .before .before .before .before .before .before .before .before .before .before .before .before .before .before .before .draw .ensures) (c .before .before .before .before .before .before .before .before .before .before .before .before .before .before .before .before .before .before .before .before .before .before .before .before .event-of .ensures) (c .before .before .before .are-ends .result) far hj fr (sym (c .before .has-to-wait .ensures) ∙ c .if3 .taken))))
 
--- src/player.rt:145:20
 mul-site-3 : tie.Need-mul-site-3 Inv-loop μ-loop
 mul-site-3 c =
     let r = runWith (c .before .before .before .before .before .before .before .before .before .before .before .before .before .before .before .before .before .before .before .before .before .before .before .before .before .before .before .before .before .before .before .before .before .before .before .args .network) (c .before .before .before .before .before .before .before .before .before .before .before .before .before .before .before .before .before .before .before .before .before .before .before .before .before .before .before .before .before .before .before .before .before .before .before .args .t2) (c .before .before .before .before .before .before .before .before .before .before .before .before .before .before .before .before .before .before .before .before .before .before .before .before .before .before .before .before .before .before .before .before .before .before .before .args .count) (c .before .before .before .before .before .before .before .before .before .before .before .before .before .before .before .before .before .before .before .before .before .before .before .before .before .before .before .before .before .before .before .before .before .before .before .args .seed) (c .before .before .before .before .before .before .before .before .before .before .before .before .before .before .before .before .before .before .before .before .before .before .before .before .before .before .before .before .before .before .before .before .before .before .before .args .draws) in
@@ -533,7 +463,6 @@ mul-site-3 c =
     let nm = named-below r p (c .before .before .before .before .before .before .before .before .before .before .before .before .before .before .before .before .before .before .before .before .before .before .before .before .before .draw .result) (c .before .before .before .before .before .before .before .before .before .before .before .before .before .before .before .before .before .before .before .before .before .before .before .before .event-of .result) ok (c .before .before .before .before .before .before .before .before .before .before .before .before .before .before .before .before .before .before .before .before .before .before .before .before .event-of .ensures) in
     omega (arith, nm .0, val .few)
 
--- src/player.rt:145:20
 element-copy-out-site-2 : tie.Need-element-copy-out-site-2 Inv-loop μ-loop
 element-copy-out-site-2 c =
     let r = runWith (c .before .before .before .before .before .before .before .before .before .before .before .before .before .before .before .before .before .before .before .before .before .before .before .before .before .before .before .before .before .before .before .before .before .before .before .args .network) (c .before .before .before .before .before .before .before .before .before .before .before .before .before .before .before .before .before .before .before .before .before .before .before .before .before .before .before .before .before .before .before .before .before .before .before .args .t2) (c .before .before .before .before .before .before .before .before .before .before .before .before .before .before .before .before .before .before .before .before .before .before .before .before .before .before .before .before .before .before .before .before .before .before .before .args .count) (c .before .before .before .before .before .before .before .before .before .before .before .before .before .before .before .before .before .before .before .before .before .before .before .before .before .before .before .before .before .before .before .before .before .before .before .args .seed) (c .before .before .before .before .before .before .before .before .before .before .before .before .before .before .before .before .before .before .before .before .before .before .before .before .before .before .before .before .before .before .before .before .before .before .before .args .draws) in
@@ -543,7 +472,6 @@ element-copy-out-site-2 c =
     let nm = named-below r p (c .before .before .before .before .before .before .before .before .before .before .before .before .before .before .before .before .before .before .before .before .before .before .before .before .before .draw .result) (c .before .before .before .before .before .before .before .before .before .before .before .before .before .before .before .before .before .before .before .before .before .before .before .before .event-of .result) ok (c .before .before .before .before .before .before .before .before .before .before .before .before .before .before .before .before .before .before .before .before .before .before .before .before .event-of .ensures) in
     omega (arith, nm .0, val .few)
 
--- src/player.rt:146:13
 step-requires : tie.Need-step-requires Inv-loop μ-loop
 step-requires c κs =
     let r = runWith (c .before .before .before .before .before .before .before .before .before .before .before .before .before .before .before .before .before .before .before .before .before .before .before .before .before .before .before .before .before .before .before .before .before .before .before .before .args .network) (c .before .before .before .before .before .before .before .before .before .before .before .before .before .before .before .before .before .before .before .before .before .before .before .before .before .before .before .before .before .before .before .before .before .before .before .before .args .t2) (c .before .before .before .before .before .before .before .before .before .before .before .before .before .before .before .before .before .before .before .before .before .before .before .before .before .before .before .before .before .before .before .before .before .before .before .before .args .count) (c .before .before .before .before .before .before .before .before .before .before .before .before .before .before .before .before .before .before .before .before .before .before .before .before .before .before .before .before .before .before .before .before .before .before .before .before .args .seed) (c .before .before .before .before .before .before .before .before .before .before .before .before .before .before .before .before .before .before .before .before .before .before .before .before .before .before .before .before .before .before .before .before .before .before .before .before .args .draws) in
@@ -553,15 +481,12 @@ step-requires c κs =
     let nm = named-below r p (c .before .before .before .before .before .before .before .before .before .before .before .before .before .before .before .before .before .before .before .before .before .before .before .before .before .before .draw .result) (c .before .before .before .before .before .before .before .before .before .before .before .before .before .before .before .before .before .before .before .before .before .before .before .before .before .event-of .result) ok (c .before .before .before .before .before .before .before .before .before .before .before .before .before .before .before .before .before .before .before .before .before .before .before .before .before .event-of .ensures) in
     range-runnable (c .before .before .before .before .before .before .before .before .before .before .before .before .before .before .before .before .before .before .before .before .before .before .before .before .before .before .before .before .before .before .before .before .before .before .before .before .args .network) val (c .before .before .before .before .before .before .before .before .before .before .before .before .before .before .before .before .before .before .before .before .before .before .before .before .before .before .before .before .before .before .before .before .loop .state) (in-range-of r _ (c .before .before .before .before .before .before .before .before .before .before .before .before .before .before .before .before .before .before .before .before .before .before .before .before .before .before .before .before .before .before .before .before .before .before .before .before .pre .0) (c .before .before .before .before .before .before .before .before .before .before .before .before .before .before .before .before .before .before .before .before .before .before .before .before .before .before .before .before .before .before .before .before .loop .turn) p (c .before .before .before .before .before .before .before .before .before .before .before .before .before .before .before .before .before .before .before .before .before .before .before .before .before .before .before .before .before .before .before .before .loop .inv .2)) (c .before .before .before .before .before .before .before .before .before .before .before .before .before .before .before .before .before .before .before .before .before .before .before .before .before .event-of .result .site) (nm .0)
 
--- src/player.rt:153:17
 enum-told-3 : tie.Need-enum-told-3 Inv-loop μ-loop
 enum-told-3 c = search needs
 
--- src/player.rt:79:5
 loop-less-5 : tie.Need-loop-less-5 Inv-loop μ-loop
 loop-less-5 c = omega (arith, c .before .before .before .before .before .before .before .before .before .before .before .before .before .before .before .before .before .before .before .before .before .before .before .before .before .before .before .before .before .before .before .before .before .before .before .before .loop-test .taken)
 
--- src/player.rt:79:5
 loop-again-5 : tie.Need-loop-again-5 Inv-loop μ-loop
 loop-again-5 c =
     let r = runWith (c .before .before .before .before .before .before .before .before .before .before .before .before .before .before .before .before .before .before .before .before .before .before .before .before .before .before .before .before .before .before .before .before .before .before .before .before .before .before .before .before .before .args .network) (c .before .before .before .before .before .before .before .before .before .before .before .before .before .before .before .before .before .before .before .before .before .before .before .before .before .before .before .before .before .before .before .before .before .before .before .before .before .before .before .before .before .args .t2) (c .before .before .before .before .before .before .before .before .before .before .before .before .before .before .before .before .before .before .before .before .before .before .before .before .before .before .before .before .before .before .before .before .before .before .before .before .before .before .before .before .before .args .count) (c .before .before .before .before .before .before .before .before .before .before .before .before .before .before .before .before .before .before .before .before .before .before .before .before .before .before .before .before .before .before .before .before .before .before .before .before .before .before .before .before .before .args .seed) (c .before .before .before .before .before .before .before .before .before .before .before .before .before .before .before .before .before .before .before .before .before .before .before .before .before .before .before .before .before .before .before .before .before .before .before .before .before .before .before .before .before .args .draws) in
@@ -576,11 +501,9 @@ loop-again-5 c =
     let fr = far-read (c .before .before .before .before .before .before .before .before .before .before .before .before .before .before .before .before .before .before .before .before .before .before .before .before .before .before .before .before .before .before .before .before .before .before .before .before .before .before .before .before .before .args .network) val (c .before .before .before .before .before .before .before .before .before .before .before .before .before .before .before .before .before .before .before .before .before .before .before .before .before .before .before .before .before .before .before .before .before .before .before .before .before .loop .state .sites) (c .before .before .before .before .before .before .before .before .before .before .before .before .before .before .before .before .before .before .before .before .before .before .before .before .before .before .before .before .before .before .event-of .result .site) (nm .0) (c .before .before .before .before .before .before .before .before .before .before .before .before .before .before .before .before .before .before .before .before .before .before .before .before .before .end-site .result) (c .before .before .before .before .before .before .before .before .before .before .before .before .before .before .before .before .before .before .before .before .before .end-site2 .result) (c .before .before .before .before .before .before .before .before .before .before .before .before .before .before .before .before .before .end-site3 .result) (c .before .before .before .before .before .before .before .before .before .before .before .before .before .end-site4 .result) (c .before .before .before .before .before .before .before .before .before .before .before .before .before .before .before .before .before .before .before .before .before .before .end-input .result) (c .before .before .before .before .before .before .before .before .before .before .before .before .before .before .before .before .before .before .end-input2 .result) (c .before .before .before .before .before .before .before .before .before .before .before .before .before .before .end-input3 .result) (c .before .before .before .before .before .before .before .before .before .before .end-input4 .result) (c .before .before .before .before .before .before .before .before .before .before .before .before .before .before .before .before .before .before .before .before .before .before .before .before .before .end-site .ensures .0) (c .before .before .before .before .before .before .before .before .before .before .before .before .before .before .before .before .before .before .before .before .before .end-site2 .ensures .0) (c .before .before .before .before .before .before .before .before .before .before .before .before .before .before .before .before .before .end-site3 .ensures .0) (c .before .before .before .before .before .before .before .before .before .before .before .before .before .end-site4 .ensures .0) (c .before .before .before .before .before .before .before .before .before .before .before .before .before .before .before .before .before .before .before .before .before .before .end-input .ensures) (c .before .before .before .before .before .before .before .before .before .before .before .before .before .before .before .before .before .before .end-input2 .ensures) (c .before .before .before .before .before .before .before .before .before .before .before .before .before .before .end-input3 .ensures) (c .before .before .before .before .before .before .before .before .before .before .end-input4 .ensures) in
     (omega (arith, c .before .before .before .before .before .before .before .before .before .before .before .before .before .before .before .before .before .before .before .before .before .before .before .before .before .before .before .before .before .before .before .before .before .before .before .before .loop-test .taken), c .before .before .before .before .before .before .before .before .before .before .before .before .before .before .before .before .before .before .before .before .before .before .before .before .before .before .before .before .before .before .before .before .before .before .before .before .before .loop .inv .1, one-turn r _ (c .before .before .before .before .before .before .before .before .before .before .before .before .before .before .before .before .before .before .before .before .before .before .before .before .before .before .before .before .before .before .before .before .before .before .before .before .before .loop .turn) p _ (c .before .before .before .before .before .before .before .before .before .before .before .before .before .before .before .before .before .before .before .before .before .before .before .before .before .before .before .before .before .before .before .before .before .before .before .before .before .loop .inv .2) (rw (c .before .before .before .before .before .before .before .before .before .before .before .before .before .before .before .before .before .before .before .before .before .before .before .before .before .before .before .before .before .ticked .ensures) (did-nothing r p (c .before .before .before .before .before .before .before .before .before .before .before .before .before .before .before .before .before .before .before .before .before .before .before .before .before .before .before .before .before .before .before .draw .result) (c .before .before .before .before .before .before .before .before .before .before .before .before .before .before .before .before .before .before .before .before .before .before .before .before .before .before .before .before .before .before .event-of .result) ok t (c .before .before .before .before .before .before .before .before .before .before .before .before .before .before .before .before .before .before .before .before .before .before .before .before .before .before .before .before .before .before .before .draw .ensures) (c .before .before .before .before .before .before .before .before .before .before .before .before .before .before .before .before .before .before .before .before .before .before .before .before .before .before .before .before .before .before .event-of .ensures) far (c .before .before .before .before .step .result) fr (c .before .before .before .before .step .ensures) (c .enum-told3 .given .1))))
 
--- src/player.rt:156:17
 enum-told-4 : tie.Need-enum-told-4 Inv-loop μ-loop
 enum-told-4 c = search needs
 
--- src/player.rt:156:17
 mul-after : tie.Need-mul-after Inv-loop μ-loop
 mul-after c =
     let r = runWith (c .before .before .before .before .before .before .before .before .before .before .before .before .before .before .before .before .before .before .before .before .before .before .before .before .before .before .before .before .before .before .before .before .before .before .before .before .before .before .before .before .before .args .network) (c .before .before .before .before .before .before .before .before .before .before .before .before .before .before .before .before .before .before .before .before .before .before .before .before .before .before .before .before .before .before .before .before .before .before .before .before .before .before .before .before .before .args .t2) (c .before .before .before .before .before .before .before .before .before .before .before .before .before .before .before .before .before .before .before .before .before .before .before .before .before .before .before .before .before .before .before .before .before .before .before .before .before .before .before .before .before .args .count) (c .before .before .before .before .before .before .before .before .before .before .before .before .before .before .before .before .before .before .before .before .before .before .before .before .before .before .before .before .before .before .before .before .before .before .before .before .before .before .before .before .before .args .seed) (c .before .before .before .before .before .before .before .before .before .before .before .before .before .before .before .before .before .before .before .before .before .before .before .before .before .before .before .before .before .before .before .before .before .before .before .before .before .before .before .before .before .args .draws) in
@@ -590,7 +513,6 @@ mul-after c =
     let nm = named-below r p (c .before .before .before .before .before .before .before .before .before .before .before .before .before .before .before .before .before .before .before .before .before .before .before .before .before .before .before .before .before .before .before .draw .result) (c .before .before .before .before .before .before .before .before .before .before .before .before .before .before .before .before .before .before .before .before .before .before .before .before .before .before .before .before .before .before .event-of .result) ok (c .before .before .before .before .before .before .before .before .before .before .before .before .before .before .before .before .before .before .before .before .before .before .before .before .before .before .before .before .before .before .event-of .ensures) in
     omega (arith, nm .0, val .few)
 
--- src/player.rt:156:17
 element-set-from-after : tie.Need-element-set-from-after Inv-loop μ-loop
 element-set-from-after c =
     let r = runWith (c .before .before .before .before .before .before .before .before .before .before .before .before .before .before .before .before .before .before .before .before .before .before .before .before .before .before .before .before .before .before .before .before .before .before .before .before .before .before .before .before .before .args .network) (c .before .before .before .before .before .before .before .before .before .before .before .before .before .before .before .before .before .before .before .before .before .before .before .before .before .before .before .before .before .before .before .before .before .before .before .before .before .before .before .before .before .args .t2) (c .before .before .before .before .before .before .before .before .before .before .before .before .before .before .before .before .before .before .before .before .before .before .before .before .before .before .before .before .before .before .before .before .before .before .before .before .before .before .before .before .before .args .count) (c .before .before .before .before .before .before .before .before .before .before .before .before .before .before .before .before .before .before .before .before .before .before .before .before .before .before .before .before .before .before .before .before .before .before .before .before .before .before .before .before .before .args .seed) (c .before .before .before .before .before .before .before .before .before .before .before .before .before .before .before .before .before .before .before .before .before .before .before .before .before .before .before .before .before .before .before .before .before .before .before .before .before .before .before .before .before .args .draws) in
@@ -600,11 +522,9 @@ element-set-from-after c =
     let nm = named-below r p (c .before .before .before .before .before .before .before .before .before .before .before .before .before .before .before .before .before .before .before .before .before .before .before .before .before .before .before .before .before .before .before .draw .result) (c .before .before .before .before .before .before .before .before .before .before .before .before .before .before .before .before .before .before .before .before .before .before .before .before .before .before .before .before .before .before .event-of .result) ok (c .before .before .before .before .before .before .before .before .before .before .before .before .before .before .before .before .before .before .before .before .before .before .before .before .before .before .before .before .before .before .event-of .ensures) in
     omega (arith, nm .0, val .few)
 
--- src/player.rt:79:5
 loop-less-6 : tie.Need-loop-less-6 Inv-loop μ-loop
 loop-less-6 c = omega (arith, c .before .before .before .before .before .before .before .before .before .before .before .before .before .before .before .before .before .before .before .before .before .before .before .before .before .before .before .before .before .before .before .before .before .before .before .before .loop-test .taken)
 
--- src/player.rt:79:5
 loop-again-6 : tie.Need-loop-again-6 Inv-loop μ-loop
 loop-again-6 c =
     let r = runWith (c .before .before .before .before .before .before .before .before .before .before .before .before .before .before .before .before .before .before .before .before .before .before .before .before .before .before .before .before .before .before .before .before .before .before .before .before .before .before .before .before .before .args .network) (c .before .before .before .before .before .before .before .before .before .before .before .before .before .before .before .before .before .before .before .before .before .before .before .before .before .before .before .before .before .before .before .before .before .before .before .before .before .before .before .before .before .args .t2) (c .before .before .before .before .before .before .before .before .before .before .before .before .before .before .before .before .before .before .before .before .before .before .before .before .before .before .before .before .before .before .before .before .before .before .before .before .before .before .before .before .before .args .count) (c .before .before .before .before .before .before .before .before .before .before .before .before .before .before .before .before .before .before .before .before .before .before .before .before .before .before .before .before .before .before .before .before .before .before .before .before .before .before .before .before .before .args .seed) (c .before .before .before .before .before .before .before .before .before .before .before .before .before .before .before .before .before .before .before .before .before .before .before .before .before .before .before .before .before .before .before .before .before .before .before .before .before .before .before .before .before .args .draws) in
@@ -619,11 +539,9 @@ loop-again-6 c =
     let fr = far-read (c .before .before .before .before .before .before .before .before .before .before .before .before .before .before .before .before .before .before .before .before .before .before .before .before .before .before .before .before .before .before .before .before .before .before .before .before .before .before .before .before .before .args .network) val (c .before .before .before .before .before .before .before .before .before .before .before .before .before .before .before .before .before .before .before .before .before .before .before .before .before .before .before .before .before .before .before .before .before .before .before .before .before .loop .state .sites) (c .before .before .before .before .before .before .before .before .before .before .before .before .before .before .before .before .before .before .before .before .before .before .before .before .before .before .before .before .before .before .event-of .result .site) (nm .0) (c .before .before .before .before .before .before .before .before .before .before .before .before .before .before .before .before .before .before .before .before .before .before .before .before .before .end-site .result) (c .before .before .before .before .before .before .before .before .before .before .before .before .before .before .before .before .before .before .before .before .before .end-site2 .result) (c .before .before .before .before .before .before .before .before .before .before .before .before .before .before .before .before .before .end-site3 .result) (c .before .before .before .before .before .before .before .before .before .before .before .before .before .end-site4 .result) (c .before .before .before .before .before .before .before .before .before .before .before .before .before .before .before .before .before .before .before .before .before .before .end-input .result) (c .before .before .before .before .before .before .before .before .before .before .before .before .before .before .before .before .before .before .end-input2 .result) (c .before .before .before .before .before .before .before .before .before .before .before .before .before .before .end-input3 .result) (c .before .before .before .before .before .before .before .before .before .before .end-input4 .result) (c .before .before .before .before .before .before .before .before .before .before .before .before .before .before .before .before .before .before .before .before .before .before .before .before .before .end-site .ensures .0) (c .before .before .before .before .before .before .before .before .before .before .before .before .before .before .before .before .before .before .before .before .before .end-site2 .ensures .0) (c .before .before .before .before .before .before .before .before .before .before .before .before .before .before .before .before .before .end-site3 .ensures .0) (c .before .before .before .before .before .before .before .before .before .before .before .before .before .end-site4 .ensures .0) (c .before .before .before .before .before .before .before .before .before .before .before .before .before .before .before .before .before .before .before .before .before .before .end-input .ensures) (c .before .before .before .before .before .before .before .before .before .before .before .before .before .before .before .before .before .before .end-input2 .ensures) (c .before .before .before .before .before .before .before .before .before .before .before .before .before .before .end-input3 .ensures) (c .before .before .before .before .before .before .before .before .before .before .end-input4 .ensures) in
     (omega (arith, c .before .before .before .before .before .before .before .before .before .before .before .before .before .before .before .before .before .before .before .before .before .before .before .before .before .before .before .before .before .before .before .before .before .before .before .before .loop-test .taken), c .before .before .before .before .before .before .before .before .before .before .before .before .before .before .before .before .before .before .before .before .before .before .before .before .before .before .before .before .before .before .before .before .before .before .before .before .before .loop .inv .1, one-turn r _ (c .before .before .before .before .before .before .before .before .before .before .before .before .before .before .before .before .before .before .before .before .before .before .before .before .before .before .before .before .before .before .before .before .before .before .before .before .before .loop .turn) p _ (c .before .before .before .before .before .before .before .before .before .before .before .before .before .before .before .before .before .before .before .before .before .before .before .before .before .before .before .before .before .before .before .before .before .before .before .before .before .loop .inv .2) (rw (c .before .before .before .before .before .before .before .before .before .before .before .before .before .before .before .before .before .before .before .before .before .before .before .before .before .before .before .before .before .ticked .ensures) (did-own r p (c .before .before .before .before .before .before .before .before .before .before .before .before .before .before .before .before .before .before .before .before .before .before .before .before .before .before .before .before .before .before .before .draw .result) (c .before .before .before .before .before .before .before .before .before .before .before .before .before .before .before .before .before .before .before .before .before .before .before .before .before .before .before .before .before .before .event-of .result) ok t (c .before .before .before .before .before .before .before .before .before .before .before .before .before .before .before .before .before .before .before .before .before .before .before .before .before .before .before .before .before .before .before .draw .ensures) (c .before .before .before .before .before .before .before .before .before .before .before .before .before .before .before .before .before .before .before .before .before .before .before .before .before .before .before .before .before .before .event-of .ensures) far (c .before .before .before .before .step .result) fr (c .before .before .before .before .step .ensures) (c .enum-told4 .given .1))))
 
--- src/player.rt:159:24
 enum-known-act : tie.Need-enum-known-act Inv-loop μ-loop
 enum-known-act c = search needs
 
--- src/player.rt:160:17
 mul-after-2 : tie.Need-mul-after-2 Inv-loop μ-loop
 mul-after-2 c =
     let r = runWith (c .before .before .before .before .before .before .before .before .before .before .before .before .before .before .before .before .before .before .before .before .before .before .before .before .before .before .before .before .before .before .before .before .before .before .before .before .before .before .before .before .before .before .args .network) (c .before .before .before .before .before .before .before .before .before .before .before .before .before .before .before .before .before .before .before .before .before .before .before .before .before .before .before .before .before .before .before .before .before .before .before .before .before .before .before .before .before .before .args .t2) (c .before .before .before .before .before .before .before .before .before .before .before .before .before .before .before .before .before .before .before .before .before .before .before .before .before .before .before .before .before .before .before .before .before .before .before .before .before .before .before .before .before .before .args .count) (c .before .before .before .before .before .before .before .before .before .before .before .before .before .before .before .before .before .before .before .before .before .before .before .before .before .before .before .before .before .before .before .before .before .before .before .before .before .before .before .before .before .before .args .seed) (c .before .before .before .before .before .before .before .before .before .before .before .before .before .before .before .before .before .before .before .before .before .before .before .before .before .before .before .before .before .before .before .before .before .before .before .before .before .before .before .before .before .before .args .draws) in
@@ -633,7 +551,6 @@ mul-after-2 c =
     let nm = named-below r p (c .before .before .before .before .before .before .before .before .before .before .before .before .before .before .before .before .before .before .before .before .before .before .before .before .before .before .before .before .before .before .before .before .draw .result) (c .before .before .before .before .before .before .before .before .before .before .before .before .before .before .before .before .before .before .before .before .before .before .before .before .before .before .before .before .before .before .before .event-of .result) ok (c .before .before .before .before .before .before .before .before .before .before .before .before .before .before .before .before .before .before .before .before .before .before .before .before .before .before .before .before .before .before .before .event-of .ensures) in
     omega (arith, nm .0, val .few)
 
--- src/player.rt:160:17
 element-set-from-after-2 : tie.Need-element-set-from-after-2 Inv-loop μ-loop
 element-set-from-after-2 c =
     let r = runWith (c .before .before .before .before .before .before .before .before .before .before .before .before .before .before .before .before .before .before .before .before .before .before .before .before .before .before .before .before .before .before .before .before .before .before .before .before .before .before .before .before .before .before .args .network) (c .before .before .before .before .before .before .before .before .before .before .before .before .before .before .before .before .before .before .before .before .before .before .before .before .before .before .before .before .before .before .before .before .before .before .before .before .before .before .before .before .before .before .args .t2) (c .before .before .before .before .before .before .before .before .before .before .before .before .before .before .before .before .before .before .before .before .before .before .before .before .before .before .before .before .before .before .before .before .before .before .before .before .before .before .before .before .before .before .args .count) (c .before .before .before .before .before .before .before .before .before .before .before .before .before .before .before .before .before .before .before .before .before .before .before .before .before .before .before .before .before .before .before .before .before .before .before .before .before .before .before .before .before .before .args .seed) (c .before .before .before .before .before .before .before .before .before .before .before .before .before .before .before .before .before .before .before .before .before .before .before .before .before .before .before .before .before .before .before .before .before .before .before .before .before .before .before .before .before .before .args .draws) in
@@ -643,7 +560,6 @@ element-set-from-after-2 c =
     let nm = named-below r p (c .before .before .before .before .before .before .before .before .before .before .before .before .before .before .before .before .before .before .before .before .before .before .before .before .before .before .before .before .before .before .before .before .draw .result) (c .before .before .before .before .before .before .before .before .before .before .before .before .before .before .before .before .before .before .before .before .before .before .before .before .before .before .before .before .before .before .before .event-of .result) ok (c .before .before .before .before .before .before .before .before .before .before .before .before .before .before .before .before .before .before .before .before .before .before .before .before .before .before .before .before .before .before .before .event-of .ensures) in
     omega (arith, nm .0, val .few)
 
--- src/player.rt:161:26
 mul-at : tie.Need-mul-at Inv-loop μ-loop
 mul-at c =
     let r = runWith (c .before .before .before .before .before .before .before .before .before .before .before .before .before .before .before .before .before .before .before .before .before .before .before .before .before .before .before .before .before .before .before .before .before .before .before .before .before .before .before .before .before .before .args .network) (c .before .before .before .before .before .before .before .before .before .before .before .before .before .before .before .before .before .before .before .before .before .before .before .before .before .before .before .before .before .before .before .before .before .before .before .before .before .before .before .before .before .before .args .t2) (c .before .before .before .before .before .before .before .before .before .before .before .before .before .before .before .before .before .before .before .before .before .before .before .before .before .before .before .before .before .before .before .before .before .before .before .before .before .before .before .before .before .before .args .count) (c .before .before .before .before .before .before .before .before .before .before .before .before .before .before .before .before .before .before .before .before .before .before .before .before .before .before .before .before .before .before .before .before .before .before .before .before .before .before .before .before .before .before .args .seed) (c .before .before .before .before .before .before .before .before .before .before .before .before .before .before .before .before .before .before .before .before .before .before .before .before .before .before .before .before .before .before .before .before .before .before .before .before .before .before .before .before .before .before .args .draws) in
@@ -651,7 +567,6 @@ mul-at c =
     let f = facts-of r _ (c .before .before .before .before .before .before .before .before .before .before .before .before .before .before .before .before .before .before .before .before .before .before .before .before .before .before .before .before .before .before .before .before .before .before .before .before .before .before .loop .turn) p (c .before .before .before .before .before .before .before .before .before .before .before .before .before .before .before .before .before .before .before .before .before .before .before .before .before .before .before .before .before .before .before .before .before .before .before .before .before .before .loop .inv .2) in
     omega (arith, f .turns, f .serviced, c .before .before .before .before .before .before .before .before .before .before .before .before .before .before .before .before .before .before .before .before .before .before .before .before .before .before .before .before .before .before .before .before .before .before .before .before .before .before .loop .inv .0, c .before .before .before .before .before .before .before .before .before .before .before .before .before .before .before .before .before .before .before .before .before .before .before .before .before .before .before .before .before .before .before .before .before .before .before .before .before .before .loop .inv .1, c .before .before .before .before .before .before .before .before .before .before .before .before .before .before .before .before .before .before .before .before .before .before .before .before .before .before .before .before .before .before .before .before .before .before .before .before .before .before .before .before .before .before .fits .draws, stored-sends r (c .before .before .before .before .before .before .before .before .before .before .before .before .before .before .before .before .before .before .before .before .before .before .before .before .before .before .before .before .before .before .before .before .before .before .before .before .before .before .before .before .before .before .pre .0) .0)
 
--- src/player.rt:162:33
 add-if4 : tie.Need-add-if4 Inv-loop μ-loop
 add-if4 c =
     let r = runWith (c .before .before .before .before .before .before .before .before .before .before .before .before .before .before .before .before .before .before .before .before .before .before .before .before .before .before .before .before .before .before .before .before .before .before .before .before .before .before .before .before .before .before .args .network) (c .before .before .before .before .before .before .before .before .before .before .before .before .before .before .before .before .before .before .before .before .before .before .before .before .before .before .before .before .before .before .before .before .before .before .before .before .before .before .before .before .before .before .args .t2) (c .before .before .before .before .before .before .before .before .before .before .before .before .before .before .before .before .before .before .before .before .before .before .before .before .before .before .before .before .before .before .before .before .before .before .before .before .before .before .before .before .before .before .args .count) (c .before .before .before .before .before .before .before .before .before .before .before .before .before .before .before .before .before .before .before .before .before .before .before .before .before .before .before .before .before .before .before .before .before .before .before .before .before .before .before .before .before .before .args .seed) (c .before .before .before .before .before .before .before .before .before .before .before .before .before .before .before .before .before .before .before .before .before .before .before .before .before .before .before .before .before .before .before .before .before .before .before .before .before .before .before .before .before .before .args .draws) in
@@ -659,11 +574,9 @@ add-if4 c =
     let f = facts-of r _ (c .before .before .before .before .before .before .before .before .before .before .before .before .before .before .before .before .before .before .before .before .before .before .before .before .before .before .before .before .before .before .before .before .before .before .before .before .before .before .loop .turn) p (c .before .before .before .before .before .before .before .before .before .before .before .before .before .before .before .before .before .before .before .before .before .before .before .before .before .before .before .before .before .before .before .before .before .before .before .before .before .before .loop .inv .2) in
     omega (arith, f .turns, f .serviced, c .before .before .before .before .before .before .before .before .before .before .before .before .before .before .before .before .before .before .before .before .before .before .before .before .before .before .before .before .before .before .before .before .before .before .before .before .before .before .loop .inv .0, c .before .before .before .before .before .before .before .before .before .before .before .before .before .before .before .before .before .before .before .before .before .before .before .before .before .before .before .before .before .before .before .before .before .before .before .before .before .before .loop .inv .1, c .before .before .before .before .before .before .before .before .before .before .before .before .before .before .before .before .before .before .before .before .before .before .before .before .before .before .before .before .before .before .before .before .before .before .before .before .before .before .before .before .before .before .fits .draws, stored-sends r (c .before .before .before .before .before .before .before .before .before .before .before .before .before .before .before .before .before .before .before .before .before .before .before .before .before .before .before .before .before .before .before .before .before .before .before .before .before .before .before .before .before .before .pre .0) .0)
 
--- src/player.rt:79:5
 loop-less-7 : tie.Need-loop-less-7 Inv-loop μ-loop
 loop-less-7 c = omega (arith, c .before .before .before .before .before .before .before .before .before .before .before .before .before .before .before .before .before .before .before .before .before .before .before .before .before .before .before .before .before .before .before .before .before .before .before .before .before .before .loop-test .taken)
 
--- src/player.rt:79:5
 loop-again-7 : tie.Need-loop-again-7 Inv-loop μ-loop
 loop-again-7 c =
     let r = runWith (c .before .before .before .before .before .before .before .before .before .before .before .before .before .before .before .before .before .before .before .before .before .before .before .before .before .before .before .before .before .before .before .before .before .before .before .before .before .before .before .before .before .before .before .args .network) (c .before .before .before .before .before .before .before .before .before .before .before .before .before .before .before .before .before .before .before .before .before .before .before .before .before .before .before .before .before .before .before .before .before .before .before .before .before .before .before .before .before .before .before .args .t2) (c .before .before .before .before .before .before .before .before .before .before .before .before .before .before .before .before .before .before .before .before .before .before .before .before .before .before .before .before .before .before .before .before .before .before .before .before .before .before .before .before .before .before .before .args .count) (c .before .before .before .before .before .before .before .before .before .before .before .before .before .before .before .before .before .before .before .before .before .before .before .before .before .before .before .before .before .before .before .before .before .before .before .before .before .before .before .before .before .before .before .args .seed) (c .before .before .before .before .before .before .before .before .before .before .before .before .before .before .before .before .before .before .before .before .before .before .before .before .before .before .before .before .before .before .before .before .before .before .before .before .before .before .before .before .before .before .before .args .draws) in
@@ -678,7 +591,6 @@ loop-again-7 c =
     let fr = far-read (c .before .before .before .before .before .before .before .before .before .before .before .before .before .before .before .before .before .before .before .before .before .before .before .before .before .before .before .before .before .before .before .before .before .before .before .before .before .before .before .before .before .before .before .args .network) val (c .before .before .before .before .before .before .before .before .before .before .before .before .before .before .before .before .before .before .before .before .before .before .before .before .before .before .before .before .before .before .before .before .before .before .before .before .before .before .before .loop .state .sites) (c .before .before .before .before .before .before .before .before .before .before .before .before .before .before .before .before .before .before .before .before .before .before .before .before .before .before .before .before .before .before .before .before .event-of .result .site) (nm .0) (c .before .before .before .before .before .before .before .before .before .before .before .before .before .before .before .before .before .before .before .before .before .before .before .before .before .before .before .end-site .result) (c .before .before .before .before .before .before .before .before .before .before .before .before .before .before .before .before .before .before .before .before .before .before .before .end-site2 .result) (c .before .before .before .before .before .before .before .before .before .before .before .before .before .before .before .before .before .before .before .end-site3 .result) (c .before .before .before .before .before .before .before .before .before .before .before .before .before .before .before .end-site4 .result) (c .before .before .before .before .before .before .before .before .before .before .before .before .before .before .before .before .before .before .before .before .before .before .before .before .end-input .result) (c .before .before .before .before .before .before .before .before .before .before .before .before .before .before .before .before .before .before .before .before .end-input2 .result) (c .before .before .before .before .before .before .before .before .before .before .before .before .before .before .before .before .end-input3 .result) (c .before .before .before .before .before .before .before .before .before .before .before .before .end-input4 .result) (c .before .before .before .before .before .before .before .before .before .before .before .before .before .before .before .before .before .before .before .before .before .before .before .before .before .before .before .end-site .ensures .0) (c .before .before .before .before .before .before .before .before .before .before .before .before .before .before .before .before .before .before .before .before .before .before .before .end-site2 .ensures .0) (c .before .before .before .before .before .before .before .before .before .before .before .before .before .before .before .before .before .before .before .end-site3 .ensures .0) (c .before .before .before .before .before .before .before .before .before .before .before .before .before .before .before .end-site4 .ensures .0) (c .before .before .before .before .before .before .before .before .before .before .before .before .before .before .before .before .before .before .before .before .before .before .before .before .end-input .ensures) (c .before .before .before .before .before .before .before .before .before .before .before .before .before .before .before .before .before .before .before .before .end-input2 .ensures) (c .before .before .before .before .before .before .before .before .before .before .before .before .before .before .before .before .end-input3 .ensures) (c .before .before .before .before .before .before .before .before .before .before .before .before .end-input4 .ensures) in
     (omega (arith, c .before .before .before .before .before .before .before .before .before .before .before .before .before .before .before .before .before .before .before .before .before .before .before .before .before .before .before .before .before .before .before .before .before .before .before .before .before .before .loop-test .taken), c .before .before .before .before .before .before .before .before .before .before .before .before .before .before .before .before .before .before .before .before .before .before .before .before .before .before .before .before .before .before .before .before .before .before .before .before .before .before .before .loop .inv .1, one-turn r _ (c .before .before .before .before .before .before .before .before .before .before .before .before .before .before .before .before .before .before .before .before .before .before .before .before .before .before .before .before .before .before .before .before .before .before .before .before .before .before .before .loop .turn) p _ (c .before .before .before .before .before .before .before .before .before .before .before .before .before .before .before .before .before .before .before .before .before .before .before .before .before .before .before .before .before .before .before .before .before .before .before .before .before .before .before .loop .inv .2) (rw (c .before .before .before .before .before .before .before .before .before .before .before .before .before .before .before .before .before .before .before .before .before .before .before .before .before .before .before .before .before .before .before .ticked .ensures) (not-entered r p (c .before .before .before .before .before .before .before .before .before .before .before .before .before .before .before .before .before .before .before .before .before .before .before .before .before .before .before .before .before .before .before .before .before .draw .result) (c .before .before .before .before .before .before .before .before .before .before .before .before .before .before .before .before .before .before .before .before .before .before .before .before .before .before .before .before .before .before .before .before .event-of .result) ok t (c .before .before .before .before .before .before .before .before .before .before .before .before .before .before .before .before .before .before .before .before .before .before .before .before .before .before .before .before .before .before .before .before .before .draw .ensures) (c .before .before .before .before .before .before .before .before .before .before .before .before .before .before .before .before .before .before .before .before .before .before .before .before .before .before .before .before .before .before .before .before .event-of .ensures) far (c .before .before .before .before .before .before .step .result) fr (c .before .before .before .before .before .before .step .ensures) _ (c .before .before .act .given .1) (c .if4 .taken))))
 
--- src/player.rt:165:17
 enter-requires : tie.Need-enter-requires Inv-loop μ-loop
 enter-requires c κs =
     let r = runWith (c .before .before .before .before .before .before .before .before .before .before .before .before .before .before .before .before .before .before .before .before .before .before .before .before .before .before .before .before .before .before .before .before .before .before .before .before .before .before .before .before .before .before .before .before .args .network) (c .before .before .before .before .before .before .before .before .before .before .before .before .before .before .before .before .before .before .before .before .before .before .before .before .before .before .before .before .before .before .before .before .before .before .before .before .before .before .before .before .before .before .before .before .args .t2) (c .before .before .before .before .before .before .before .before .before .before .before .before .before .before .before .before .before .before .before .before .before .before .before .before .before .before .before .before .before .before .before .before .before .before .before .before .before .before .before .before .before .before .before .before .args .count) (c .before .before .before .before .before .before .before .before .before .before .before .before .before .before .before .before .before .before .before .before .before .before .before .before .before .before .before .before .before .before .before .before .before .before .before .before .before .before .before .before .before .before .before .before .args .seed) (c .before .before .before .before .before .before .before .before .before .before .before .before .before .before .before .before .before .before .before .before .before .before .before .before .before .before .before .before .before .before .before .before .before .before .before .before .before .before .before .before .before .before .before .before .args .draws) in
@@ -688,7 +600,6 @@ enter-requires c κs =
     let nm = named-below r p (c .before .before .before .before .before .before .before .before .before .before .before .before .before .before .before .before .before .before .before .before .before .before .before .before .before .before .before .before .before .before .before .before .before .before .draw .result) (c .before .before .before .before .before .before .before .before .before .before .before .before .before .before .before .before .before .before .before .before .before .before .before .before .before .before .before .before .before .before .before .before .before .event-of .result) ok (c .before .before .before .before .before .before .before .before .before .before .before .before .before .before .before .before .before .before .before .before .before .before .before .before .before .before .before .before .before .before .before .before .before .event-of .ensures) in
     (omega (arith, c .before .if4 .left), omega (arith, nm .0, val .few))
 
--- src/player.rt:166:17
 add-serviced : tie.Need-add-serviced Inv-loop μ-loop
 add-serviced c =
     let r = runWith (c .before .before .before .before .before .before .before .before .before .before .before .before .before .before .before .before .before .before .before .before .before .before .before .before .before .before .before .before .before .before .before .before .before .before .before .before .before .before .before .before .before .before .before .before .before .before .before .args .network) (c .before .before .before .before .before .before .before .before .before .before .before .before .before .before .before .before .before .before .before .before .before .before .before .before .before .before .before .before .before .before .before .before .before .before .before .before .before .before .before .before .before .before .before .before .before .before .before .args .t2) (c .before .before .before .before .before .before .before .before .before .before .before .before .before .before .before .before .before .before .before .before .before .before .before .before .before .before .before .before .before .before .before .before .before .before .before .before .before .before .before .before .before .before .before .before .before .before .before .args .count) (c .before .before .before .before .before .before .before .before .before .before .before .before .before .before .before .before .before .before .before .before .before .before .before .before .before .before .before .before .before .before .before .before .before .before .before .before .before .before .before .before .before .before .before .before .before .before .before .args .seed) (c .before .before .before .before .before .before .before .before .before .before .before .before .before .before .before .before .before .before .before .before .before .before .before .before .before .before .before .before .before .before .before .before .before .before .before .before .before .before .before .before .before .before .before .before .before .before .before .args .draws) in
@@ -696,11 +607,9 @@ add-serviced c =
     let f = facts-of r _ (c .before .before .before .before .before .before .before .before .before .before .before .before .before .before .before .before .before .before .before .before .before .before .before .before .before .before .before .before .before .before .before .before .before .before .before .before .before .before .before .before .before .before .before .loop .turn) p (c .before .before .before .before .before .before .before .before .before .before .before .before .before .before .before .before .before .before .before .before .before .before .before .before .before .before .before .before .before .before .before .before .before .before .before .before .before .before .before .before .before .before .before .loop .inv .2) in
     omega (arith, f .turns, f .serviced, c .before .before .before .before .before .before .before .before .before .before .before .before .before .before .before .before .before .before .before .before .before .before .before .before .before .before .before .before .before .before .before .before .before .before .before .before .before .before .before .before .before .before .before .loop .inv .0, c .before .before .before .before .before .before .before .before .before .before .before .before .before .before .before .before .before .before .before .before .before .before .before .before .before .before .before .before .before .before .before .before .before .before .before .before .before .before .before .before .before .before .before .loop .inv .1, c .before .before .before .before .before .before .before .before .before .before .before .before .before .before .before .before .before .before .before .before .before .before .before .before .before .before .before .before .before .before .before .before .before .before .before .before .before .before .before .before .before .before .before .before .before .before .before .fits .draws, stored-sends r (c .before .before .before .before .before .before .before .before .before .before .before .before .before .before .before .before .before .before .before .before .before .before .before .before .before .before .before .before .before .before .before .before .before .before .before .before .before .before .before .before .before .before .before .before .before .before .before .pre .0) .0)
 
--- src/player.rt:79:5
 loop-less-8 : tie.Need-loop-less-8 Inv-loop μ-loop
 loop-less-8 c = omega (arith, c .before .before .before .before .before .before .before .before .before .before .before .before .before .before .before .before .before .before .before .before .before .before .before .before .before .before .before .before .before .before .before .before .before .before .before .before .before .before .before .before .before .before .loop-test .taken)
 
--- src/player.rt:79:5
 loop-again-8 : tie.Need-loop-again-8 Inv-loop μ-loop
 loop-again-8 c =
     let r = runWith (c .before .before .before .before .before .before .before .before .before .before .before .before .before .before .before .before .before .before .before .before .before .before .before .before .before .before .before .before .before .before .before .before .before .before .before .before .before .before .before .before .before .before .before .before .before .before .before .args .network) (c .before .before .before .before .before .before .before .before .before .before .before .before .before .before .before .before .before .before .before .before .before .before .before .before .before .before .before .before .before .before .before .before .before .before .before .before .before .before .before .before .before .before .before .before .before .before .before .args .t2) (c .before .before .before .before .before .before .before .before .before .before .before .before .before .before .before .before .before .before .before .before .before .before .before .before .before .before .before .before .before .before .before .before .before .before .before .before .before .before .before .before .before .before .before .before .before .before .before .args .count) (c .before .before .before .before .before .before .before .before .before .before .before .before .before .before .before .before .before .before .before .before .before .before .before .before .before .before .before .before .before .before .before .before .before .before .before .before .before .before .before .before .before .before .before .before .before .before .before .args .seed) (c .before .before .before .before .before .before .before .before .before .before .before .before .before .before .before .before .before .before .before .before .before .before .before .before .before .before .before .before .before .before .before .before .before .before .before .before .before .before .before .before .before .before .before .before .before .before .before .args .draws) in
@@ -715,11 +624,9 @@ loop-again-8 c =
     let fr = far-read (c .before .before .before .before .before .before .before .before .before .before .before .before .before .before .before .before .before .before .before .before .before .before .before .before .before .before .before .before .before .before .before .before .before .before .before .before .before .before .before .before .before .before .before .before .before .before .before .args .network) val (c .before .before .before .before .before .before .before .before .before .before .before .before .before .before .before .before .before .before .before .before .before .before .before .before .before .before .before .before .before .before .before .before .before .before .before .before .before .before .before .before .before .before .before .loop .state .sites) (c .before .before .before .before .before .before .before .before .before .before .before .before .before .before .before .before .before .before .before .before .before .before .before .before .before .before .before .before .before .before .before .before .before .before .before .before .event-of .result .site) (nm .0) (c .before .before .before .before .before .before .before .before .before .before .before .before .before .before .before .before .before .before .before .before .before .before .before .before .before .before .before .before .before .before .before .end-site .result) (c .before .before .before .before .before .before .before .before .before .before .before .before .before .before .before .before .before .before .before .before .before .before .before .before .before .before .before .end-site2 .result) (c .before .before .before .before .before .before .before .before .before .before .before .before .before .before .before .before .before .before .before .before .before .before .before .end-site3 .result) (c .before .before .before .before .before .before .before .before .before .before .before .before .before .before .before .before .before .before .before .end-site4 .result) (c .before .before .before .before .before .before .before .before .before .before .before .before .before .before .before .before .before .before .before .before .before .before .before .before .before .before .before .before .end-input .result) (c .before .before .before .before .before .before .before .before .before .before .before .before .before .before .before .before .before .before .before .before .before .before .before .before .end-input2 .result) (c .before .before .before .before .before .before .before .before .before .before .before .before .before .before .before .before .before .before .before .before .end-input3 .result) (c .before .before .before .before .before .before .before .before .before .before .before .before .before .before .before .before .end-input4 .result) (c .before .before .before .before .before .before .before .before .before .before .before .before .before .before .before .before .before .before .before .before .before .before .before .before .before .before .before .before .before .before .before .end-site .ensures .0) (c .before .before .before .before .before .before .before .before .before .before .before .before .before .before .before .before .before .before .before .before .before .before .before .before .before .before .before .end-site2 .ensures .0) (c .before .before .before .before .before .before .before .before .before .before .before .before .before .before .before .before .before .before .before .before .before .before .before .end-site3 .ensures .0) (c .before .before .before .before .before .before .before .before .before .before .before .before .before .before .before .before .before .before .before .end-site4 .ensures .0) (c .before .before .before .before .before .before .before .before .before .before .before .before .before .before .before .before .before .before .before .before .before .before .before .before .before .before .before .before .end-input .ensures) (c .before .before .before .before .before .before .before .before .before .before .before .before .before .before .before .before .before .before .before .before .before .before .before .before .end-input2 .ensures) (c .before .before .before .before .before .before .before .before .before .before .before .before .before .before .before .before .before .before .before .before .end-input3 .ensures) (c .before .before .before .before .before .before .before .before .before .before .before .before .before .before .before .before .end-input4 .ensures) in
     (omega (arith, c .before .before .before .before .before .before .before .before .before .before .before .before .before .before .before .before .before .before .before .before .before .before .before .before .before .before .before .before .before .before .before .before .before .before .before .before .before .before .before .before .before .before .loop-test .taken), c .before .before .before .before .before .before .before .before .before .before .before .before .before .before .before .before .before .before .before .before .before .before .before .before .before .before .before .before .before .before .before .before .before .before .before .before .before .before .before .before .before .before .before .loop .inv .1, one-turn r _ (c .before .before .before .before .before .before .before .before .before .before .before .before .before .before .before .before .before .before .before .before .before .before .before .before .before .before .before .before .before .before .before .before .before .before .before .before .before .before .before .before .before .before .before .loop .turn) p _ (c .before .before .before .before .before .before .before .before .before .before .before .before .before .before .before .before .before .before .before .before .before .before .before .before .before .before .before .before .before .before .before .before .before .before .before .before .before .before .before .before .before .before .before .loop .inv .2) (rw (c .before .before .before .before .before .before .before .before .before .before .before .before .before .before .before .before .before .before .before .before .before .before .before .before .before .before .before .before .before .before .before .before .before .before .before .ticked .ensures) (rw (c .before .before .enter .ensures) (did-serve r p (c .before .before .before .before .before .before .before .before .before .before .before .before .before .before .before .before .before .before .before .before .before .before .before .before .before .before .before .before .before .before .before .before .before .before .before .before .before .draw .result) (c .before .before .before .before .before .before .before .before .before .before .before .before .before .before .before .before .before .before .before .before .before .before .before .before .before .before .before .before .before .before .before .before .before .before .before .before .event-of .result) ok t (c .before .before .before .before .before .before .before .before .before .before .before .before .before .before .before .before .before .before .before .before .before .before .before .before .before .before .before .before .before .before .before .before .before .before .before .before .before .draw .ensures) (c .before .before .before .before .before .before .before .before .before .before .before .before .before .before .before .before .before .before .before .before .before .before .before .before .before .before .before .before .before .before .before .before .before .before .before .before .event-of .ensures) far (c .before .before .before .before .before .before .before .before .before .before .step .result) fr (c .before .before .before .before .before .before .before .before .before .before .step .ensures) _ (c .before .before .before .before .before .before .act .given .1) (c .before .before .before .before .if4 .left)))))
 
--- src/player.rt:170:17
 enum-told-5 : tie.Need-enum-told-5 Inv-loop μ-loop
 enum-told-5 c = search needs
 
--- src/player.rt:170:17
 mul-after-3 : tie.Need-mul-after-3 Inv-loop μ-loop
 mul-after-3 c =
     let r = runWith (c .before .before .before .before .before .before .before .before .before .before .before .before .before .before .before .before .before .before .before .before .before .before .before .before .before .before .before .before .before .before .before .before .before .before .before .before .before .before .before .before .before .args .network) (c .before .before .before .before .before .before .before .before .before .before .before .before .before .before .before .before .before .before .before .before .before .before .before .before .before .before .before .before .before .before .before .before .before .before .before .before .before .before .before .before .before .args .t2) (c .before .before .before .before .before .before .before .before .before .before .before .before .before .before .before .before .before .before .before .before .before .before .before .before .before .before .before .before .before .before .before .before .before .before .before .before .before .before .before .before .before .args .count) (c .before .before .before .before .before .before .before .before .before .before .before .before .before .before .before .before .before .before .before .before .before .before .before .before .before .before .before .before .before .before .before .before .before .before .before .before .before .before .before .before .before .args .seed) (c .before .before .before .before .before .before .before .before .before .before .before .before .before .before .before .before .before .before .before .before .before .before .before .before .before .before .before .before .before .before .before .before .before .before .before .before .before .before .before .before .before .args .draws) in
@@ -729,7 +636,6 @@ mul-after-3 c =
     let nm = named-below r p (c .before .before .before .before .before .before .before .before .before .before .before .before .before .before .before .before .before .before .before .before .before .before .before .before .before .before .before .before .before .before .before .draw .result) (c .before .before .before .before .before .before .before .before .before .before .before .before .before .before .before .before .before .before .before .before .before .before .before .before .before .before .before .before .before .before .event-of .result) ok (c .before .before .before .before .before .before .before .before .before .before .before .before .before .before .before .before .before .before .before .before .before .before .before .before .before .before .before .before .before .before .event-of .ensures) in
     omega (arith, nm .0, val .few)
 
--- src/player.rt:170:17
 element-set-from-after-3 : tie.Need-element-set-from-after-3 Inv-loop μ-loop
 element-set-from-after-3 c =
     let r = runWith (c .before .before .before .before .before .before .before .before .before .before .before .before .before .before .before .before .before .before .before .before .before .before .before .before .before .before .before .before .before .before .before .before .before .before .before .before .before .before .before .before .before .args .network) (c .before .before .before .before .before .before .before .before .before .before .before .before .before .before .before .before .before .before .before .before .before .before .before .before .before .before .before .before .before .before .before .before .before .before .before .before .before .before .before .before .before .args .t2) (c .before .before .before .before .before .before .before .before .before .before .before .before .before .before .before .before .before .before .before .before .before .before .before .before .before .before .before .before .before .before .before .before .before .before .before .before .before .before .before .before .before .args .count) (c .before .before .before .before .before .before .before .before .before .before .before .before .before .before .before .before .before .before .before .before .before .before .before .before .before .before .before .before .before .before .before .before .before .before .before .before .before .before .before .before .before .args .seed) (c .before .before .before .before .before .before .before .before .before .before .before .before .before .before .before .before .before .before .before .before .before .before .before .before .before .before .before .before .before .before .before .before .before .before .before .before .before .before .before .before .before .args .draws) in
@@ -739,7 +645,6 @@ element-set-from-after-3 c =
     let nm = named-below r p (c .before .before .before .before .before .before .before .before .before .before .before .before .before .before .before .before .before .before .before .before .before .before .before .before .before .before .before .before .before .before .before .draw .result) (c .before .before .before .before .before .before .before .before .before .before .before .before .before .before .before .before .before .before .before .before .before .before .before .before .before .before .before .before .before .before .event-of .result) ok (c .before .before .before .before .before .before .before .before .before .before .before .before .before .before .before .before .before .before .before .before .before .before .before .before .before .before .before .before .before .before .event-of .ensures) in
     omega (arith, nm .0, val .few)
 
--- src/player.rt:171:25
 cast-u : tie.Need-cast-u Inv-loop μ-loop
 cast-u c =
     let r = runWith (c .before .before .before .before .before .before .before .before .before .before .before .before .before .before .before .before .before .before .before .before .before .before .before .before .before .before .before .before .before .before .before .before .before .before .before .before .before .before .before .before .before .args .network) (c .before .before .before .before .before .before .before .before .before .before .before .before .before .before .before .before .before .before .before .before .before .before .before .before .before .before .before .before .before .before .before .before .before .before .before .before .before .before .before .before .before .args .t2) (c .before .before .before .before .before .before .before .before .before .before .before .before .before .before .before .before .before .before .before .before .before .before .before .before .before .before .before .before .before .before .before .before .before .before .before .before .before .before .before .before .before .args .count) (c .before .before .before .before .before .before .before .before .before .before .before .before .before .before .before .before .before .before .before .before .before .before .before .before .before .before .before .before .before .before .before .before .before .before .before .before .before .before .before .before .before .args .seed) (c .before .before .before .before .before .before .before .before .before .before .before .before .before .before .before .before .before .before .before .before .before .before .before .before .before .before .before .before .before .before .before .before .before .before .before .before .before .before .before .before .before .args .draws) in
@@ -751,7 +656,6 @@ cast-u c =
     let small : c .before .before .before .before .step .result .byte < 64 = pa (rw (c .enum-told5 .given .1) refl) in
     omega (arith, small)
 
--- src/player.rt:172:25
 cast-k : tie.Need-cast-k Inv-loop μ-loop
 cast-k c =
     let r = runWith (c .before .before .before .before .before .before .before .before .before .before .before .before .before .before .before .before .before .before .before .before .before .before .before .before .before .before .before .before .before .before .before .before .before .before .before .before .before .before .before .before .before .args .network) (c .before .before .before .before .before .before .before .before .before .before .before .before .before .before .before .before .before .before .before .before .before .before .before .before .before .before .before .before .before .before .before .before .before .before .before .before .before .before .before .before .before .args .t2) (c .before .before .before .before .before .before .before .before .before .before .before .before .before .before .before .before .before .before .before .before .before .before .before .before .before .before .before .before .before .before .before .before .before .before .before .before .before .before .before .before .before .args .count) (c .before .before .before .before .before .before .before .before .before .before .before .before .before .before .before .before .before .before .before .before .before .before .before .before .before .before .before .before .before .before .before .before .before .before .before .before .before .before .before .before .before .args .seed) (c .before .before .before .before .before .before .before .before .before .before .before .before .before .before .before .before .before .before .before .before .before .before .before .before .before .before .before .before .before .before .before .before .before .before .before .before .before .before .before .before .before .args .draws) in
@@ -763,7 +667,6 @@ cast-k c =
     let small : c .before .before .before .before .step .result .byte < 64 = pa (rw (c .enum-told5 .given .1) refl) in
     omega (arith, small)
 
--- src/player.rt:172:25
 add-k : tie.Need-add-k Inv-loop μ-loop
 add-k c =
     let r = runWith (c .before .before .before .before .before .before .before .before .before .before .before .before .before .before .before .before .before .before .before .before .before .before .before .before .before .before .before .before .before .before .before .before .before .before .before .before .before .before .before .before .before .args .network) (c .before .before .before .before .before .before .before .before .before .before .before .before .before .before .before .before .before .before .before .before .before .before .before .before .before .before .before .before .before .before .before .before .before .before .before .before .before .before .before .before .before .args .t2) (c .before .before .before .before .before .before .before .before .before .before .before .before .before .before .before .before .before .before .before .before .before .before .before .before .before .before .before .before .before .before .before .before .before .before .before .before .before .before .before .before .before .args .count) (c .before .before .before .before .before .before .before .before .before .before .before .before .before .before .before .before .before .before .before .before .before .before .before .before .before .before .before .before .before .before .before .before .before .before .before .before .before .before .before .before .before .args .seed) (c .before .before .before .before .before .before .before .before .before .before .before .before .before .before .before .before .before .before .before .before .before .before .before .before .before .before .before .before .before .before .before .before .before .before .before .before .before .before .before .before .before .args .draws) in
@@ -775,7 +678,6 @@ add-k c =
     let small : c .before .before .before .before .step .result .byte < 64 = pa (rw (c .enum-told5 .given .1) refl) in
     omega (arith, small)
 
--- src/player.rt:173:31
 mul-end : tie.Need-mul-end Inv-loop μ-loop
 mul-end c =
     let r = runWith (c .before .before .before .before .before .before .before .before .before .before .before .before .before .before .before .before .before .before .before .before .before .before .before .before .before .before .before .before .before .before .before .before .before .before .before .before .before .before .before .before .before .args .network) (c .before .before .before .before .before .before .before .before .before .before .before .before .before .before .before .before .before .before .before .before .before .before .before .before .before .before .before .before .before .before .before .before .before .before .before .before .before .before .before .before .before .args .t2) (c .before .before .before .before .before .before .before .before .before .before .before .before .before .before .before .before .before .before .before .before .before .before .before .before .before .before .before .before .before .before .before .before .before .before .before .before .before .before .before .before .before .args .count) (c .before .before .before .before .before .before .before .before .before .before .before .before .before .before .before .before .before .before .before .before .before .before .before .before .before .before .before .before .before .before .before .before .before .before .before .before .before .before .before .before .before .args .seed) (c .before .before .before .before .before .before .before .before .before .before .before .before .before .before .before .before .before .before .before .before .before .before .before .before .before .before .before .before .before .before .before .before .before .before .before .before .before .before .before .before .before .args .draws) in
@@ -787,7 +689,6 @@ mul-end c =
     let small : c .before .before .before .before .step .result .byte < 64 = pa (rw (c .enum-told5 .given .1) refl) in
     omega (arith, small)
 
--- src/player.rt:173:31
 element-copy-out-end : tie.Need-element-copy-out-end Inv-loop μ-loop
 element-copy-out-end c =
     let r = runWith (c .before .before .before .before .before .before .before .before .before .before .before .before .before .before .before .before .before .before .before .before .before .before .before .before .before .before .before .before .before .before .before .before .before .before .before .before .before .before .before .before .before .args .network) (c .before .before .before .before .before .before .before .before .before .before .before .before .before .before .before .before .before .before .before .before .before .before .before .before .before .before .before .before .before .before .before .before .before .before .before .before .before .before .before .before .before .args .t2) (c .before .before .before .before .before .before .before .before .before .before .before .before .before .before .before .before .before .before .before .before .before .before .before .before .before .before .before .before .before .before .before .before .before .before .before .before .before .before .before .before .before .args .count) (c .before .before .before .before .before .before .before .before .before .before .before .before .before .before .before .before .before .before .before .before .before .before .before .before .before .before .before .before .before .before .before .before .before .before .before .before .before .before .before .before .before .args .seed) (c .before .before .before .before .before .before .before .before .before .before .before .before .before .before .before .before .before .before .before .before .before .before .before .before .before .before .before .before .before .before .before .before .before .before .before .before .before .before .before .before .before .args .draws) in
@@ -799,7 +700,6 @@ element-copy-out-end c =
     let small : c .before .before .before .before .step .result .byte < 64 = pa (rw (c .enum-told5 .given .1) refl) in
     omega (arith, small)
 
--- src/player.rt:174:17
 mul-input : tie.Need-mul-input Inv-loop μ-loop
 mul-input c =
     let r = runWith (c .before .before .before .before .before .before .before .before .before .before .before .before .before .before .before .before .before .before .before .before .before .before .before .before .before .before .before .before .before .before .before .before .before .before .before .before .before .before .before .before .before .before .args .network) (c .before .before .before .before .before .before .before .before .before .before .before .before .before .before .before .before .before .before .before .before .before .before .before .before .before .before .before .before .before .before .before .before .before .before .before .before .before .before .before .before .before .before .args .t2) (c .before .before .before .before .before .before .before .before .before .before .before .before .before .before .before .before .before .before .before .before .before .before .before .before .before .before .before .before .before .before .before .before .before .before .before .before .before .before .before .before .before .before .args .count) (c .before .before .before .before .before .before .before .before .before .before .before .before .before .before .before .before .before .before .before .before .before .before .before .before .before .before .before .before .before .before .before .before .before .before .before .before .before .before .before .before .before .before .args .seed) (c .before .before .before .before .before .before .before .before .before .before .before .before .before .before .before .before .before .before .before .before .before .before .before .before .before .before .before .before .before .before .before .before .before .before .before .before .before .before .before .before .before .before .args .draws) in
@@ -811,7 +711,6 @@ mul-input c =
     let small : c .before .before .before .before .before .step .result .byte < 64 = pa (rw (c .before .enum-told5 .given .1) refl) in
     omega (arith, small)
 
--- src/player.rt:174:17
 element-set-from-input : tie.Need-element-set-from-input Inv-loop μ-loop
 element-set-from-input c =
     let r = runWith (c .before .before .before .before .before .before .before .before .before .before .before .before .before .before .before .before .before .before .before .before .before .before .before .before .before .before .before .before .before .before .before .before .before .before .before .before .before .before .before .before .before .before .args .network) (c .before .before .before .before .before .before .before .before .before .before .before .before .before .before .before .before .before .before .before .before .before .before .before .before .before .before .before .before .before .before .before .before .before .before .before .before .before .before .before .before .before .before .args .t2) (c .before .before .before .before .before .before .before .before .before .before .before .before .before .before .before .before .before .before .before .before .before .before .before .before .before .before .before .before .before .before .before .before .before .before .before .before .before .before .before .before .before .before .args .count) (c .before .before .before .before .before .before .before .before .before .before .before .before .before .before .before .before .before .before .before .before .before .before .before .before .before .before .before .before .before .before .before .before .before .before .before .before .before .before .before .before .before .before .args .seed) (c .before .before .before .before .before .before .before .before .before .before .before .before .before .before .before .before .before .before .before .before .before .before .before .before .before .before .before .before .before .before .before .before .before .before .before .before .before .before .before .before .before .before .args .draws) in
@@ -823,7 +722,6 @@ element-set-from-input c =
     let small : c .before .before .before .before .before .step .result .byte < 64 = pa (rw (c .before .enum-told5 .given .1) refl) in
     omega (arith, small)
 
--- src/player.rt:175:17
 mul-t125 : tie.Need-mul-t125 Inv-loop μ-loop
 mul-t125 c =
     let r = runWith (c .before .before .before .before .before .before .before .before .before .before .before .before .before .before .before .before .before .before .before .before .before .before .before .before .before .before .before .before .before .before .before .before .before .before .before .before .before .before .before .before .before .before .args .network) (c .before .before .before .before .before .before .before .before .before .before .before .before .before .before .before .before .before .before .before .before .before .before .before .before .before .before .before .before .before .before .before .before .before .before .before .before .before .before .before .before .before .before .args .t2) (c .before .before .before .before .before .before .before .before .before .before .before .before .before .before .before .before .before .before .before .before .before .before .before .before .before .before .before .before .before .before .before .before .before .before .before .before .before .before .before .before .before .before .args .count) (c .before .before .before .before .before .before .before .before .before .before .before .before .before .before .before .before .before .before .before .before .before .before .before .before .before .before .before .before .before .before .before .before .before .before .before .before .before .before .before .before .before .before .args .seed) (c .before .before .before .before .before .before .before .before .before .before .before .before .before .before .before .before .before .before .before .before .before .before .before .before .before .before .before .before .before .before .before .before .before .before .before .before .before .before .before .before .before .before .args .draws) in
@@ -835,7 +733,6 @@ mul-t125 c =
     let small : c .before .before .before .before .before .step .result .byte < 64 = pa (rw (c .before .enum-told5 .given .1) refl) in
     omega (arith, small)
 
--- src/player.rt:175:17
 element-set-from-state : tie.Need-element-set-from-state Inv-loop μ-loop
 element-set-from-state c =
     let r = runWith (c .before .before .before .before .before .before .before .before .before .before .before .before .before .before .before .before .before .before .before .before .before .before .before .before .before .before .before .before .before .before .before .before .before .before .before .before .before .before .before .before .before .before .args .network) (c .before .before .before .before .before .before .before .before .before .before .before .before .before .before .before .before .before .before .before .before .before .before .before .before .before .before .before .before .before .before .before .before .before .before .before .before .before .before .before .before .before .before .args .t2) (c .before .before .before .before .before .before .before .before .before .before .before .before .before .before .before .before .before .before .before .before .before .before .before .before .before .before .before .before .before .before .before .before .before .before .before .before .before .before .before .before .before .before .args .count) (c .before .before .before .before .before .before .before .before .before .before .before .before .before .before .before .before .before .before .before .before .before .before .before .before .before .before .before .before .before .before .before .before .before .before .before .before .before .before .before .before .before .before .args .seed) (c .before .before .before .before .before .before .before .before .before .before .before .before .before .before .before .before .before .before .before .before .before .before .before .before .before .before .before .before .before .before .before .before .before .before .before .before .before .before .before .before .before .before .args .draws) in
@@ -847,11 +744,9 @@ element-set-from-state c =
     let small : c .before .before .before .before .before .step .result .byte < 64 = pa (rw (c .before .enum-told5 .given .1) refl) in
     omega (arith, small)
 
--- src/player.rt:79:5
 loop-less-9 : tie.Need-loop-less-9 Inv-loop μ-loop
 loop-less-9 c = omega (arith, c .before .before .before .before .before .before .before .before .before .before .before .before .before .before .before .before .before .before .before .before .before .before .before .before .before .before .before .before .before .before .before .before .before .before .before .before .before .loop-test .taken)
 
--- src/player.rt:79:5
 loop-again-9 : tie.Need-loop-again-9 Inv-loop μ-loop
 loop-again-9 c =
     let r = runWith (c .before .before .before .before .before .before .before .before .before .before .before .before .before .before .before .before .before .before .before .before .before .before .before .before .before .before .before .before .before .before .before .before .before .before .before .before .before .before .before .before .before .before .args .network) (c .before .before .before .before .before .before .before .before .before .before .before .before .before .before .before .before .before .before .before .before .before .before .before .before .before .before .before .before .before .before .before .before .before .before .before .before .before .before .before .before .before .before .args .t2) (c .before .before .before .before .before .before .before .before .before .before .before .before .before .before .before .before .before .before .before .before .before .before .before .before .before .before .before .before .before .before .before .before .before .before .before .before .before .before .before .before .before .before .args .count) (c .before .before .before .before .before .before .before .before .before .before .before .before .before .before .before .before .before .before .before .before .before .before .before .before .before .before .before .before .before .before .before .before .before .before .before .before .before .before .before .before .before .before .args .seed) (c .before .before .before .before .before .before .before .before .before .before .before .before .before .before .before .before .before .before .before .before .before .before .before .before .before .before .before .before .before .before .before .before .before .before .before .before .before .before .before .before .before .before .args .draws) in
@@ -866,7 +761,6 @@ loop-again-9 c =
     let fr = far-read (c .before .before .before .before .before .before .before .before .before .before .before .before .before .before .before .before .before .before .before .before .before .before .before .before .before .before .before .before .before .before .before .before .before .before .before .before .before .before .before .before .before .before .args .network) val (c .before .before .before .before .before .before .before .before .before .before .before .before .before .before .before .before .before .before .before .before .before .before .before .before .before .before .before .before .before .before .before .before .before .before .before .before .before .before .loop .state .sites) (c .before .before .before .before .before .before .before .before .before .before .before .before .before .before .before .before .before .before .before .before .before .before .before .before .before .before .before .before .before .before .before .event-of .result .site) (nm .0) (c .before .before .before .before .before .before .before .before .before .before .before .before .before .before .before .before .before .before .before .before .before .before .before .before .before .before .end-site .result) (c .before .before .before .before .before .before .before .before .before .before .before .before .before .before .before .before .before .before .before .before .before .before .end-site2 .result) (c .before .before .before .before .before .before .before .before .before .before .before .before .before .before .before .before .before .before .end-site3 .result) (c .before .before .before .before .before .before .before .before .before .before .before .before .before .before .end-site4 .result) (c .before .before .before .before .before .before .before .before .before .before .before .before .before .before .before .before .before .before .before .before .before .before .before .end-input .result) (c .before .before .before .before .before .before .before .before .before .before .before .before .before .before .before .before .before .before .before .end-input2 .result) (c .before .before .before .before .before .before .before .before .before .before .before .before .before .before .before .end-input3 .result) (c .before .before .before .before .before .before .before .before .before .before .before .end-input4 .result) (c .before .before .before .before .before .before .before .before .before .before .before .before .before .before .before .before .before .before .before .before .before .before .before .before .before .before .end-site .ensures .0) (c .before .before .before .before .before .before .before .before .before .before .before .before .before .before .before .before .before .before .before .before .before .before .end-site2 .ensures .0) (c .before .before .before .before .before .before .before .before .before .before .before .before .before .before .before .before .before .before .end-site3 .ensures .0) (c .before .before .before .before .before .before .before .before .before .before .before .before .before .before .end-site4 .ensures .0) (c .before .before .before .before .before .before .before .before .before .before .before .before .before .before .before .before .before .before .before .before .before .before .before .end-input .ensures) (c .before .before .before .before .before .before .before .before .before .before .before .before .before .before .before .before .before .before .before .end-input2 .ensures) (c .before .before .before .before .before .before .before .before .before .before .before .before .before .before .before .end-input3 .ensures) (c .before .before .before .before .before .before .before .before .before .before .before .end-input4 .ensures) in
     (omega (arith, c .before .before .before .before .before .before .before .before .before .before .before .before .before .before .before .before .before .before .before .before .before .before .before .before .before .before .before .before .before .before .before .before .before .before .before .before .before .loop-test .taken), c .before .before .before .before .before .before .before .before .before .before .before .before .before .before .before .before .before .before .before .before .before .before .before .before .before .before .before .before .before .before .before .before .before .before .before .before .before .before .loop .inv .1, one-turn r _ (c .before .before .before .before .before .before .before .before .before .before .before .before .before .before .before .before .before .before .before .before .before .before .before .before .before .before .before .before .before .before .before .before .before .before .before .before .before .before .loop .turn) p _ (c .before .before .before .before .before .before .before .before .before .before .before .before .before .before .before .before .before .before .before .before .before .before .before .before .before .before .before .before .before .before .before .before .before .before .before .before .before .before .loop .inv .2) (rw (c .before .before .before .before .before .before .before .before .before .before .before .before .before .before .before .before .before .before .before .before .before .before .before .before .before .before .before .before .before .before .ticked .ensures) (did-pass r p (c .before .before .before .before .before .before .before .before .before .before .before .before .before .before .before .before .before .before .before .before .before .before .before .before .before .before .before .before .before .before .before .before .draw .result) (c .before .before .before .before .before .before .before .before .before .before .before .before .before .before .before .before .before .before .before .before .before .before .before .before .before .before .before .before .before .before .before .event-of .result) ok t (c .before .before .before .before .before .before .before .before .before .before .before .before .before .before .before .before .before .before .before .before .before .before .before .before .before .before .before .before .before .before .before .before .draw .ensures) (c .before .before .before .before .before .before .before .before .before .before .before .before .before .before .before .before .before .before .before .before .before .before .before .before .before .before .before .before .before .before .before .event-of .ensures) far (c .before .before .before .before .before .step .result) fr (c .before .before .before .before .before .step .ensures) (c .before .enum-told5 .given .1))))
 
--- src/player.rt:180:9
 owed-pairs-requires : tie.Need-owed-pairs-requires Inv-loop μ-loop
 owed-pairs-requires c κs =
     let r = runWith (c .before .before .before .before .before .args .network) (c .before .before .before .before .before .args .t2) (c .before .before .before .before .before .args .count) (c .before .before .before .before .before .args .seed) (c .before .before .before .before .before .args .draws) in
@@ -875,14 +769,12 @@ owed-pairs-requires c κs =
     let val = valid-ok (c .before .before .before .before .before .args .network) ok in
     queues-fit (c .before .before .before .before .before .args .network) val (c .before .loop .state) (in-range-of r _ (c .before .before .before .before .before .pre .0) (c .before .loop .turn) p (c .before .loop .inv .2))
 
--- src/player.rt:54:1
 same-length : tie.Need-same-length Inv-loop μ-loop
 same-length c =
     let r = runWith (c .before .before .before .before .before .before .args .network) (c .before .before .before .before .before .before .args .t2) (c .before .before .before .before .before .before .args .count) (c .before .before .before .before .before .before .args .seed) (c .before .before .before .before .before .before .args .draws) in
     let p : Progress = record { state = c .before .before .loop .state; value = c .before .before .loop .clock .value; next = c .before .before .loop .next; draw = c .before .before .loop .clock .draw; accepted = c .before .before .loop .accepted; pairs = c .before .before .loop .pairs; serviced = c .before .before .loop .serviced; book = c .before .before .loop .book } in
     facts-of r _ (c .before .before .loop .turn) p (c .before .before .loop .inv .2) .kept
 
--- src/player.rt:54:1
 returns : tie.Need-returns Inv-loop μ-loop
 returns c =
     let r = runWith (c .before .before .before .before .before .before .args .network) (c .before .before .before .before .before .before .args .t2) (c .before .before .before .before .before .before .args .count) (c .before .before .before .before .before .before .args .seed) (c .before .before .before .before .before .before .args .draws) in

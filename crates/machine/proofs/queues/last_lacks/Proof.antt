@@ -8,27 +8,21 @@ use Rattle.machine.proofs.queues.last_lacks.Reads as reads
 use Rattle.machine.proofs.queues.last_lacks.Lts as lts
 use Rattle.machine.proofs.phases.is_none.Reads as is-none-reads
 
--- src/queues.rt:91:9
 returns : tie.Need-returns
 returns c = rw (le-ltb 0 (c .before .args .t1 .count) (omega arith)) refl
 
--- src/queues.rt:93:30
 sub-last : tie.Need-sub-last
 sub-last c = search needs
 
--- src/queues.rt:93:16
 mul-last : tie.Need-mul-last
 mul-last c = search needs
 
--- src/queues.rt:93:16
 element-copy-out-last : tie.Need-element-copy-out-last
 element-copy-out-last c = search needs
 
--- src/queues.rt:95:5
 is-none-requires : tie.Need-is-none-requires
 is-none-requires c κs = search needs
 
--- src/queues.rt:85:1
 returns-2 : tie.Need-returns-2
 returns-2 c = rw (c .is-none .ensures, lt-ltb 0 (c .before .before .before .args .t1 .count) (search needs)) refl
 

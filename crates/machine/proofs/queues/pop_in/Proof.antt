@@ -6,15 +6,12 @@ use Rattle.machine.proofs.queues.pop_in.Reads as reads
 use Rattle.machine.proofs.queues.pop_in.Lts as lts
 use Rattle.machine.proofs.queues.shift_in.Reads as shift-in-reads
 
--- src/queues.rt:95:9
 shift-in-requires : tie.Need-shift-in-requires
 shift-in-requires c κs = search needs
 
--- src/queues.rt:98:16
 sub-t5 : tie.Need-sub-t5
 sub-t5 c = search needs
 
--- src/queues.rt:89:1
 returns : tie.Need-returns
 returns c = rw (c .shift-in .ensures) refl
 

@@ -6,15 +6,12 @@ use Rattle.machine.proofs.queues.pop_out.Reads as reads
 use Rattle.machine.proofs.queues.pop_out.Lts as lts
 use Rattle.machine.proofs.queues.shift_out.Reads as shift-out-reads
 
--- src/queues.rt:45:9
 shift-out-requires : tie.Need-shift-out-requires
 shift-out-requires c κs = search needs
 
--- src/queues.rt:48:16
 sub-t5 : tie.Need-sub-t5
 sub-t5 c = search needs
 
--- src/queues.rt:39:1
 returns : tie.Need-returns
 returns c = rw (c .shift-out .ensures) refl
 

@@ -5,35 +5,27 @@ use Rattle.machine.proofs.queues.shift_in.Tie as tie
 use Rattle.machine.proofs.queues.shift_in.Reads as reads
 use Rattle.machine.proofs.queues.shift_in.Lts as lts
 
--- src/queues.rt:86:6
 array-copy-out-t7 : tie.Need-array-copy-out-t7
 array-copy-out-t7 c = search needs
 
--- src/queues.rt:86:14
 array-copy-out-t10 : tie.Need-array-copy-out-t10
 array-copy-out-t10 c = search needs
 
--- src/queues.rt:86:22
 array-copy-out-t13 : tie.Need-array-copy-out-t13
 array-copy-out-t13 c = search needs
 
--- src/queues.rt:86:30
 array-copy-out-t16 : tie.Need-array-copy-out-t16
 array-copy-out-t16 c = search needs
 
--- src/queues.rt:86:38
 array-copy-out-t19 : tie.Need-array-copy-out-t19
 array-copy-out-t19 c = search needs
 
--- src/queues.rt:86:46
 array-copy-out-t22 : tie.Need-array-copy-out-t22
 array-copy-out-t22 c = search needs
 
--- src/queues.rt:86:54
 array-copy-out-t25 : tie.Need-array-copy-out-t25
 array-copy-out-t25 c = search needs
 
--- src/queues.rt:78:1
 returns : tie.Need-returns
 returns c = popped _ (c .before .before .before .before .before .before .before .args .t1) (search needs)
 

@@ -5,35 +5,27 @@ use Rattle.machine.proofs.queues.shift_out.Tie as tie
 use Rattle.machine.proofs.queues.shift_out.Reads as reads
 use Rattle.machine.proofs.queues.shift_out.Lts as lts
 
--- src/queues.rt:36:6
 array-copy-out-t6 : tie.Need-array-copy-out-t6
 array-copy-out-t6 c = search needs
 
--- src/queues.rt:36:14
 array-copy-out-t9 : tie.Need-array-copy-out-t9
 array-copy-out-t9 c = search needs
 
--- src/queues.rt:36:22
 array-copy-out-t12 : tie.Need-array-copy-out-t12
 array-copy-out-t12 c = search needs
 
--- src/queues.rt:36:30
 array-copy-out-t15 : tie.Need-array-copy-out-t15
 array-copy-out-t15 c = search needs
 
--- src/queues.rt:36:38
 array-copy-out-t18 : tie.Need-array-copy-out-t18
 array-copy-out-t18 c = search needs
 
--- src/queues.rt:36:46
 array-copy-out-t21 : tie.Need-array-copy-out-t21
 array-copy-out-t21 c = search needs
 
--- src/queues.rt:36:54
 array-copy-out-t24 : tie.Need-array-copy-out-t24
 array-copy-out-t24 c = search needs
 
--- src/queues.rt:28:1
 returns : tie.Need-returns
 returns c = popped _ (c .before .before .before .before .before .before .before .args .t1) (search needs)
 

@@ -7,31 +7,24 @@ use Rattle.machine.proofs.router.can_serve.Tie as tie
 use Rattle.machine.proofs.router.can_serve.Reads as reads
 use Rattle.machine.proofs.router.can_serve.Lts as lts
 
--- src/router.rt:43:9
 returns : tie.Need-returns
 returns c = rw (lt-leb 1 _ (c .if1 .taken)) refl
 
--- src/router.rt:46:9
 returns-2 : tie.Need-returns-2
 returns-2 c = let a = c .before .before .args in rw (le-leb 1 (a .p) (omega arith), lt-leb (a .p) 4 (c .if2 .taken)) refl
 
--- src/router.rt:48:18
 mul-output : tie.Need-mul-output
 mul-output c = search needs
 
--- src/router.rt:48:18
 array-copy-out-output : tie.Need-array-copy-out-output
 array-copy-out-output c = search needs
 
--- src/router.rt:50:14
 mul-result : tie.Need-mul-result
 mul-result c = search needs
 
--- src/router.rt:50:14
 array-read-result : tie.Need-array-read-result
 array-read-result c = search needs
 
--- src/router.rt:39:1
 returns-3 : tie.Need-returns-3
 returns-3 c = let a = c .before .before .before .before .args in rw (le-leb 1 (a .p) (omega arith), le-leb (a .p) 4 (omega arith)) refl
 

@@ -21,32 +21,25 @@ Inv-loop sets n₀ j₀ n j = (j ≤ 5) × (n ≤ j) × (n ≡ sum (λ z. count 
 abbrev μ-loop : tie.MeasureT-loop
 μ-loop sets n₀ j₀ n j = 5 - j
 
--- src/router.rt:97:5
 loop-holds : tie.Need-loop-holds Inv-loop μ-loop
 unfolding sum
 loop-holds c = (omega arith, omega arith, refl)
 
--- src/router.rt:98:12
 mul-if1 : tie.Need-mul-if1 Inv-loop μ-loop
 mul-if1 c = search needs
 
--- src/router.rt:98:12
 array-read-if1 : tie.Need-array-read-if1 Inv-loop μ-loop
 array-read-if1 c = search needs
 
--- src/router.rt:99:13
 add-n : tie.Need-add-n Inv-loop μ-loop
 add-n c = omega arith
 
--- src/router.rt:97:9
 add-j : tie.Need-add-j Inv-loop μ-loop
 add-j c = search needs
 
--- src/router.rt:97:5
 loop-less : tie.Need-loop-less Inv-loop μ-loop
 loop-less c = search needs
 
--- src/router.rt:97:5
 loop-again : tie.Need-loop-again Inv-loop μ-loop
 loop-again c =
     let l = c .before .before .loop in
@@ -54,7 +47,6 @@ loop-again c =
     let s = sum-next (λ z. count (not (eqb z 0))) (c .before .before .before .args .t1) (l .j) 0 (omega arith) in
     ⊎-elim (λ w. (omega arith, omega arith, omega (arith, l .inv .2, s, w .1, ap (λ b. count (not b)) (ne-eqb _ 0 (w .0 .taken))))) (λ w. (omega arith, omega arith, omega (arith, l .inv .2, s, w .1, ap (λ b. count (not b)) (eq-eqb _ 0 (w .0 .left))))) (c .if1 .came)
 
--- src/router.rt:93:1
 returns : tie.Need-returns Inv-loop μ-loop
 returns c =
     let l = c .before .loop in

@@ -7,43 +7,34 @@ use Rattle.machine.proofs.router.first_chosen.Tie as tie
 use Rattle.machine.proofs.router.first_chosen.Reads as reads
 use Rattle.machine.proofs.router.first_chosen.Lts as lts
 
--- src/router.rt:109:8
 array-read-if1 : tie.Need-array-read-if1
 array-read-if1 c = search needs
 
--- src/router.rt:110:9
 returns : tie.Need-returns
 unfolding firstPort
 returns c = rw (ne-eqb _ 0 (c .if1 .taken)) refl
 
--- src/router.rt:112:8
 array-read-if2 : tie.Need-array-read-if2
 array-read-if2 c = search needs
 
--- src/router.rt:113:9
 returns-2 : tie.Need-returns-2
 unfolding firstPort
 returns-2 c = rw (eq-eqb _ 0 (c .before .if1 .left), ne-eqb _ 0 (c .if2 .taken)) refl
 
--- src/router.rt:115:8
 array-read-if3 : tie.Need-array-read-if3
 array-read-if3 c = search needs
 
--- src/router.rt:116:9
 returns-3 : tie.Need-returns-3
 unfolding firstPort
 returns-3 c = rw (eq-eqb _ 0 (c .before .before .if1 .left), eq-eqb _ 0 (c .before .if2 .left), ne-eqb _ 0 (c .if3 .taken)) refl
 
--- src/router.rt:118:8
 array-read-if4 : tie.Need-array-read-if4
 array-read-if4 c = search needs
 
--- src/router.rt:119:9
 returns-4 : tie.Need-returns-4
 unfolding firstPort
 returns-4 c = rw (eq-eqb _ 0 (c .before .before .before .if1 .left), eq-eqb _ 0 (c .before .before .if2 .left), eq-eqb _ 0 (c .before .if3 .left), ne-eqb _ 0 (c .if4 .taken)) refl
 
--- src/router.rt:106:1
 returns-5 : tie.Need-returns-5
 unfolding firstPort
 returns-5 c = rw (eq-eqb _ 0 (c .before .before .before .if1 .left), eq-eqb _ 0 (c .before .before .if2 .left), eq-eqb _ 0 (c .before .if3 .left), eq-eqb _ 0 (c .if4 .left)) refl

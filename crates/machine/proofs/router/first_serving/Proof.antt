@@ -17,39 +17,30 @@ Inv-loop outputs sets list k₀ k = (k ≤ 4) × (firstPort (serves outputs sets
 abbrev μ-loop : tie.MeasureT-loop
 μ-loop outputs sets list k₀ k = 4 - k
 
--- src/router.rt:57:5
 loop-holds : tie.Need-loop-holds Inv-loop μ-loop
 loop-holds c = (omega arith, refl)
 
--- src/router.rt:58:17
 mul-p : tie.Need-mul-p Inv-loop μ-loop
 mul-p c = search needs
 
--- src/router.rt:58:17
 array-read-p : tie.Need-array-read-p Inv-loop μ-loop
 array-read-p c = search needs
 
--- src/router.rt:59:12
 can-serve-requires : tie.Need-can-serve-requires Inv-loop μ-loop
 can-serve-requires c κs = search needs
 
--- src/router.rt:60:13
 returns : tie.Need-returns Inv-loop μ-loop
 returns c = let l = c .before .before .before .loop in let e : length (c .before .before .before .before .args .t3) ≡ 4 = search needs in sym (port-hit _ (c .before .before .before .before .args .t3) (l .k) (omega arith) (sym (c .before .can-serve .ensures) ∙ c .if1 .taken)) ∙ l .inv .1
 
--- src/router.rt:57:9
 add-k : tie.Need-add-k Inv-loop μ-loop
 add-k c = search needs
 
--- src/router.rt:57:5
 loop-less : tie.Need-loop-less Inv-loop μ-loop
 loop-less c = search needs
 
--- src/router.rt:57:5
 loop-again : tie.Need-loop-again Inv-loop μ-loop
 loop-again c = let l = c .before .before .before .loop in let e : length (c .before .before .before .before .args .t3) ≡ 4 = search needs in (omega arith, port-miss _ (c .before .before .before .before .args .t3) (l .k) (omega arith) (sym (c .before .can-serve .ensures) ∙ c .if1 .left) ∙ l .inv .1)
 
--- src/router.rt:54:1
 returns-2 : tie.Need-returns-2 Inv-loop μ-loop
 returns-2 c = let l = c .before .loop in let e : length (c .before .before .args .t3) ≡ 4 = search needs in sym (port-none _ (c .before .before .args .t3) (l .k) (omega arith)) ∙ l .inv .1
 

@@ -32,79 +32,60 @@ Inv-targets s outputs others network sites sets₀ t₀ sets t = (t ≤ sites) �
 abbrev μ-targets : tie.MeasureT-targets
 μ-targets s outputs others network sites sets₀ t₀ sets t = sites - t
 
--- src/router.rt:73:5
 targets-holds : tie.Need-targets-holds Inv-loop μ-loop Inv-targets μ-targets
 targets-holds c = (omega arith, refl, starts _ _ _ _)
 
--- src/router.rt:74:12
 member-requires : tie.Need-member-requires Inv-loop μ-loop Inv-targets μ-targets
 member-requires c κs = search needs
 
--- src/router.rt:75:45
 mul-ports : tie.Need-mul-ports Inv-loop μ-loop Inv-targets μ-targets
 mul-ports c = omega (arith, place-below (c .before .before .before .before .args .s) (c .before .before .before .targets .t) (c .before .before .before .before .args .t1 .sites) 16 (omega arith) (omega arith) (omega arith))
 
--- src/router.rt:75:45
 add-ports : tie.Need-add-ports Inv-loop μ-loop Inv-targets μ-targets
 add-ports c = omega (arith, place-below (c .before .before .before .before .args .s) (c .before .before .before .targets .t) (c .before .before .before .before .args .t1 .sites) 16 (omega arith) (omega arith) (omega arith))
 
--- src/router.rt:75:30
 mul-ports-2 : tie.Need-mul-ports-2 Inv-loop μ-loop Inv-targets μ-targets
 mul-ports-2 c = omega (arith, place-below (c .before .before .before .before .args .s) (c .before .before .before .targets .t) (c .before .before .before .before .args .t1 .sites) 16 (omega arith) (omega arith) (omega arith))
 
--- src/router.rt:75:30
 element-copy-out-ports : tie.Need-element-copy-out-ports Inv-loop μ-loop Inv-targets μ-targets
 element-copy-out-ports c = omega (arith, place-below (c .before .before .before .before .args .s) (c .before .before .before .targets .t) (c .before .before .before .before .args .t1 .sites) 16 (omega arith) (omega arith) (omega arith))
 
--- src/router.rt:75:24
 ports-requires : tie.Need-ports-requires Inv-loop μ-loop Inv-targets μ-targets
 ports-requires c κs = search needs
 
--- src/router.rt:76:13
 loop-holds : tie.Need-loop-holds Inv-loop μ-loop Inv-targets μ-targets
 loop-holds c = let o = c .before .before .before .before .before .targets in (omega arith, omega arith, o .inv .1, sym (c .before .before .before .member .ensures) ∙ c .before .before .if1 .taken, ap (firstPort (serves (c .before .before .before .before .before .before .args .outputs) (o .sets))) (c .ports .ensures), o .inv .2, refl, c .ports .ensures)
 
--- src/router.rt:77:25
 mul-p : tie.Need-mul-p Inv-loop μ-loop Inv-targets μ-targets
 mul-p c = omega (arith, ap length (c .before .loop .inv .7))
 
--- src/router.rt:77:25
 array-read-p : tie.Need-array-read-p Inv-loop μ-loop Inv-targets μ-targets
 array-read-p c = omega (arith, ap length (c .before .loop .inv .7))
 
--- src/router.rt:78:20
 can-serve-requires : tie.Need-can-serve-requires Inv-loop μ-loop Inv-targets μ-targets
 can-serve-requires c κs = search needs
 
--- src/router.rt:79:42
 mul-with : tie.Need-mul-with Inv-loop μ-loop Inv-targets μ-targets
 mul-with c = let l = c .before .before .before .loop in omega (arith, is-port (c .before .before .before .before .before .before .before .before .before .before .args .outputs) (l .sets) (getD (c .before .before .before .before .ports .result) (l .k) 0) (sym (c .before .can-serve .ensures) ∙ c .if2 .taken))
 
--- src/router.rt:79:42
 array-read-with : tie.Need-array-read-with Inv-loop μ-loop Inv-targets μ-targets
 array-read-with c = let l = c .before .before .before .loop in omega (arith, l .inv .2, is-port (c .before .before .before .before .before .before .before .before .before .before .args .outputs) (l .sets) (getD (c .before .before .before .before .ports .result) (l .k) 0) (sym (c .before .can-serve .ensures) ∙ c .if2 .taken))
 
--- src/router.rt:79:31
 with-requires : tie.Need-with-requires Inv-loop μ-loop Inv-targets μ-targets
 with-requires c κs = search needs
 
--- src/router.rt:79:21
 mul-sets : tie.Need-mul-sets Inv-loop μ-loop Inv-targets μ-targets
 mul-sets c = let l = c .before .before .before .before .loop in omega (arith, is-port (c .before .before .before .before .before .before .before .before .before .before .before .args .outputs) (l .sets) (getD (c .before .before .before .before .before .ports .result) (l .k) 0) (sym (c .before .before .can-serve .ensures) ∙ c .before .if2 .taken))
 
--- src/router.rt:79:21
 array-write-sets : tie.Need-array-write-sets Inv-loop μ-loop Inv-targets μ-targets
 array-write-sets c = let l = c .before .before .before .before .loop in omega (arith, l .inv .2, is-port (c .before .before .before .before .before .before .before .before .before .before .before .args .outputs) (l .sets) (getD (c .before .before .before .before .before .ports .result) (l .k) 0) (sym (c .before .before .can-serve .ensures) ∙ c .before .if2 .taken))
 
--- src/router.rt:80:21
 add-t : tie.Need-add-t Inv-loop μ-loop Inv-targets μ-targets
 add-t c = search needs
 
--- src/router.rt:73:5
 targets-less : tie.Need-targets-less Inv-loop μ-loop Inv-targets μ-targets
 targets-less c = search needs
 
--- src/router.rt:73:5
 targets-again : tie.Need-targets-again Inv-loop μ-loop Inv-targets μ-targets
 targets-again c =
     let l = c .before .before .before .before .loop in
@@ -112,41 +93,33 @@ targets-again c =
     let len = ap length (l .inv .7) in
     (omega arith, simp length-set (l .inv .2), rw (c .with .ensures, lt-ltb (l .t) 64 (omega arith)) (with-port _ _ _ _ _ (l .t) (l .sets) (l .inv .1) _ (l .inv .3) (sym (l .inv .4) ∙ port-hit _ _ (l .k) (omega arith) e) (λ z. omega (arith, is-port (c .before .before .before .before .before .before .before .before .before .before .before .args .outputs) (l .sets) (getD (c .before .before .before .before .before .ports .result) (l .k) 0) e)) ∙ l .inv .5))
 
--- src/router.rt:76:17
 add-k : tie.Need-add-k Inv-loop μ-loop Inv-targets μ-targets
 add-k c = search needs
 
--- src/router.rt:76:13
 loop-less : tie.Need-loop-less Inv-loop μ-loop Inv-targets μ-targets
 loop-less c = search needs
 
--- src/router.rt:76:13
 loop-again : tie.Need-loop-again Inv-loop μ-loop Inv-targets μ-targets
 loop-again c =
     let l = c .before .before .before .loop in
     let len = ap length (l .inv .7) in
     (omega arith, l .inv .1, l .inv .2, l .inv .3, port-miss _ _ (l .k) (omega arith) (sym (c .before .can-serve .ensures) ∙ c .if2 .left) ∙ l .inv .4, l .inv .5, l .inv .6, l .inv .7)
 
--- src/router.rt:83:13
 returns : tie.Need-returns Inv-loop μ-loop Inv-targets μ-targets
 returns c =
     let l = c .before .loop in
     let len = ap length (l .inv .7) in
     ap ofGathered (sym (no-port _ _ _ _ _ (l .t) (l .sets) (l .inv .1) (l .inv .3) (sym (l .inv .4) ∙ port-none _ _ (l .k) (omega arith))) ∙ l .inv .5)
 
--- src/router.rt:73:19
 add-t-2 : tie.Need-add-t-2 Inv-loop μ-loop Inv-targets μ-targets
 add-t-2 c = search needs
 
--- src/router.rt:73:5
 targets-less-2 : tie.Need-targets-less-2 Inv-loop μ-loop Inv-targets μ-targets
 targets-less-2 c = search needs
 
--- src/router.rt:73:5
 targets-again-2 : tie.Need-targets-again-2 Inv-loop μ-loop Inv-targets μ-targets
 targets-again-2 c = let o = c .before .before .before .targets in (omega arith, o .inv .1, pass-by _ _ _ _ _ (o .t) (o .sets) (omega arith) (sym (c .before .member .ensures) ∙ c .if1 .left) ∙ o .inv .2)
 
--- src/router.rt:67:1
 returns-2 : tie.Need-returns-2 Inv-loop μ-loop Inv-targets μ-targets
 returns-2 c = let o = c .before .targets in ap ofGathered (sym (done _ _ _ _ _ (o .t) (o .sets) (omega arith)) ∙ o .inv .2)
 

@@ -26,79 +26,60 @@ use Rattle.sets.proofs.without.Reads as without-reads
 is-only : (s r : ℕ) → s < 64 → r ≡ cond (ltb s 64) (only s) 0 → r ≡ only s
 is-only s r h e = e ∙ ap (λ b. cond b (only s) 0) (lt-ltb s 64 h)
 
--- src/router.rt:193:15
 array-copy-out-own : tie.Need-array-copy-out-own
 array-copy-out-own c = search needs
 
--- src/router.rt:195:15
 only-requires : tie.Need-only-requires
 only-requires c κs = search needs
 
--- src/router.rt:197:13
 unserved-requires : tie.Need-unserved-requires
 unserved-requires c κs = search needs
 
--- src/router.rt:197:13
 returns : tie.Need-returns
 returns c = let a = c .before .before .before .before .before .args in rw (c .unserved .ensures) (ap ofChoice (sym (own-busy (a .network) (a .s) (a .set) (a .t3) (eq-eqb _ _ (c .before .before .if1 .taken ∙ is-only (a .s) (c .before .before .before .only .result) (omega arith) (c .before .before .before .only .ensures))) (ap not (c .before .if2 .taken)))))
 
--- src/router.rt:199:9
 one-output-requires : tie.Need-one-output-requires
 one-output-requires c κs = search needs
 
--- src/router.rt:199:9
 returns-2 : tie.Need-returns-2
 returns-2 c = let a = c .before .before .before .before .before .args in rw (c .one-output .ensures) (ap ofChoice (sym (own-empty (a .network) (a .s) (a .set) (a .t3) (eq-eqb _ _ (c .before .before .if1 .taken ∙ is-only (a .s) (c .before .before .before .only .result) (omega arith) (c .before .before .before .only .ensures))) (ap not (c .before .if2 .left)))))
 
--- src/router.rt:201:8
 is-single-requires : tie.Need-is-single-requires
 is-single-requires c κs = search needs
 
--- src/router.rt:202:72
 lowest-requires : tie.Need-lowest-requires
 lowest-requires c κs = search needs
 
--- src/router.rt:202:9
 to-other-requires : tie.Need-to-other-requires
 to-other-requires c κs = let a = c .before .before .before .before .before .before .args in (omega arith, omega arith, rw (c .lowest .ensures) (lowest-in (a .network .sites) (a .set) (omega arith) (omega arith) (omega arith)))
 
--- src/router.rt:202:9
 returns-3 : tie.Need-returns-3
 returns-3 c = let a = c .before .before .before .before .before .before .before .args in rw (c .to-other .ensures, c .before .lowest .ensures) (ap ofChoice (sym (route-single (a .network) (a .s) (a .set) (a .t3) (ne-eqb _ _ (λ e. c .before .before .before .before .if1 .left (e ∙ sym (is-only (a .s) (c .before .before .before .before .before .only .result) (omega arith) (c .before .before .before .before .before .only .ensures))))) (sym (c .before .before .before .is-single .ensures) ∙ c .before .before .if3 .taken))))
 
--- src/router.rt:204:9
 without-requires : tie.Need-without-requires
 without-requires c κs = search needs
 
--- src/router.rt:205:9
 lowest-requires-2 : tie.Need-lowest-requires-2
 lowest-requires-2 c κs = search needs
 
--- src/router.rt:207:9
 to-other-requires-2 : tie.Need-to-other-requires-2
 to-other-requires-2 c κs = let a = c .before .before .before .before .before .before .before .before .args in (omega arith, omega arith, rw (c .before .lowest2 .ensures, c .before .before .without .ensures) (other-in (a .network .sites) (a .s) (a .set) (omega arith) (omega arith) (omega arith) (omega arith) (sym (c .before .before .before .before .is-single .ensures) ∙ c .before .before .before .if3 .left)))
 
--- src/router.rt:207:9
 returns-4 : tie.Need-returns-4
 returns-4 c = let a = c .before .before .before .before .before .before .before .before .before .args in rw (c .to-other2 .ensures, c .before .before .lowest2 .ensures, c .before .before .before .without .ensures) (ap ofChoice (sym (route-busy (a .network) (a .s) (a .set) (a .t3) (ne-eqb _ _ (λ e. c .before .before .before .before .before .before .if1 .left (e ∙ sym (is-only (a .s) (c .before .before .before .before .before .before .before .only .result) (omega arith) (c .before .before .before .before .before .before .before .only .ensures))))) (sym (c .before .before .before .before .before .is-single .ensures) ∙ c .before .before .before .before .if3 .left) (ap not (c .before .if4 .taken)))))
 
--- src/router.rt:209:9
 gather-outputs-requires : tie.Need-gather-outputs-requires
 gather-outputs-requires c κs = search needs
 
--- src/router.rt:212:9
 spread-over-requires : tie.Need-spread-over-requires
 spread-over-requires c κs = search needs
 
--- src/router.rt:212:9
 returns-5 : tie.Need-returns-5
 returns-5 c = let a = c .before .before .before .before .before .before .before .before .before .before .before .before .args in rw (c .spread-over .ensures) (ap ofChoice (sym (route-every (a .network) (a .s) (a .set) (a .t3) (ne-eqb _ _ (λ e. c .before .before .before .before .before .before .before .before .before .if1 .left (e ∙ sym (is-only (a .s) (c .before .before .before .before .before .before .before .before .before .before .only .result) (omega arith) (c .before .before .before .before .before .before .before .before .before .before .only .ensures))))) (sym (c .before .before .before .before .before .before .before .before .is-single .ensures) ∙ c .before .before .before .before .before .before .before .if3 .left) _ (ap not (c .before .before .before .before .if4 .left)) (every-of _ (c .before .before .before .gather-outputs .result) (rw (← c .before .before .before .before .before .before .without .ensures) (c .before .before .before .gather-outputs .ensures)) (c .before .before .if5 .taken)))))
 
--- src/router.rt:214:5
 to-other-requires-3 : tie.Need-to-other-requires-3
 to-other-requires-3 c κs = let a = c .before .before .before .before .before .before .before .before .before .before .args in (omega arith, omega arith, rw (c .before .before .before .lowest2 .ensures, c .before .before .before .before .without .ensures) (other-in (a .network .sites) (a .s) (a .set) (omega arith) (omega arith) (omega arith) (omega arith) (sym (c .before .before .before .before .before .before .is-single .ensures) ∙ c .before .before .before .before .before .if3 .left)))
 
--- src/router.rt:189:1
 returns-6 : tie.Need-returns-6
 returns-6 c = let a = c .before .before .before .before .before .before .before .before .before .before .before .args in rw (c .to-other3 .ensures, c .before .before .before .before .lowest2 .ensures, c .before .before .before .before .before .without .ensures) (ap ofChoice (sym (route-missing (a .network) (a .s) (a .set) (a .t3) (ne-eqb _ _ (λ e. c .before .before .before .before .before .before .before .before .if1 .left (e ∙ sym (is-only (a .s) (c .before .before .before .before .before .before .before .before .before .only .result) (omega arith) (c .before .before .before .before .before .before .before .before .before .only .ensures))))) (sym (c .before .before .before .before .before .before .before .is-single .ensures) ∙ c .before .before .before .before .before .before .if3 .left) (ap not (c .before .before .before .if4 .left)) (missing-of _ (c .before .before .gather-outputs .result) (rw (← c .before .before .before .before .before .without .ensures) (c .before .before .gather-outputs .ensures)) (c .before .if5 .left)))))
 

@@ -13,35 +13,27 @@ use Rattle.machine.proofs.router.first_chosen.Reads as first-chosen-rea
 use Rattle.machine.proofs.router.one_output.Reads as one-output-reads
 use Rattle.sets.proofs.member.Reads as member-reads
 
--- src/router.rt:167:9
 count-chosen-requires : tie.Need-count-chosen-requires
 count-chosen-requires c κs = search needs
 
--- src/router.rt:168:9
 first-chosen-requires : tie.Need-first-chosen-requires
 first-chosen-requires c κs = search needs
 
--- src/router.rt:170:5
 array-write-all : tie.Need-array-write-all
 array-write-all c = search needs
 
--- src/router.rt:171:8
 member-requires : tie.Need-member-requires
 member-requires c κs = search needs
 
--- src/router.rt:172:9
 returns : tie.Need-returns
 returns c = let a = c .before .before .before .before .args in ap ofChoice (sym (spread-local (a .s) (a .set) (a .sets) (sym (c .before .member .ensures) ∙ c .if1 .taken)))
 
--- src/router.rt:179:9
 one-output-requires : tie.Need-one-output-requires
 one-output-requires c κs = omega (arith, c .before .before .before .first-chosen .ensures, first-chosen-below (c .before .before .before .before .before .args .sets))
 
--- src/router.rt:179:9
 returns-2 : tie.Need-returns-2
 returns-2 c = let a = c .before .before .before .before .before .before .args in rw (c .one-output .ensures, c .before .before .before .before .first-chosen .ensures) (ap ofChoice (sym (spread-single (a .s) (a .set) (a .sets) (sym (c .before .before .before .member .ensures) ∙ c .before .before .if1 .left) (rw (← c .before .before .before .before .before .count-chosen .ensures) (eq-eqb _ 1 (c .before .if2 .taken))))))
 
--- src/router.rt:164:1
 returns-3 : tie.Need-returns-3
 returns-3 c = let a = c .before .before .before .before .before .args in ap ofChoice (sym (spread-remote (a .s) (a .set) (a .sets) (sym (c .before .before .member .ensures) ∙ c .before .if1 .left) (rw (← c .before .before .before .before .count-chosen .ensures) (ne-eqb _ 1 (c .if2 .left)))))
 

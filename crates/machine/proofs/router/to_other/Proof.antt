@@ -16,43 +16,33 @@ use Rattle.machine.proofs.router.one_output.Reads as one-output-reads
 use Rattle.machine.proofs.router.ports.Reads as ports-reads
 use Rattle.machine.proofs.router.unserved.Reads as unserved-reads
 
--- src/router.rt:155:37
 mul-ports : tie.Need-mul-ports
 mul-ports c = omega (arith, place-below (c .args .s) (c .args .t) (c .args .t1 .sites) 16 (omega arith) (omega arith) (omega arith))
 
--- src/router.rt:155:37
 add-ports : tie.Need-add-ports
 add-ports c = omega (arith, place-below (c .args .s) (c .args .t) (c .args .t1 .sites) 16 (omega arith) (omega arith) (omega arith))
 
--- src/router.rt:155:22
 mul-ports-2 : tie.Need-mul-ports-2
 mul-ports-2 c = omega (arith, place-below (c .args .s) (c .args .t) (c .args .t1 .sites) 16 (omega arith) (omega arith) (omega arith))
 
--- src/router.rt:155:22
 element-copy-out-ports : tie.Need-element-copy-out-ports
 element-copy-out-ports c = omega (arith, place-below (c .args .s) (c .args .t) (c .args .t1 .sites) 16 (omega arith) (omega arith) (omega arith))
 
--- src/router.rt:155:9
 ports-requires : tie.Need-ports-requires
 ports-requires c κs = search needs
 
--- src/router.rt:156:9
 first-serving-requires : tie.Need-first-serving-requires
 first-serving-requires c κs = search needs
 
--- src/router.rt:158:9
 unserved-requires : tie.Need-unserved-requires
 unserved-requires c κs = search needs
 
--- src/router.rt:158:9
 returns : tie.Need-returns
 returns c = rw (c .unserved .ensures, ← c .before .before .before .ports .ensures, ← c .before .before .first-serving .ensures, eq-eqb _ 0 (c .before .if1 .taken)) refl
 
--- src/router.rt:160:5
 one-output-requires : tie.Need-one-output-requires
 one-output-requires c κs = omega (arith, c .before .first-serving .ensures, found-at-most (serves (c .before .before .before .before .args .outputs) unchosen) (c .before .before .ports .result) (λ p e. is-port (c .before .before .before .before .args .outputs) unchosen p e .1))
 
--- src/router.rt:150:1
 returns-2 : tie.Need-returns-2
 returns-2 c = rw (c .one-output .ensures, ← c .before .before .before .ports .ensures, ← c .before .before .first-serving .ensures, ne-eqb _ 0 (c .before .if1 .left)) refl
 

@@ -22,83 +22,63 @@ use Rattle.machine.proofs.step.owns.Reads as owns-reads
 use Rattle.machine.proofs.step.ready_outputs.Reads as ready-outputs-reads
 use Rattle.machine.proofs.step.stays.Reads as stays-reads
 
--- src/step.rt:124:17
 mul-input : tie.Need-mul-input
 mul-input c = search needs
 
--- src/step.rt:124:17
 element-copy-out-input : tie.Need-element-copy-out-input
 element-copy-out-input c = search needs
 
--- src/step.rt:127:26
 mul-t16 : tie.Need-mul-t16
 mul-t16 c = search needs
 
--- src/step.rt:127:9
 element-copy-out-t22 : tie.Need-element-copy-out-t22
 element-copy-out-t22 c = search needs
 
--- src/step.rt:128:26
 mul-t23 : tie.Need-mul-t23
 mul-t23 c = search needs
 
--- src/step.rt:128:26
 add-t24 : tie.Need-add-t24
 add-t24 c = search needs
 
--- src/step.rt:128:9
 element-copy-out-t27 : tie.Need-element-copy-out-t27
 element-copy-out-t27 c = search needs
 
--- src/step.rt:129:26
 mul-t28 : tie.Need-mul-t28
 mul-t28 c = search needs
 
--- src/step.rt:129:26
 add-t29 : tie.Need-add-t29
 add-t29 c = search needs
 
--- src/step.rt:129:9
 element-copy-out-t32 : tie.Need-element-copy-out-t32
 element-copy-out-t32 c = search needs
 
--- src/step.rt:130:26
 mul-t33 : tie.Need-mul-t33
 mul-t33 c = search needs
 
--- src/step.rt:130:26
 add-t34 : tie.Need-add-t34
 add-t34 c = search needs
 
--- src/step.rt:130:9
 element-copy-out-t37 : tie.Need-element-copy-out-t37
 element-copy-out-t37 c = search needs
 
--- src/step.rt:126:9
 are-ends-requires : tie.Need-are-ends-requires
 are-ends-requires c κs = search needs
 
--- src/step.rt:132:9
 ready-outputs-requires : tie.Need-ready-outputs-requires
 ready-outputs-requires c κs = search needs
 
--- src/step.rt:133:9
 net-input-requires : tie.Need-net-input-requires
 net-input-requires c κs = let a = c .before .before .before .before .before .before .before .before .args in (omega (arith, c .before .before .before .before .before .before .before .before .pre .0 .site), c .before .before .before .before .before .before .before .before .pre .0 .few, omega arith, c .before .before .before .before .before .before .before .before .pre .0 .sought (a .i) (omega arith))
 
--- src/step.rt:139:9
 mul-now : tie.Need-mul-now
 mul-now c = search needs
 
--- src/step.rt:139:9
 element-set-from-now : tie.Need-element-set-from-now
 element-set-from-now c = search needs
 
--- src/step.rt:140:9
 owns-requires : tie.Need-owns-requires
 owns-requires c κs = search needs
 
--- src/step.rt:140:9
 returns : tie.Need-returns
 returns c =
     let a = c .before .before .before .before .before .before .before .before .before .before .before .before .before .args in
@@ -108,11 +88,9 @@ returns c =
     let e : c .before .before .before .before .before .ready-outputs .result ≡ flags f = c .before .before .before .before .before .ready-outputs .ensures ∙ flags-there (mark (c .before .before .before .before .before .before .are-ends .result)) (joined (a .t1) (a .s)) (farAt (a .far)) (x .outputs) same in
     rw (c .owns .ensures, input-changed (setBoth x (a .i)) (inAt x (a .i)) (x .outputs) (c .before .before .before .before .net-input .result) (netInput (a .t1) (a .s) (a .i) (inAt x (a .i)) (x .outputs) f) (c .before .before .before .before .net-input .ensures ∙ rw (e, by-flags (a .t1) (a .s) (a .i) (inAt x (a .i)) (x .outputs) f (inAt x (a .i) .phase)) refl) (c .before .if1 .taken)) refl
 
--- src/step.rt:142:5
 stays-requires : tie.Need-stays-requires
 stays-requires c κs = search needs
 
--- src/step.rt:120:1
 returns-2 : tie.Need-returns-2
 returns-2 c =
     let a = c .before .before .before .before .before .before .before .before .before .before .before .before .before .args in

@@ -6,11 +6,9 @@ use Rattle.machine.proofs.step.is_heard.Reads as reads
 use Rattle.machine.proofs.step.is_heard.Lts as lts
 use Rattle.machine.proofs.phases.is_listening.Reads as is-listening-reads
 
--- src/step.rt:98:9
 is-listening-requires : tie.Need-is-listening-requires
 is-listening-requires c κs = search needs
 
--- src/step.rt:94:1
 returns : tie.Need-returns
 returns c = rw (c .before .is-listening .ensures) refl
 

@@ -12,31 +12,24 @@ use Rattle.machine.proofs.places.local_output.Reads as local-output-rea
 use Rattle.machine.proofs.step.owns.Reads as owns-reads
 use Rattle.machine.proofs.step.stays.Reads as stays-reads
 
--- src/step.rt:118:18
 element-copy-out-output : tie.Need-element-copy-out-output
 element-copy-out-output c = search needs
 
--- src/step.rt:120:9
 local-output-requires : tie.Need-local-output-requires
 local-output-requires c κs = search needs
 
--- src/step.rt:126:9
 element-set-from-now : tie.Need-element-set-from-now
 element-set-from-now c = search needs
 
--- src/step.rt:127:9
 owns-requires : tie.Need-owns-requires
 owns-requires c κs = search needs
 
--- src/step.rt:127:9
 returns : tie.Need-returns
 returns c = let x = c .before .before .before .before .before .before .before .args .t3 in rw (c .owns .ensures, local-changed (λ o q. setOut (withInQueue x q) 0 o) (outAt x 0) (x .incoming) (c .before .before .before .before .local-output .result) (localOutput (c .before .before .before .before .before .before .before .args .network .depth) (outAt x 0) (x .incoming)) (c .before .before .before .before .local-output .ensures) (c .before .if1 .taken)) refl
 
--- src/step.rt:129:5
 stays-requires : tie.Need-stays-requires
 stays-requires c κs = search needs
 
--- src/step.rt:113:1
 returns-2 : tie.Need-returns-2
 returns-2 c = let x = c .before .before .before .before .before .before .before .args .t3 in rw (c .stays .ensures, local-stayed (λ o q. setOut (withInQueue x q) 0 o) (outAt x 0) (x .incoming) (c .before .before .before .before .local-output .result) (localOutput (c .before .before .before .before .before .before .before .args .network .depth) (outAt x 0) (x .incoming)) (c .before .before .before .before .local-output .ensures) (c .before .if1 .left)) refl
 

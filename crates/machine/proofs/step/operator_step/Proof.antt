@@ -12,31 +12,24 @@ use Rattle.machine.proofs.places.operator.Reads as operator-reads
 use Rattle.machine.proofs.step.owns.Reads as owns-reads
 use Rattle.machine.proofs.step.stays.Reads as stays-reads
 
--- src/step.rt:177:9
 operator-requires : tie.Need-operator-requires
 operator-requires c κs = search needs
 
--- src/step.rt:185:48
 free-input-requires : tie.Need-free-input-requires
 free-input-requires c κs = search needs
 
--- src/step.rt:185:13
 returns : tie.Need-returns
 returns c = let x = c .before .before .before .before .before .before .before .before .args .site in rw (c .free-input .ensures, work-serviced x (x .incoming) (x .outgoing) (c .before .before .before .before .before .operator .result) (operator (c .before .before .before .before .before .before .before .before .args .network .depth) (c .before .before .before .before .before .before .before .before .args .s) (x .incoming) (x .outgoing)) (c .before .before .before .before .before .operator .ensures) (c .before .before .if1 .taken) (c .before .if2 .taken)) refl
 
--- src/step.rt:187:9
 owns-requires : tie.Need-owns-requires
 owns-requires c κs = search needs
 
--- src/step.rt:187:9
 returns-2 : tie.Need-returns-2
 returns-2 c = let x = c .before .before .before .before .before .before .before .before .args .site in rw (c .owns .ensures, work-cleared x (x .incoming) (x .outgoing) (c .before .before .before .before .before .operator .result) (operator (c .before .before .before .before .before .before .before .before .args .network .depth) (c .before .before .before .before .before .before .before .before .args .s) (x .incoming) (x .outgoing)) (c .before .before .before .before .before .operator .ensures) (c .before .before .if1 .taken) (c .before .if2 .left)) refl
 
--- src/step.rt:189:5
 stays-requires : tie.Need-stays-requires
 stays-requires c κs = search needs
 
--- src/step.rt:170:1
 returns-3 : tie.Need-returns-3
 returns-3 c = let x = c .before .before .before .before .before .before .before .args .site in rw (c .stays .ensures, work-rested x (x .incoming) (x .outgoing) (c .before .before .before .before .operator .result) (operator (c .before .before .before .before .before .before .before .args .network .depth) (c .before .before .before .before .before .before .before .args .s) (x .incoming) (x .outgoing)) (c .before .before .before .before .operator .ensures) (c .before .if1 .left)) refl
 

@@ -10,23 +10,18 @@ use Rattle.machine.proofs.step.output_step.Lts as lts
 use Rattle.machine.proofs.step.channel_step.Reads as channel-step-reads
 use Rattle.machine.proofs.step.local_step.Reads as local-step-reads
 
--- src/step.rt:220:9
 local-step-requires : tie.Need-local-step-requires
 local-step-requires c κs = search needs
 
--- src/step.rt:220:9
 returns : tie.Need-returns
 returns c = let a = c .before .before .args in rw (c .local-step .ensures, c .before .if1 .taken, output-zero (a .network) (a .s) (a .site) (farAt (a .far))) refl
 
--- src/step.rt:222:41
 sub-channel-step : tie.Need-sub-channel-step
 sub-channel-step c = search needs
 
--- src/step.rt:222:5
 channel-step-requires : tie.Need-channel-step-requires
 channel-step-requires c κs = search needs
 
--- src/step.rt:215:1
 returns-2 : tie.Need-returns-2
 returns-2 c = let a = c .before .before .args in rw (c .channel-step .ensures, output-other (a .network) (a .s) (a .site) (farAt (a .far)) (a .j) (c .before .if1 .left)) refl
 

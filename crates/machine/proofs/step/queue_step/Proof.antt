@@ -12,31 +12,24 @@ use Rattle.machine.proofs.places.out_queue.Reads as out-queue-reads
 use Rattle.machine.proofs.step.owns.Reads as owns-reads
 use Rattle.machine.proofs.step.stays.Reads as stays-reads
 
--- src/step.rt:156:17
 element-copy-out-input : tie.Need-element-copy-out-input
 element-copy-out-input c = search needs
 
--- src/step.rt:157:9
 out-queue-requires : tie.Need-out-queue-requires
 out-queue-requires c κs = search needs
 
--- src/step.rt:163:9
 element-set-from-now : tie.Need-element-set-from-now
 element-set-from-now c = search needs
 
--- src/step.rt:164:9
 owns-requires : tie.Need-owns-requires
 owns-requires c κs = search needs
 
--- src/step.rt:164:9
 returns : tie.Need-returns
 returns c = let x = c .before .before .before .before .before .before .before .args .t3 in rw (c .owns .ensures, queue-changed (λ q y. setIn (withOutQueue x q) 0 y) (x .outgoing) (inAt x 0) (c .before .before .before .before .out-queue .result) (outQueue (x .outgoing) (inAt x 0)) (c .before .before .before .before .out-queue .ensures) (c .before .if1 .taken)) refl
 
--- src/step.rt:166:5
 stays-requires : tie.Need-stays-requires
 stays-requires c κs = search needs
 
--- src/step.rt:152:1
 returns-2 : tie.Need-returns-2
 returns-2 c = let x = c .before .before .before .before .before .before .before .args .t3 in rw (c .stays .ensures, queue-stayed (λ q y. setIn (withOutQueue x q) 0 y) (x .outgoing) (inAt x 0) (c .before .before .before .before .out-queue .result) (outQueue (x .outgoing) (inAt x 0)) (c .before .before .before .before .out-queue .ensures) (c .before .if1 .left)) refl
 

@@ -10,79 +10,60 @@ use Rattle.machine.proofs.step.ready_outputs.Lts as lts
 use Rattle.machine.proofs.step.is_heard.Reads as is-heard-reads
 use Rattle.machine.proofs.step.is_ready.Reads as is-ready-reads
 
--- src/step.rt:111:18
 array-copy-out-is-ready : tie.Need-array-copy-out-is-ready
 array-copy-out-is-ready c = search needs
 
--- src/step.rt:111:9
 is-ready-requires : tie.Need-is-ready-requires
 is-ready-requires c κs = search needs
 
--- src/step.rt:112:18
 array-read-is-heard : tie.Need-array-read-is-heard
 array-read-is-heard c = search needs
 
--- src/step.rt:112:28
 array-copy-out-is-heard : tie.Need-array-copy-out-is-heard
 array-copy-out-is-heard c = search needs
 
--- src/step.rt:112:40
 array-copy-out-is-heard-2 : tie.Need-array-copy-out-is-heard-2
 array-copy-out-is-heard-2 c = search needs
 
--- src/step.rt:112:9
 is-heard-requires : tie.Need-is-heard-requires
 is-heard-requires c κs = search needs
 
--- src/step.rt:113:18
 array-read-is-heard-2 : tie.Need-array-read-is-heard-2
 array-read-is-heard-2 c = search needs
 
--- src/step.rt:113:28
 array-copy-out-is-heard-3 : tie.Need-array-copy-out-is-heard-3
 array-copy-out-is-heard-3 c = search needs
 
--- src/step.rt:113:40
 array-copy-out-is-heard-4 : tie.Need-array-copy-out-is-heard-4
 array-copy-out-is-heard-4 c = search needs
 
--- src/step.rt:113:9
 is-heard-requires-2 : tie.Need-is-heard-requires-2
 is-heard-requires-2 c κs = search needs
 
--- src/step.rt:114:18
 array-read-is-heard-3 : tie.Need-array-read-is-heard-3
 array-read-is-heard-3 c = search needs
 
--- src/step.rt:114:28
 array-copy-out-is-heard-5 : tie.Need-array-copy-out-is-heard-5
 array-copy-out-is-heard-5 c = search needs
 
--- src/step.rt:114:40
 array-copy-out-is-heard-6 : tie.Need-array-copy-out-is-heard-6
 array-copy-out-is-heard-6 c = search needs
 
--- src/step.rt:114:9
 is-heard-requires-3 : tie.Need-is-heard-requires-3
 is-heard-requires-3 c κs = search needs
 
--- src/step.rt:115:18
 array-read-is-heard-4 : tie.Need-array-read-is-heard-4
 array-read-is-heard-4 c = search needs
 
--- src/step.rt:115:28
 array-copy-out-is-heard-7 : tie.Need-array-copy-out-is-heard-7
 array-copy-out-is-heard-7 c = search needs
 
--- src/step.rt:115:40
 array-copy-out-is-heard-8 : tie.Need-array-copy-out-is-heard-8
 array-copy-out-is-heard-8 c = search needs
 
--- src/step.rt:115:9
 is-heard-requires-4 : tie.Need-is-heard-requires-4
 is-heard-requires-4 c κs = search needs
 
--- src/step.rt:103:1
 returns : tie.Need-returns
 returns c = let there = mark (c .before .before .before .before .before .before .before .before .before .before .before .before .before .before .args .t1) in let far = farAt (c .before .before .before .before .before .before .before .before .before .before .before .before .before .before .args .t2) in let os = c .before .before .before .before .before .before .before .before .before .before .before .before .before .before .args .t3 in five (c .before .before .before .before .before .before .before .before .before .before .before .before .is-ready .ensures ∙ local-at there far os) (c .before .before .before .before .before .before .before .before .before .is-heard .ensures ∙ heard-at there far os 0) (c .before .before .before .before .before .before .is-heard2 .ensures ∙ heard-at there far os 1) (c .before .before .before .is-heard3 .ensures ∙ heard-at there far os 2) (c .is-heard4 .ensures ∙ heard-at there far os 3)
 

@@ -6,11 +6,9 @@ use Rattle.machine.proofs.step.stays.Reads as reads
 use Rattle.machine.proofs.step.stays.Lts as lts
 use Rattle.machine.proofs.phases.free_input.Reads as free-input-reads
 
--- src/step.rt:41:27
 free-input-requires : tie.Need-free-input-requires
 free-input-requires c κs = search needs
 
--- src/step.rt:38:1
 returns : tie.Need-returns
 returns c = rw (c .free-input .ensures) refl
 

@@ -14,56 +14,44 @@ use Rattle.machine.proofs.step.queue_step.Reads as queue-step-reads
 use Rattle.machine.proofs.step.stays.Reads as stays-reads
 use Rattle.machine.proofs.step.timeout_step.Reads as timeout-step-reads
 
--- src/step.rt:233:15
 queue-step-requires : tie.Need-queue-step-requires
 queue-step-requires c κs = search needs
 
--- src/step.rt:234:15
 operator-step-requires : tie.Need-operator-step-requires
 operator-step-requires c κs = search needs
 
--- src/step.rt:235:15
 timeout-step-requires : tie.Need-timeout-step-requires
 timeout-step-requires c κs = search needs
 
--- src/step.rt:231:18
 input-step-requires : tie.Need-input-step-requires
 input-step-requires c κs = search needs
 
--- src/step.rt:232:18
 output-step-requires : tie.Need-output-step-requires
 output-step-requires c κs = search needs
 
--- src/step.rt:236:14
 stays-requires : tie.Need-stays-requires
 stays-requires c κs = search needs
 
--- src/step.rt:226:1
 returns : tie.Need-returns
 unfolding act
 returns c = rw (c .queue-step .ensures, c .before .match .keys1) refl
 
--- src/step.rt:226:1
 returns-2 : tie.Need-returns-2
 unfolding act
 returns-2 c = rw (c .operator-step .ensures, c .before .match .keys2) refl
 
--- src/step.rt:226:1
 returns-3 : tie.Need-returns-3
 unfolding act
 returns-3 c = rw (c .timeout-step .ensures, c .before .match .keys3) refl
 
--- src/step.rt:226:1
 returns-4 : tie.Need-returns-4
 unfolding act
 returns-4 c = let a = c .before .before .before .args in rw (c .input-step .ensures, lt-ltb (a .code) 5 (omega arith)) refl
 
--- src/step.rt:226:1
 returns-5 : tie.Need-returns-5
 unfolding act
 returns-5 c = let a = c .before .before .before .before .args in rw (c .output-step .ensures, le-ltb (a .code) 5 (omega arith), lt-ltb (a .code) 10 (omega arith)) refl
 
--- src/step.rt:226:1
 returns-6 : tie.Need-returns-6
 unfolding act
 returns-6 c = let a = c .before .before .before .before .args in let m = c .before .before .before .match .rest in rw (c .stays .ensures, le-ltb (a .code) 5 (omega arith), le-ltb (a .code) 10 (omega arith), ne-eqb (a .code) 10 (λ z. m .0 .0 .1 z), ne-eqb (a .code) 11 (λ z. m .0 .1 z), ne-eqb (a .code) 12 (λ z. m .1 z)) refl

@@ -13,47 +13,36 @@ use Rattle.machine.proofs.step.owns.Reads as owns-reads
 use Rattle.machine.proofs.step.stays.Reads as stays-reads
 use Rattle.machine.proofs.timeout.time_out.Reads as time-out-reads
 
--- src/step.rt:197:15
 element-copy-out-own : tie.Need-element-copy-out-own
 element-copy-out-own c = search needs
 
--- src/step.rt:198:13
 cast-i : tie.Need-cast-i
 cast-i c = search needs
 
--- src/step.rt:199:17
 mul-input : tie.Need-mul-input
 mul-input c = search needs
 
--- src/step.rt:199:17
 element-copy-out-input : tie.Need-element-copy-out-input
 element-copy-out-input c = search needs
 
--- src/step.rt:202:9
 time-out-requires : tie.Need-time-out-requires
 time-out-requires c κs = search needs
 
--- src/step.rt:208:9
 mul-now : tie.Need-mul-now
 mul-now c = search needs
 
--- src/step.rt:208:9
 element-set-from-now : tie.Need-element-set-from-now
 element-set-from-now c = search needs
 
--- src/step.rt:209:9
 owns-requires : tie.Need-owns-requires
 owns-requires c κs = search needs
 
--- src/step.rt:209:9
 returns : tie.Need-returns
 returns c = let x = c .before .before .before .before .before .before .before .before .before .before .args .t3 in let i = outAt x 0 .input in rw (c .owns .ensures, input-changed (setBoth x i) (inAt x i) (x .outputs) (c .before .before .before .before .time-out .result) (timeout (x .incoming) (x .outputs) (inAt x i)) (c .before .before .before .before .time-out .ensures) (c .before .if1 .taken)) refl
 
--- src/step.rt:211:5
 stays-requires : tie.Need-stays-requires
 stays-requires c κs = search needs
 
--- src/step.rt:193:1
 returns-2 : tie.Need-returns-2
 returns-2 c = let x = c .before .before .before .before .before .before .before .before .before .before .args .t3 in let i = outAt x 0 .input in rw (c .stays .ensures, input-stayed (setBoth x i) (inAt x i) (x .outputs) (c .before .before .before .before .time-out .result) (timeout (x .incoming) (x .outputs) (inAt x i)) (c .before .before .before .before .time-out .ensures) (c .before .if1 .left)) refl
 

@@ -11,35 +11,27 @@ use Rattle.machine.proofs.phases.free_input.Reads as free-input-reads
 use Rattle.machine.proofs.step.has_channel.Reads as has-channel-reads
 use Rattle.machine.proofs.store.end_of.Reads as end-of-reads
 
--- src/store.rt:33:33
 mul-byte : tie.Need-mul-byte
 mul-byte c = search needs
 
--- src/store.rt:33:33
 add-byte : tie.Need-add-byte
 add-byte c = search needs
 
--- src/store.rt:33:16
 element-copy-out-byte : tie.Need-element-copy-out-byte
 element-copy-out-byte c = search needs
 
--- src/store.rt:34:8
 has-channel-requires : tie.Need-has-channel-requires
 has-channel-requires c κs = search needs
 
--- src/store.rt:35:9
 end-of-requires : tie.Need-end-of-requires
 end-of-requires c κs = c .before .before .before .pre .1 (c .before .before .before .args .j) (omega arith) (sym (c .before .has-channel .ensures) ∙ c .if1 .taken)
 
--- src/store.rt:35:9
 returns : tie.Need-returns
 returns c = rw (c .end-of .ensures, lt-ltb (c .before .before .before .before .args .j) 4 (omega arith), ← c .before .before .has-channel .ensures, c .before .if1 .taken) refl
 
--- src/store.rt:37:5
 free-input-requires : tie.Need-free-input-requires
 free-input-requires c κs = search needs
 
--- src/store.rt:29:1
 returns-2 : tie.Need-returns-2
 returns-2 c = rw (c .free-input .ensures, lt-ltb (c .before .before .before .before .args .j) 4 (omega arith), ← c .before .before .has-channel .ensures, c .before .if1 .left) refl
 

@@ -8,51 +8,39 @@ use Rattle.machine.proofs.store.pass_on.Tie as tie
 use Rattle.machine.proofs.store.pass_on.Reads as reads
 use Rattle.machine.proofs.store.pass_on.Lts as lts
 
--- src/store.rt:57:13
 cast-u : tie.Need-cast-u
 cast-u c = search needs
 
--- src/store.rt:58:13
 cast-k : tie.Need-cast-k
 cast-k c = search needs
 
--- src/store.rt:58:13
 add-k : tie.Need-add-k
 add-k c = search needs
 
--- src/store.rt:60:5
 mul-site : tie.Need-mul-site
 mul-site c = search needs
 
--- src/store.rt:60:5
 element-set-from-site : tie.Need-element-set-from-site
 element-set-from-site c = search needs
 
--- src/store.rt:61:19
 mul-far : tie.Need-mul-far
 mul-far c = search needs
 
--- src/store.rt:61:19
 element-copy-out-far : tie.Need-element-copy-out-far
 element-copy-out-far c = search needs
 
--- src/store.rt:62:5
 mul-input : tie.Need-mul-input
 mul-input c = search needs
 
--- src/store.rt:62:5
 element-set-from-input : tie.Need-element-set-from-input
 element-set-from-input c = search needs
 
--- src/store.rt:63:5
 mul-t11 : tie.Need-mul-t11
 mul-t11 c = search needs
 
--- src/store.rt:63:5
 element-set-from-next : tie.Need-element-set-from-next
 element-set-from-next c = search needs
 
--- src/store.rt:53:1
 returns : tie.Need-returns
 returns c = rw add-one refl
 

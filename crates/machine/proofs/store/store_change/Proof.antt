@@ -10,59 +10,45 @@ use Rattle.machine.proofs.store.store_change.Reads as reads
 use Rattle.machine.proofs.store.store_change.Lts as lts
 use Rattle.machine.proofs.store.pass_on.Reads as pass-on-reads
 
--- src/store.rt:78:41
 enum-told : tie.Need-enum-told
 enum-told c = search needs
 
--- src/store.rt:80:13
 enum-told-2 : tie.Need-enum-told-2
 enum-told-2 c = search needs
 
--- src/store.rt:80:13
 mul-site : tie.Need-mul-site
 mul-site c = search needs
 
--- src/store.rt:80:13
 element-set-from-site : tie.Need-element-set-from-site
 element-set-from-site c = search needs
 
--- src/store.rt:83:20
 enum-known-act : tie.Need-enum-known-act
 enum-known-act c = search needs
 
--- src/store.rt:84:13
 mul-site-2 : tie.Need-mul-site-2
 mul-site-2 c = search needs
 
--- src/store.rt:84:13
 element-set-from-site-2 : tie.Need-element-set-from-site-2
 element-set-from-site-2 c = search needs
 
--- src/store.rt:85:54
 cast-t20 : tie.Need-cast-t20
 cast-t20 c = search needs
 
--- src/store.rt:87:41
 enum-told-3 : tie.Need-enum-told-3
 enum-told-3 c = search needs
 
--- src/store.rt:87:62
 pass-on-requires : tie.Need-pass-on-requires
 pass-on-requires c κs = (omega arith, c .before .before .before .before .pre .1 (rw (c .enum-told3 .given .1) refl))
 
--- src/store.rt:68:1
 returns : tie.Need-returns
 returns c = rw (c .enum-told .given .1) refl
 
--- src/store.rt:68:1
 returns-2 : tie.Need-returns-2
 returns-2 c = rw (c .enum-told2 .given .1) refl
 
--- src/store.rt:68:1
 returns-3 : tie.Need-returns-3
 returns-3 c = rw (c .before .act .given .1) refl
 
--- src/store.rt:68:1
 returns-4 : tie.Need-returns-4
 returns-4 c = rw (c .pass-on .ensures, c .before .enum-told3 .given .1) refl
 

@@ -11,35 +11,27 @@ use Rattle.machine.proofs.queues.last_lacks.Reads as last-lacks-reads
 use Rattle.machine.proofs.timeout.can_cut.Reads as can-cut-reads
 use Rattle.machine.proofs.timeout.cut_off.Reads as cut-off-reads
 
--- src/timeout.rt:78:15
 array-copy-out-own : tie.Need-array-copy-out-own
 array-copy-out-own c = search needs
 
--- src/timeout.rt:81:9
 last-lacks-requires : tie.Need-last-lacks-requires
 last-lacks-requires c κs = search needs
 
--- src/timeout.rt:82:9
 is-none-requires : tie.Need-is-none-requires
 is-none-requires c κs = search needs
 
--- src/timeout.rt:84:12
 can-cut-requires : tie.Need-can-cut-requires
 can-cut-requires c κs = search needs
 
--- src/timeout.rt:85:13
 cut-off-requires : tie.Need-cut-off-requires
 cut-off-requires c κs = search needs
 
--- src/timeout.rt:85:13
 returns : tie.Need-returns
 returns c = let a = c .before .before .before .before .before .before .before .before .args in rw (c .cut-off .ensures, ← c .before .before .before .before .before .before .last-lacks .ensures, ← c .before .before .before .before .before .is-none .ensures, c .before .before .before .if1 .taken, cut-at (a .input) (a .t2) (a .input .phase), ← c .before .before .can-cut .ensures, c .before .if2 .taken) refl
 
--- src/timeout.rt:87:9
 returns-2 : tie.Need-returns-2
 returns-2 c = let a = c .before .before .before .before .before .before .before .args in rw (← c .before .before .before .before .before .last-lacks .ensures, ← c .before .before .before .before .is-none .ensures, c .before .before .if1 .taken, cut-at (a .input) (a .t2) (a .input .phase), ← c .before .can-cut .ensures, c .if2 .left) refl
 
--- src/timeout.rt:74:1
 returns-3 : tie.Need-returns-3
 returns-3 c = rw (← c .before .before .before .last-lacks .ensures, ← c .before .before .is-none .ensures, c .if1 .left) refl
 

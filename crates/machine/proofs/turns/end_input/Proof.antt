@@ -7,19 +7,15 @@ use Rattle.machine.proofs.turns.end_input.Lts as lts
 use Rattle.base.proofs.wide.Reads as wide-reads
 use Rattle.machine.proofs.idle.input_of.Reads as input-of-reads
 
--- src/turns.rt:45:22
 wide-requires : tie.Need-wide-requires
 wide-requires c κs = search needs
 
--- src/turns.rt:45:22
 add-input-of : tie.Need-add-input-of
 add-input-of c = search needs
 
--- src/turns.rt:45:5
 input-of-requires : tie.Need-input-of-requires
 input-of-requires c κs = search needs
 
--- src/turns.rt:42:1
 returns : tie.Need-returns
 returns c = rw (c .input-of .ensures, c .before .wide .ensures .0) refl
 

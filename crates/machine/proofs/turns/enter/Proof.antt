@@ -8,51 +8,39 @@ use Rattle.machine.proofs.turns.enter.Tie as tie
 use Rattle.machine.proofs.turns.enter.Reads as reads
 use Rattle.machine.proofs.turns.enter.Lts as lts
 
--- src/turns.rt:59:16
 cast-book : tie.Need-cast-book
 cast-book c = search needs
 
--- src/turns.rt:59:5
 slice-write-book : tie.Need-slice-write-book
 slice-write-book c = search needs
 
--- src/turns.rt:60:20
 cast-book-2 : tie.Need-cast-book-2
 cast-book-2 c = search needs
 
--- src/turns.rt:60:10
 add-book : tie.Need-add-book
 add-book c = search needs
 
--- src/turns.rt:60:5
 slice-write-book-2 : tie.Need-slice-write-book-2
 slice-write-book-2 c = simp length-set (search needs)
 
--- src/turns.rt:61:10
 add-book-2 : tie.Need-add-book-2
 add-book-2 c = search needs
 
--- src/turns.rt:61:5
 slice-write-book-3 : tie.Need-slice-write-book-3
 slice-write-book-3 c = simp length-set (search needs)
 
--- src/turns.rt:62:20
 cast-book-3 : tie.Need-cast-book-3
 cast-book-3 c = search needs
 
--- src/turns.rt:62:10
 add-book-3 : tie.Need-add-book-3
 add-book-3 c = search needs
 
--- src/turns.rt:62:5
 slice-write-book-4 : tie.Need-slice-write-book-4
 slice-write-book-4 c = simp length-set (search needs)
 
--- src/turns.rt:55:1
 same-length : tie.Need-same-length
 same-length c = search needs
 
--- src/turns.rt:55:1
 returns : tie.Need-returns
 unfolding enteredAt
 returns c = refl

@@ -8,31 +8,25 @@ use Rattle.machine.proofs.turns.send_answer.Reads as reads
 use Rattle.machine.proofs.turns.send_answer.Lts as lts
 use Rattle.sets.proofs.is_targets.Reads as is-targets-reads
 
--- src/turns.rt:40:12
 is-targets-requires : tie.Need-is-targets-requires
 is-targets-requires c κs = search needs
 
--- src/turns.rt:43:21
 returns : tie.Need-returns
 unfolding sendAnswer
 returns c = rw (lt-ltb _ _ (c .before .before .before .before .if1 .taken), ← c .before .before .before .is-targets .ensures, c .before .before .if2 .taken, lt-ltb _ _ (c .before .if3 .taken), lt-ltb _ _ (c .if4 .taken)) refl
 
--- src/turns.rt:45:17
 returns-2 : tie.Need-returns-2
 unfolding sendAnswer
 returns-2 c = rw (lt-ltb _ _ (c .before .before .before .before .if1 .taken), ← c .before .before .before .is-targets .ensures, c .before .before .if2 .taken, lt-ltb _ _ (c .before .if3 .taken), le-ltb _ _ (c .if4 .left)) refl
 
--- src/turns.rt:47:13
 returns-3 : tie.Need-returns-3
 unfolding sendAnswer
 returns-3 c = rw (lt-ltb _ _ (c .before .before .before .if1 .taken), ← c .before .before .is-targets .ensures, c .before .if2 .taken, le-ltb _ _ (c .if3 .left)) refl
 
--- src/turns.rt:49:9
 returns-4 : tie.Need-returns-4
 unfolding sendAnswer
 returns-4 c = rw (lt-ltb _ _ (c .before .before .if1 .taken), ← c .before .is-targets .ensures, c .if2 .left) refl
 
--- src/turns.rt:29:1
 returns-5 : tie.Need-returns-5
 unfolding sendAnswer
 returns-5 c = rw (le-ltb _ _ (c .if1 .left)) refl

@@ -16,35 +16,27 @@ Inv-loop room₀ at bytes end₀ i₀ i-end room end i = length room ≡ length 
 abbrev μ-loop : tie.MeasureT-loop
 μ-loop room₀ at bytes end₀ i₀ i-end room end i = i-end - i
 
--- src/text.rt:13:5
 loop-holds : tie.Need-loop-holds Inv-loop μ-loop
 loop-holds c = search needs
 
--- src/text.rt:14:30
 shared-slice-read-put : tie.Need-shared-slice-read-put Inv-loop μ-loop
 shared-slice-read-put c = search needs
 
--- src/text.rt:14:9
 put-requires : tie.Need-put-requires Inv-loop μ-loop
 put-requires c κs = search needs
 
--- src/text.rt:13:9
 add-i : tie.Need-add-i Inv-loop μ-loop
 add-i c = omega arith
 
--- src/text.rt:13:5
 loop-less : tie.Need-loop-less Inv-loop μ-loop
 loop-less c = omega arith
 
--- src/text.rt:13:5
 loop-again : tie.Need-loop-again Inv-loop μ-loop
 loop-again c = search needs
 
--- src/text.rt:11:1
 same-length : tie.Need-same-length Inv-loop μ-loop
 same-length c = search needs
 
--- src/text.rt:11:1
 returns : tie.Need-returns Inv-loop μ-loop
 returns c = search needs
 

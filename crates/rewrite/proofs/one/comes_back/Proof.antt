@@ -10,59 +10,45 @@ use Rattle.archive.proofs.write.Reads as write-reads
 use Rattle.check.proofs.same.Reads as same-reads
 use Rattle.rewrite.proofs.one.is_filled.Reads as is-filled-reads
 
--- src/one.rt:75:9
 write-requires : tie.Need-write-requires
 write-requires c κs = search needs
 
--- src/one.rt:78:52
 slice-reshare-prefix-same : tie.Need-slice-reshare-prefix-same
 slice-reshare-prefix-same c = search needs
 
--- src/one.rt:78:52
 slice-aggregate-same : tie.Need-slice-aggregate-same
 slice-aggregate-same c = sym (length-take-le _ _ (c .before .before .before .if1 .taken))
 
--- src/one.rt:78:40
 same-requires : tie.Need-same-requires
 same-requires c κs = search needs
 
--- src/one.rt:78:84
 sub-is-filled : tie.Need-sub-is-filled
 sub-is-filled c = search needs
 
--- src/one.rt:78:84
 part-is-filled-start : tie.Need-part-is-filled-start
 part-is-filled-start c = search needs
 
--- src/one.rt:78:84
 part-is-filled-end : tie.Need-part-is-filled-end
 part-is-filled-end c = search needs
 
--- src/one.rt:78:74
 is-filled-requires : tie.Need-is-filled-requires
 is-filled-requires c κs = search needs
 
--- src/one.rt:78:9
 same-length : tie.Need-same-length
 same-length c = search needs
 
--- src/one.rt:78:9
 returns : tie.Need-returns
 returns c = search needs
 
--- src/one.rt:78:9
 same-length-2 : tie.Need-same-length-2
 same-length-2 c = search needs
 
--- src/one.rt:78:9
 returns-2 : tie.Need-returns-2
 returns-2 c = search needs
 
--- src/one.rt:74:1
 same-length-3 : tie.Need-same-length-3
 same-length-3 c = search needs
 
--- src/one.rt:74:1
 returns-3 : tie.Need-returns-3
 returns-3 c = search needs
 

@@ -9,47 +9,36 @@ use Rattle.rewrite.proofs.one.needs_room.Lts as lts
 use Rattle.archive.proofs.write.Reads as write-reads
 use Rattle.rewrite.proofs.one.is_filled.Reads as is-filled-reads
 
--- src/one.rt:86:19
 sub-end : tie.Need-sub-end
 sub-end c = search needs
 
--- src/one.rt:88:47
 slice-relend-prefix-write : tie.Need-slice-relend-prefix-write
 slice-relend-prefix-write c = search needs
 
--- src/one.rt:88:47
 slice-aggregate-write : tie.Need-slice-aggregate-write
 slice-aggregate-write c = sym (length-take-le _ _ (c .before .if2 .taken))
 
--- src/one.rt:88:17
 write-requires : tie.Need-write-requires
 write-requires c κs = search needs
 
--- src/one.rt:89:68
 is-filled-requires : tie.Need-is-filled-requires
 is-filled-requires c κs = search needs
 
--- src/one.rt:89:13
 same-length : tie.Need-same-length
 same-length c = search needs
 
--- src/one.rt:89:13
 returns : tie.Need-returns
 returns c = search needs
 
--- src/one.rt:89:13
 same-length-2 : tie.Need-same-length-2
 same-length-2 c = search needs
 
--- src/one.rt:89:13
 returns-2 : tie.Need-returns-2
 returns-2 c = search needs
 
--- src/one.rt:84:1
 returns-3 : tie.Need-returns-3
 returns-3 c = search needs
 
--- src/one.rt:84:1
 returns-4 : tie.Need-returns-4
 returns-4 c = search needs
 

@@ -17,39 +17,30 @@ Inv-loop bytes₀ times last₀ k₀ bytes last k = length bytes ≡ length byte
 abbrev μ-loop : tie.MeasureT-loop
 μ-loop bytes₀ times last₀ k₀ bytes last k = times - k
 
--- src/archives.rt:28:5
 loop-holds : tie.Need-loop-holds Inv-loop μ-loop
 loop-holds c = search needs
 
--- src/archives.rt:29:9
 add-k : tie.Need-add-k Inv-loop μ-loop
 add-k c = search needs
 
--- src/archives.rt:30:9
 reseed-requires : tie.Need-reseed-requires Inv-loop μ-loop
 reseed-requires c κs = search needs
 
--- src/archives.rt:31:13
 read-requires : tie.Need-read-requires Inv-loop μ-loop
 read-requires c κs = search needs
 
--- src/archives.rt:32:9
 picked-requires : tie.Need-picked-requires Inv-loop μ-loop
 picked-requires c κs = search needs
 
--- src/archives.rt:28:5
 loop-less : tie.Need-loop-less Inv-loop μ-loop
 loop-less c = search needs
 
--- src/archives.rt:28:5
 loop-again : tie.Need-loop-again Inv-loop μ-loop
 loop-again c = search needs
 
--- src/archives.rt:24:1
 same-length : tie.Need-same-length Inv-loop μ-loop
 same-length c = search needs
 
--- src/archives.rt:24:1
 returns : tie.Need-returns Inv-loop μ-loop
 returns c = search needs
 

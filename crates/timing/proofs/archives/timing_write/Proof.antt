@@ -16,43 +16,33 @@ Inv-loop bytes room₀ times run₀ size₀ k₀ room run size k = length room �
 abbrev μ-loop : tie.MeasureT-loop
 μ-loop bytes room₀ times run₀ size₀ k₀ room run size k = times - k
 
--- src/archives.rt:40:9
 read-requires : tie.Need-read-requires Inv-loop μ-loop
 read-requires c κs = search needs
 
--- src/archives.rt:44:5
 loop-holds : tie.Need-loop-holds Inv-loop μ-loop
 loop-holds c = search needs
 
--- src/archives.rt:45:9
 add-k : tie.Need-add-k Inv-loop μ-loop
 add-k c = search needs
 
--- src/archives.rt:46:21
 add-run : tie.Need-add-run Inv-loop μ-loop
 add-run c = search needs
 
--- src/archives.rt:46:20
 cast-run : tie.Need-cast-run Inv-loop μ-loop
 cast-run c = search needs
 
--- src/archives.rt:47:13
 write-requires : tie.Need-write-requires Inv-loop μ-loop
 write-requires c κs = search needs
 
--- src/archives.rt:44:5
 loop-less : tie.Need-loop-less Inv-loop μ-loop
 loop-less c = search needs
 
--- src/archives.rt:44:5
 loop-again : tie.Need-loop-again Inv-loop μ-loop
 loop-again c = search needs
 
--- src/archives.rt:38:1
 same-length : tie.Need-same-length Inv-loop μ-loop
 same-length c = search needs
 
--- src/archives.rt:38:1
 returns : tie.Need-returns Inv-loop μ-loop
 returns c = search needs
 

@@ -15,35 +15,27 @@ Inv-loop network seed draws sites value₀ state₀ k₀ value state k = k ≤ d
 abbrev μ-loop : tie.MeasureT-loop
 μ-loop network seed draws sites value₀ state₀ k₀ value state k = draws - k
 
--- src/events.rt:27:5
 loop-holds : tie.Need-loop-holds Inv-loop μ-loop
 loop-holds c = search needs
 
--- src/events.rt:28:9
 draw-requires : tie.Need-draw-requires Inv-loop μ-loop
 draw-requires c κs = search needs
 
--- src/events.rt:29:13
 event-of-requires : tie.Need-event-of-requires Inv-loop μ-loop
 event-of-requires c κs = search needs
 
--- src/events.rt:30:13
 run-requires : tie.Need-run-requires Inv-loop μ-loop
 run-requires c κs = search needs
 
--- src/events.rt:32:9
 add-k : tie.Need-add-k Inv-loop μ-loop
 add-k c = search needs
 
--- src/events.rt:27:5
 loop-less : tie.Need-loop-less Inv-loop μ-loop
 loop-less c = search needs
 
--- src/events.rt:27:5
 loop-again : tie.Need-loop-again Inv-loop μ-loop
 loop-again c = search needs
 
--- src/events.rt:22:1
 returns : tie.Need-returns Inv-loop μ-loop
 returns c = search needs
 

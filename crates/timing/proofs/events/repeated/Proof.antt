@@ -13,27 +13,21 @@ Inv-loop network site code times state₀ k₀ state k = k ≤ times
 abbrev μ-loop : tie.MeasureT-loop
 μ-loop network site code times state₀ k₀ state k = times - k
 
--- src/events.rt:41:5
 loop-holds : tie.Need-loop-holds Inv-loop μ-loop
 loop-holds c = search needs
 
--- src/events.rt:42:13
 run-requires : tie.Need-run-requires Inv-loop μ-loop
 run-requires c κs = search needs
 
--- src/events.rt:44:9
 add-k : tie.Need-add-k Inv-loop μ-loop
 add-k c = search needs
 
--- src/events.rt:41:5
 loop-less : tie.Need-loop-less Inv-loop μ-loop
 loop-less c = search needs
 
--- src/events.rt:41:5
 loop-again : tie.Need-loop-again Inv-loop μ-loop
 loop-again c = search needs
 
--- src/events.rt:38:1
 returns : tie.Need-returns Inv-loop μ-loop
 returns c = search needs
 

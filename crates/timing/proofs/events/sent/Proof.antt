@@ -15,43 +15,33 @@ Inv-loop network sends state₀ k₀ state k = k ≤ 255
 abbrev μ-loop : tie.MeasureT-loop
 μ-loop network sends state₀ k₀ state k = 255 - k
 
--- src/events.rt:10:9
 empty-state-requires : tie.Need-empty-state-requires Inv-loop μ-loop
 empty-state-requires c κs = search needs
 
--- src/events.rt:12:5
 loop-holds : tie.Need-loop-holds Inv-loop μ-loop
 loop-holds c = search needs
 
--- src/events.rt:13:21
 mul-order : tie.Need-mul-order Inv-loop μ-loop
 mul-order c = search needs
 
--- src/events.rt:13:21
 array-copy-out-order : tie.Need-array-copy-out-order Inv-loop μ-loop
 array-copy-out-order c = search needs
 
--- src/events.rt:14:51
 wide-requires : tie.Need-wide-requires Inv-loop μ-loop
 wide-requires c κs = search needs
 
--- src/events.rt:14:13
 send-requires : tie.Need-send-requires Inv-loop μ-loop
 send-requires c κs = search needs
 
--- src/events.rt:16:9
 add-k : tie.Need-add-k Inv-loop μ-loop
 add-k c = search needs
 
--- src/events.rt:12:5
 loop-less : tie.Need-loop-less Inv-loop μ-loop
 loop-less c = search needs
 
--- src/events.rt:12:5
 loop-again : tie.Need-loop-again Inv-loop μ-loop
 loop-again c = search needs
 
--- src/events.rt:7:1
 returns : tie.Need-returns Inv-loop μ-loop
 returns c = search needs
 

@@ -16,39 +16,30 @@ Inv-loop bytes times network state₀ k₀ state k = k ≤ times
 abbrev μ-loop : tie.MeasureT-loop
 μ-loop bytes times network state₀ k₀ state k = times - k
 
--- src/events.rt:77:9
 read-requires : tie.Need-read-requires Inv-loop μ-loop
 read-requires c κs = search needs
 
--- src/events.rt:80:9
 empty-state-requires : tie.Need-empty-state-requires Inv-loop μ-loop
 empty-state-requires c κs = search needs
 
--- src/events.rt:82:5
 loop-holds : tie.Need-loop-holds Inv-loop μ-loop
 loop-holds c = search needs
 
--- src/events.rt:83:13
 send-requires : tie.Need-send-requires Inv-loop μ-loop
 send-requires c κs = search needs
 
--- src/events.rt:85:9
 add-k : tie.Need-add-k Inv-loop μ-loop
 add-k c = search needs
 
--- src/events.rt:82:5
 loop-less : tie.Need-loop-less Inv-loop μ-loop
 loop-less c = search needs
 
--- src/events.rt:82:5
 loop-again : tie.Need-loop-again Inv-loop μ-loop
 loop-again c = search needs
 
--- src/events.rt:87:5
 picked-requires : tie.Need-picked-requires Inv-loop μ-loop
 picked-requires c κs = search needs
 
--- src/events.rt:75:1
 returns : tie.Need-returns Inv-loop μ-loop
 returns c = search needs
 

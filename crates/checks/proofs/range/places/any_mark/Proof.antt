@@ -16,27 +16,21 @@ Inv-loop marks found₀ j₀ found j = (j ≤ outputCount) × (found ≡ any (ma
 abbrev μ-loop : tie.MeasureT-loop
 μ-loop marks found₀ j₀ found j = outputCount - j
 
--- src/range/places.rt:32:5
 loop-holds : tie.Need-loop-holds Inv-loop μ-loop
 loop-holds c = (omega arith, sym (any-none _))
 
--- src/range/places.rt:33:25
 array-read-found : tie.Need-array-read-found Inv-loop μ-loop
 array-read-found c = search needs
 
--- src/range/places.rt:34:9
 add-j : tie.Need-add-j Inv-loop μ-loop
 add-j c = search needs
 
--- src/range/places.rt:32:5
 loop-less : tie.Need-loop-less Inv-loop μ-loop
 loop-less c = search needs
 
--- src/range/places.rt:32:5
 loop-again : tie.Need-loop-again Inv-loop μ-loop
 loop-again c = (search needs, rw (any-more, ← c .before .loop .inv .1) refl)
 
--- src/range/places.rt:27:1
 returns : tie.Need-returns Inv-loop μ-loop
 returns c =
     let l = c .before .loop in

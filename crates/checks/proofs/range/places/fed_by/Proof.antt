@@ -7,15 +7,12 @@ use Rattle.checks.proofs.range.places.fed_by.Reads as reads
 use Rattle.checks.proofs.range.places.fed_by.Lts as lts
 use Rattle.checks.proofs.range.phases.is_none.Reads as is-none-reads
 
--- src/range/places.rt:89:20
 wide-requires : tie.Need-wide-requires
 wide-requires c κs = search needs
 
--- src/range/places.rt:89:53
 is-none-requires : tie.Need-is-none-requires
 is-none-requires c κs = search needs
 
--- src/range/places.rt:85:1
 returns : tie.Need-returns
 returns c = rw (c .is-none .ensures, c .before .before .wide .ensures .0) refl
 

@@ -7,15 +7,12 @@ use Rattle.checks.proofs.range.places.in_entry_ok.Lts as lts
 use Rattle.checks.proofs.range.places.tag_ok.Reads as tag-ok-reads
 use Rattle.checks.proofs.range.places.zero_in_entry.Reads as zero-in-entry-reads
 
--- src/range/places.rt:162:13
 tag-ok-requires : tie.Need-tag-ok-requires
 tag-ok-requires c κs = search needs
 
--- src/range/places.rt:162:73
 zero-in-entry-requires : tie.Need-zero-in-entry-requires
 zero-in-entry-requires c κs = search needs
 
--- src/range/places.rt:158:1
 returns : tie.Need-returns
 returns c = rw (c .zero-in-entry .ensures, c .before .tag-ok .ensures) refl
 

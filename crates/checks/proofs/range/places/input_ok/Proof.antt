@@ -14,47 +14,36 @@ use Rattle.checks.proofs.range.places.marks_ok.Reads as marks-ok-reads
 use Rattle.checks.proofs.range.places.tag_ok.Reads as tag-ok-reads
 use Rattle.checks.proofs.range.places.zero_input.Reads as zero-input-reads
 
--- src/range/places.rt:119:9
 is-free-requires : tie.Need-is-free-requires
 is-free-requires c κs = search needs
 
--- src/range/places.rt:120:9
 any-mark-requires : tie.Need-any-mark-requires
 any-mark-requires c κs = search needs
 
--- src/range/places.rt:121:9
 is-connected-requires : tie.Need-is-connected-requires
 is-connected-requires c κs = search needs
 
--- src/range/places.rt:122:9
 is-splitting-requires : tie.Need-is-splitting-requires
 is-splitting-requires c κs = search needs
 
--- src/range/places.rt:124:20
 zero-input-requires : tie.Need-zero-input-requires
 zero-input-requires c κs = search needs
 
--- src/range/places.rt:124:50
 tag-ok-requires : tie.Need-tag-ok-requires
 tag-ok-requires c κs = search needs
 
--- src/range/places.rt:126:11
 marks-ok-requires : tie.Need-marks-ok-requires
 marks-ok-requires c κs = search needs
 
--- src/range/places.rt:127:25
 array-read-result : tie.Need-array-read-result
 array-read-result c = search needs
 
--- src/range/places.rt:128:13
 is-aborting-requires : tie.Need-is-aborting-requires
 is-aborting-requires c κs = search needs
 
--- src/range/places.rt:128:48
 any-remote-requires : tie.Need-any-remote-requires
 any-remote-requires c κs = search needs
 
--- src/range/places.rt:107:1
 returns : tie.Need-returns
 returns c =
     rw (

@@ -20,42 +20,33 @@ Inv-loop i outputs marks ok₀ j₀ ok j =
 abbrev μ-loop : tie.MeasureT-loop
 μ-loop i outputs marks ok₀ j₀ ok j = outputCount - j
 
--- src/range/places.rt:98:5
 loop-holds : tie.Need-loop-holds Inv-loop μ-loop
 loop-holds c = (omega arith, sym (all-none _))
 
--- src/range/places.rt:99:22
 mul-output : tie.Need-mul-output Inv-loop μ-loop
 mul-output c = search needs
 
--- src/range/places.rt:99:22
 array-copy-out-output : tie.Need-array-copy-out-output Inv-loop μ-loop
 array-copy-out-output c = search needs
 
--- src/range/places.rt:100:21
 array-read-ok : tie.Need-array-read-ok Inv-loop μ-loop
 array-read-ok c = search needs
 
--- src/range/places.rt:100:32
 fed-by-requires : tie.Need-fed-by-requires Inv-loop μ-loop
 fed-by-requires c κs = search needs
 
--- src/range/places.rt:101:9
 add-j : tie.Need-add-j Inv-loop μ-loop
 add-j c = search needs
 
--- src/range/places.rt:98:5
 loop-less : tie.Need-loop-less Inv-loop μ-loop
 loop-less c = search needs
 
--- src/range/places.rt:98:5
 loop-again : tie.Need-loop-again Inv-loop μ-loop
 loop-again c =
     let l = c .before .before .before .loop in
     let e = ap (implies (mark (c .before .before .before .before .args .t3) (l .j))) (c .fed-by .ensures) in
     (search needs, all-next _ (l .j) _ _ (l .inv .1) (e))
 
--- src/range/places.rt:93:1
 returns : tie.Need-returns Inv-loop μ-loop
 returns c =
     let l = c .before .loop in

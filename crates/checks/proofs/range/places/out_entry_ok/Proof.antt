@@ -7,15 +7,12 @@ use Rattle.checks.proofs.range.places.out_entry_ok.Lts as lts
 use Rattle.checks.proofs.range.places.tag_ok.Reads as tag-ok-reads
 use Rattle.checks.proofs.range.places.zero_out_entry.Reads as zero-out-entry-reads
 
--- src/range/places.rt:153:16
 tag-ok-requires : tie.Need-tag-ok-requires
 tag-ok-requires c κs = search needs
 
--- src/range/places.rt:154:30
 zero-out-entry-requires : tie.Need-zero-out-entry-requires
 zero-out-entry-requires c κs = search needs
 
--- src/range/places.rt:143:1
 returns : tie.Need-returns
 returns c = rw (c .zero-out-entry .ensures, c .before .before .tag-ok .ensures) refl
 

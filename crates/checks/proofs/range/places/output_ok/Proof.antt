@@ -9,23 +9,18 @@ use Rattle.checks.proofs.range.phases.is_keep.Reads as is-keep-reads
 use Rattle.checks.proofs.range.places.tag_ok.Reads as tag-ok-reads
 use Rattle.checks.proofs.range.places.zero_output.Reads as zero-output-reads
 
--- src/range/places.rt:136:16
 tag-ok-requires : tie.Need-tag-ok-requires
 tag-ok-requires c κs = search needs
 
--- src/range/places.rt:137:12
 wide-requires : tie.Need-wide-requires
 wide-requires c κs = search needs
 
--- src/range/places.rt:138:13
 is-keep-requires : tie.Need-is-keep-requires
 is-keep-requires c κs = search needs
 
--- src/range/places.rt:139:44
 zero-output-requires : tie.Need-zero-output-requires
 zero-output-requires c κs = search needs
 
--- src/range/places.rt:132:1
 returns : tie.Need-returns
 returns c =
     rw (

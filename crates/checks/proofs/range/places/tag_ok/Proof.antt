@@ -6,11 +6,9 @@ use Rattle.checks.proofs.range.places.tag_ok.Tie as tie
 use Rattle.checks.proofs.range.places.tag_ok.Reads as reads
 use Rattle.checks.proofs.range.places.tag_ok.Lts as lts
 
--- src/range/places.rt:24:26
 is-targets-requires : tie.Need-is-targets-requires
 is-targets-requires c κs = search needs
 
--- src/range/places.rt:21:1
 returns : tie.Need-returns
 returns c = rw (c .is-targets .ensures) refl
 

@@ -6,11 +6,9 @@ use Rattle.checks.proofs.range.places.zero_in_entry.Reads as reads
 use Rattle.checks.proofs.range.places.zero_in_entry.Lts as lts
 use Rattle.checks.proofs.range.phases.is_none.Reads as is-none-reads
 
--- src/range/places.rt:81:46
 is-none-requires : tie.Need-is-none-requires
 is-none-requires c κs = search needs
 
--- src/range/places.rt:77:1
 returns : tie.Need-returns
 returns c = rw (c .is-none .ensures) refl
 

@@ -7,15 +7,12 @@ use Rattle.checks.proofs.range.places.zero_input.Lts as lts
 use Rattle.checks.proofs.range.phases.is_free.Reads as is-free-reads
 use Rattle.checks.proofs.range.places.any_mark.Reads as any-mark-reads
 
--- src/range/places.rt:56:5
 is-free-requires : tie.Need-is-free-requires
 is-free-requires c κs = search needs
 
--- src/range/places.rt:56:64
 any-mark-requires : tie.Need-any-mark-requires
 any-mark-requires c κs = search needs
 
--- src/range/places.rt:51:1
 returns : tie.Need-returns
 returns c = rw (c .before .any-mark .ensures, c .before .before .before .before .is-free .ensures) refl
 

@@ -6,11 +6,9 @@ use Rattle.checks.proofs.range.places.zero_output.Reads as reads
 use Rattle.checks.proofs.range.places.zero_output.Lts as lts
 use Rattle.checks.proofs.range.phases.is_none.Reads as is-none-reads
 
--- src/range/places.rt:68:11
 is-none-requires : tie.Need-is-none-requires
 is-none-requires c κs = search needs
 
--- src/range/places.rt:59:1
 returns : tie.Need-returns
 returns c = rw (c .is-none .ensures) refl
 

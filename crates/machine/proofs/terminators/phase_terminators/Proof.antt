@@ -1,81 +1,63 @@
 use mathlib.Core.Path.{_≡_, refl, sym, ap, _∙_}
 use native.Mathlib.Omega.{arith}
 use borrow.Author.Needs.{needs}
-use Rattle.machine.proofs.inputs.phase_terminators.Statement.{statement}
-use Rattle.machine.proofs.inputs.phase_terminators.Tie as tie
-use Rattle.machine.proofs.inputs.phase_terminators.Reads as reads
-use Rattle.machine.proofs.inputs.phase_terminators.Lts as lts
-use Rattle.machine.proofs.inputs.terminators.Reads as terminators-reads
+use Rattle.machine.proofs.terminators.phase_terminators.Statement.{statement}
+use Rattle.machine.proofs.terminators.phase_terminators.Tie as tie
+use Rattle.machine.proofs.terminators.phase_terminators.Reads as reads
+use Rattle.machine.proofs.terminators.phase_terminators.Lts as lts
+use Rattle.machine.proofs.terminators.terminators.Reads as terminators-reads
 
--- src/inputs.rt:63:25
 enum-told : tie.Need-enum-told
 enum-told c = search needs
 
--- src/inputs.rt:64:25
 enum-told-2 : tie.Need-enum-told-2
 enum-told-2 c = search needs
 
--- src/inputs.rt:65:28
 enum-told-3 : tie.Need-enum-told-3
 enum-told-3 c = search needs
 
--- src/inputs.rt:66:28
 enum-told-4 : tie.Need-enum-told-4
 enum-told-4 c = search needs
 
--- src/inputs.rt:67:21
 enum-known-phase : tie.Need-enum-known-phase
 enum-known-phase c = search needs
 
--- src/inputs.rt:67:46
 terminators-requires : tie.Need-terminators-requires
 terminators-requires c κs = search needs
 
--- src/inputs.rt:68:21
 enum-known-phase-2 : tie.Need-enum-known-phase-2
 enum-known-phase-2 c = search needs
 
--- src/inputs.rt:68:46
 terminators-requires-2 : tie.Need-terminators-requires-2
 terminators-requires-2 c κs = search needs
 
--- src/inputs.rt:69:29
 enum-told-5 : tie.Need-enum-told-5
 enum-told-5 c = search needs
 
--- src/inputs.rt:70:35
 enum-told-6 : tie.Need-enum-told-6
 enum-told-6 c = search needs
 
--- src/inputs.rt:59:1
 returns : tie.Need-returns
 returns c = rw (c .enum-told .given .1) refl
 
--- src/inputs.rt:59:1
 returns-2 : tie.Need-returns-2
 returns-2 c = rw (c .enum-told2 .given .1) refl
 
--- src/inputs.rt:59:1
 returns-3 : tie.Need-returns-3
 returns-3 c = rw (c .enum-told3 .given .1) refl
 
--- src/inputs.rt:59:1
 returns-4 : tie.Need-returns-4
 returns-4 c = rw (c .enum-told4 .given .1) refl
 
--- src/inputs.rt:59:1
 returns-5 : tie.Need-returns-5
 returns-5 c = rw (c .terminators .ensures, c .before .before .phase .given .1) refl
 
--- src/inputs.rt:59:1
 returns-6 : tie.Need-returns-6
 returns-6 c = rw (c .terminators2 .ensures, c .before .before .phase2 .given .1) refl
 
--- src/inputs.rt:59:1
 returns-7 : tie.Need-returns-7
 returns-7 c = rw (c .enum-told5 .given .1) refl
 
--- src/inputs.rt:59:1
 returns-8 : tie.Need-returns-8
 returns-8 c = rw (c .enum-told6 .given .1) refl
 

@@ -9,11 +9,11 @@ use Rattle.base.specs.Over.{over, over-none, over-step, length-over}
 use Rattle.model.specs.Types.{outOf, outTerm, mark}
 use Rattle.model.specs.NetInput.{give}
 use Rattle.machine.specs.Turns.{givenAt}
-use Rattle.machine.proofs.inputs.give_terminators.Statement.{statement}
-use Rattle.machine.proofs.inputs.give_terminators.Tie as tie
-use Rattle.machine.proofs.inputs.give_terminators.Reads as reads
-use Rattle.machine.proofs.inputs.give_terminators.Lts as lts
-use Rattle.machine.proofs.inputs.ended_if.Reads as ended-if-reads
+use Rattle.machine.proofs.terminators.give_terminators.Statement.{statement}
+use Rattle.machine.proofs.terminators.give_terminators.Tie as tie
+use Rattle.machine.proofs.terminators.give_terminators.Reads as reads
+use Rattle.machine.proofs.terminators.give_terminators.Lts as lts
+use Rattle.machine.proofs.terminators.ended_if.Reads as ended-if-reads
 
 abbrev Inv-loop : tie.InvT-loop
 Inv-loop outputs marks given next₀ j₀ next j = (j ≤ 5) × (next ≡ over (λ k. cond (mark marks k) (outTerm (outOf outputs k) (givenAt given k)) (outOf outputs k)) j outputs)
@@ -21,51 +21,39 @@ Inv-loop outputs marks given next₀ j₀ next j = (j ≤ 5) × (next ≡ over (
 abbrev μ-loop : tie.MeasureT-loop
 μ-loop outputs marks given next₀ j₀ next j = 5 - j
 
--- src/inputs.rt:104:5
 loop-holds : tie.Need-loop-holds Inv-loop μ-loop
 loop-holds c = (omega arith, sym (over-none _ _))
 
--- src/inputs.rt:105:22
 mul-output : tie.Need-mul-output Inv-loop μ-loop
 mul-output c = search needs
 
--- src/inputs.rt:105:22
 array-copy-out-output : tie.Need-array-copy-out-output Inv-loop μ-loop
 array-copy-out-output c = search needs
 
--- src/inputs.rt:106:26
 array-copy-out-terminator : tie.Need-array-copy-out-terminator Inv-loop μ-loop
 array-copy-out-terminator c = search needs
 
--- src/inputs.rt:107:30
 array-read-ended-if : tie.Need-array-read-ended-if Inv-loop μ-loop
 array-read-ended-if c = search needs
 
--- src/inputs.rt:107:13
 ended-if-requires : tie.Need-ended-if-requires Inv-loop μ-loop
 ended-if-requires c κs = search needs
 
--- src/inputs.rt:108:9
 mul-next : tie.Need-mul-next Inv-loop μ-loop
 mul-next c = search needs
 
--- src/inputs.rt:108:9
 array-set-from-next : tie.Need-array-set-from-next Inv-loop μ-loop
 array-set-from-next c = let e : length (c .before .before .before .before .before .args .t1) ≡ 5 = search needs in omega (arith, ap length (c .before .before .before .before .loop .inv .1), length-over (λ k. cond (mark (c .before .before .before .before .before .args .t2) k) (outTerm (outOf (c .before .before .before .before .before .args .t1) k) (givenAt (c .before .before .before .before .before .args .t3) k)) (outOf (c .before .before .before .before .before .args .t1) k)) (c .before .before .before .before .loop .j) (c .before .before .before .before .before .args .t1))
 
--- src/inputs.rt:104:9
 add-j : tie.Need-add-j Inv-loop μ-loop
 add-j c = search needs
 
--- src/inputs.rt:104:5
 loop-less : tie.Need-loop-less Inv-loop μ-loop
 loop-less c = search needs
 
--- src/inputs.rt:104:5
 loop-again : tie.Need-loop-again Inv-loop μ-loop
 loop-again c = let e : length (c .before .before .before .before .before .args .t1) ≡ 5 = search needs in (omega arith, over-step _ (c .before .before .before .before .loop .j) _ _ _ (c .before .before .before .before .loop .inv .1) (c .ended-if .ensures) (omega arith))
 
--- src/inputs.rt:100:1
 returns : tie.Need-returns Inv-loop μ-loop
 unfolding give
 returns c = let e : c .before .loop .j ≡ 5 = omega arith in c .before .loop .inv .1 ∙ ap (λ (k : ℕ). over (λ k. cond (mark (c .before .before .args .t2) k) (outTerm (outOf (c .before .before .args .t1) k) (givenAt (c .before .before .args .t3) k)) (outOf (c .before .before .args .t1) k)) k (c .before .before .args .t1)) e

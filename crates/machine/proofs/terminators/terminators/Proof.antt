@@ -1,22 +1,19 @@
 use mathlib.Core.Path.{_≡_, refl, sym}
 use Rattle.machine.proofs.Table.{remotes}
 use borrow.Author.Needs.{needs}
-use Rattle.machine.proofs.inputs.terminators.Statement.{statement}
-use Rattle.machine.proofs.inputs.terminators.Tie as tie
-use Rattle.machine.proofs.inputs.terminators.Reads as reads
-use Rattle.machine.proofs.inputs.terminators.Lts as lts
-use Rattle.machine.proofs.inputs.local_terminator.Reads as local-terminator-reads
-use Rattle.machine.proofs.inputs.remote_terminator.Reads as remote-terminator-reads
+use Rattle.machine.proofs.terminators.terminators.Statement.{statement}
+use Rattle.machine.proofs.terminators.terminators.Tie as tie
+use Rattle.machine.proofs.terminators.terminators.Reads as reads
+use Rattle.machine.proofs.terminators.terminators.Lts as lts
+use Rattle.machine.proofs.terminators.local_terminator.Reads as local-terminator-reads
+use Rattle.machine.proofs.terminators.remote_terminator.Reads as remote-terminator-reads
 
--- src/inputs.rt:114:9
 local-terminator-requires : tie.Need-local-terminator-requires
 local-terminator-requires c κs = search needs
 
--- src/inputs.rt:115:9
 remote-terminator-requires : tie.Need-remote-terminator-requires
 remote-terminator-requires c κs = search needs
 
--- src/inputs.rt:111:1
 returns : tie.Need-returns
 returns c = rw (c .before .local-terminator .ensures, c .remote-terminator .ensures) (sym (remotes (c .before .before .args .received) (c .before .before .args .connection)))
 

@@ -2,21 +2,18 @@ use mathlib.Core.Path.{_≡_, refl, sym, ap, _∙_}
 use native.Mathlib.Omega.{arith}
 use borrow.Author.Tests.{eq-eqb, ne-eqb, lt-ltb, le-ltb, ltb-true}
 use borrow.Author.Needs.{needs}
-use Rattle.machine.proofs.inputs.ended_if.Statement.{statement}
-use Rattle.machine.proofs.inputs.ended_if.Tie as tie
-use Rattle.machine.proofs.inputs.ended_if.Reads as reads
-use Rattle.machine.proofs.inputs.ended_if.Lts as lts
+use Rattle.machine.proofs.terminators.ended_if.Statement.{statement}
+use Rattle.machine.proofs.terminators.ended_if.Tie as tie
+use Rattle.machine.proofs.terminators.ended_if.Reads as reads
+use Rattle.machine.proofs.terminators.ended_if.Lts as lts
 use Rattle.machine.proofs.phases.with_terminator.Reads as with-terminator-reads
 
--- src/inputs.rt:94:9
 with-terminator-requires : tie.Need-with-terminator-requires
 with-terminator-requires c κs = search needs
 
--- src/inputs.rt:94:9
 returns : tie.Need-returns
 returns c = rw (c .with-terminator .ensures, c .before .if1 .taken) refl
 
--- src/inputs.rt:90:1
 returns-2 : tie.Need-returns-2
 returns-2 c = search needs
 
