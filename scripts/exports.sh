@@ -4,8 +4,9 @@
 # (1), and examples/compare_deliveries in C and Rust against their expected output. Run it after `rt ci` or `rt check`.
 # The library is for x86-64. There the tests are built with rustc and cc (or what RUSTC and CC name) and run. On another
 # machine they are cross-compiled and run under the Rattle kit's emulator (or that which QEMU names), if rustc has the
-# standard library of x86_64-unknown-linux-gnu, x86_64-linux-gnu-gcc is there and an empty program runs so; else one
-# line says that the tests are left out, and the exit status is 0.
+# standard library of x86_64-unknown-linux-gnu, x86_64-linux-gnu-gcc is there and an empty program runs so; else they are
+# run on the library's own LLVM module, compiled for this machine (scripts/native.sh); where that is not possible either,
+# one line says that the tests are left out, and the exit status is 0.
 # Prints one line for each part; fails at any fault. What it builds stays in target/library/. Nothing is fetched.
 set -eu
 export LC_ALL=C
@@ -52,8 +53,18 @@ else
     libraries=$tools/lib
     set -- --target x86_64-unknown-linux-gnu -C linker="$cc"
     if ! can_run "$@"; then
-        echo "library: built; its tests are left out, since this machine cannot make and run programs for x86-64"
-        exit 0
+        set --
+        libraries=''
+        cc=${CC:-cc}
+        status=0
+        sh "$root/scripts/native.sh" exports "$built/native" >"$built/native.log" 2>&1 || status=$?
+        if [ "$status" -eq 2 ] || ! command -v "$cc" >/dev/null 2>&1; then
+            echo "library: built; its tests are left out, since this machine cannot make and run them"
+            exit 0
+        fi
+        [ "$status" -eq 0 ] || end 1 "not made for this machine: $(tail -n 1 "$built/native.log")"
+        cp "$built/native/libexports.a" "$built/libfennqualo.a"
+        echo "library: built; tested as its own LLVM module compiled for $(uname -m)"
     fi
 fi
 set -- "$@" --edition 2021 -O -L "$built" -L native="$built"
