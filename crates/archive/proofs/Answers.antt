@@ -11,13 +11,15 @@ use Rattle.model.specs.declared.Network.{Network}
 use Rattle.model.specs.declared.Run.{Run}
 use Rattle.model.specs.Network.{sizesOk, channelsOk, routesOk, networkRefusal}
 use Rattle.model.specs.Runs.{sendsOk, storedRefusal}
-use Rattle.model.proofs.Networks.{passed}
-use Rattle.archive.specs.declared.Decoded.{Decoded}
-use Rattle.archive.specs.declared.Written.{Written}
-use Rattle.archive.specs.Format.{lengthOf, encode, networkOf, runOf, noRun}
-use Rattle.archive.specs.Code.{Head}
-use Rattle.archive.specs.Refusals.{headThen, bodyRefusal, readRefusal, decode, writeRefusal, writeAnswer, written, put}
+use Rattle.theorems.proofs.Networks.{passed}
+use Rattle.format.specs.declared.Decoded.{Decoded}
+use Rattle.format.specs.declared.Written.{Written}
+use Rattle.format.specs.Format.{lengthOf, encode, networkOf, runOf, noRun}
+use Rattle.archive.specs.Code.{put, Head}
+use Rattle.format.specs.Refusals.{headThen, readRefusal, decode, writeRefusal, writeAnswer, written}
+use Rattle.model.specs.Runs.{bodyRefusal}
 use Rattle.archive.proofs.Passed.{head-then}
+use Rattle.archive.proofs.Put.{put-front}
 
 -- ---- the network's refusal f
 
@@ -141,4 +143,4 @@ pub write-yes : (r : Run) (out after : List ℕ) (n : ℕ) → storedRefusal r �
     → after ≡ put out 0 (encode r) → Answered r out (record { refusal = 0; length = n }) after
 unfolding writeRefusal writeAnswer written
 write-yes r out after n e h k p =
-    (rw (e, le-ltb (length out) (lengthOf r) h, k) refl, rw (e, le-ltb (length out) (lengthOf r) h) p)
+    (rw (e, le-ltb (length out) (lengthOf r) h, k) refl, rw (e, le-ltb (length out) (lengthOf r) h) (p ∙ put-front out (encode r)))

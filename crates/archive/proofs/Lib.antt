@@ -1,5 +1,4 @@
 -- The laws of the format, and the theorems about reader and writer.
-pub mod Examples
 pub mod Numbers
 pub mod Parts
 pub mod Passed

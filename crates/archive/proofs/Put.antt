@@ -9,14 +9,19 @@ use native.Mathlib.Omega.{arith}
 use lib.ListN.{length, getD, set, take, drop, length-append, take-append-drop}
 use lib.Seq.{sets, sets-eq, length-sets, length-take-le, take-at, drop-append-add, drop-drop}
 use Rattle.base.specs.Sizes.{portCount}
+use Rattle.base.specs.Answers.{atFront}
 use Rattle.model.specs.declared.StoredSend.{StoredSend}
 use Rattle.model.specs.declared.Run.{Run}
 use Rattle.model.specs.Types.{sendD}
-use Rattle.archive.specs.Format.{at, headLength, routesPlace, sendsPlace, lengthOf, wordBytes, sendBytes, each, headWith, headBytes, channelBytes, routeBytes, sendsBytes, encode}
-use Rattle.archive.specs.Refusals.{put}
+use Rattle.format.specs.Format.{at, headLength, routesPlace, sendsPlace, lengthOf, wordBytes, sendBytes, each, headWith, headBytes, channelBytes, routeBytes, sendsBytes, encode}
+use Rattle.archive.specs.Code.{put}
 use Rattle.archive.proofs.Parts.{length-each, length-head, length-channels, length-routes, length-sends}
 
 -- ---- stores are bytes put there
+
+pub put-front : (out xs : List ℕ) → put out 0 xs ≡ atFront xs out
+unfolding put atFront
+put-front out xs = let e : 0 + length xs ≡ length xs = omega arith in rw e refl
 
 pub put-sets : (out : List ℕ) (p : ℕ) (xs : List ℕ) → p + length xs ≤ length out → sets out p xs ≡ put out p xs
 unfolding put

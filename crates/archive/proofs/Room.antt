@@ -19,8 +19,8 @@ use Rattle.model.specs.Types.{sendD, sendAt}
 use Rattle.model.specs.Network.{channelByte, joined, routeOf, listOf, channelOk, channelsOk, portOk, listOk, routeOk, routesOk, choice, choices}
 use Rattle.model.specs.Runs.{sendOk, sendsOk}
 use Rattle.checks.proofs.NetworkLaws.{place-below}
-use Rattle.archive.specs.Format.{at, noChannels, noRoutes, noSends, trimmedNetwork, trimmed}
-use Rattle.archive.specs.Refusals.{bodyRefusal}
+use Rattle.format.specs.Format.{at, noChannels, noRoutes, noSends, trimmedNetwork, trimmed}
+use Rattle.model.specs.Runs.{bodyRefusal}
 
 -- ---- a network with other lists that agree within S sites
 

@@ -12,16 +12,14 @@ use lib.Seq.{ext-getD}
 use Rattle.base.specs.Sizes.{portCount}
 use Rattle.base.specs.Over.{over-below}
 use Rattle.model.specs.Types.{sendD}
-use Rattle.archive.specs.Format.{at, word, wordBytes, sendBytes, sendOf, headBytes, encode, lengthOf, sitesPlace, countPlace, headLength, routesPlace, sendsPlace, noChannels, noRoutes, noSends, networkOf, runOf}
+use Rattle.format.specs.Format.{Bytes, at, word, wordBytes, sendBytes, sendOf, headBytes, encode, lengthOf, sitesPlace, countPlace}
+use Rattle.format.specs.Format.{headLength, routesPlace, sendsPlace, noChannels, noRoutes, noSends, networkOf, runOf}
 use Rattle.archive.specs.Code.{Head}
-use Rattle.archive.specs.Refusals.{bodyRefusal, readRefusal}
+use Rattle.format.specs.Refusals.{readRefusal}
+use Rattle.model.specs.Runs.{bodyRefusal}
 use Rattle.archive.proofs.Numbers.{high, low, first, second, third, fourth}
 use Rattle.archive.proofs.Parts.{length-encode, in-head, in-channels, in-routes, in-sends}
 use Rattle.archive.proofs.Passed.{head-passes}
-
--- every number is a byte
-abbrev pub Bytes : List ℕ → Type 0
-Bytes b = (i : ℕ) → at b i < 256
 
 lt-or-ge : (i n : ℕ) → (i < n) ⊎ (n ≤ i)
 lt-or-ge i n = go (ltb i n) refl

@@ -22,23 +22,15 @@ use Rattle.model.specs.declared.Run.{Run}
 use Rattle.model.specs.Types.{sendD, sendAt}
 use Rattle.model.specs.Network.{sizesOk}
 use Rattle.model.specs.Runs.{sendOk, storedRefusal}
-use Rattle.archive.specs.Format.{at, word, quad, sendOf, headBytes, encode, lengthOf, versionPlace, sitesPlace, countPlace, headLength, version, routesPlace, sendsPlace, lengthWith, channelsOf, routesOf, sendsOf, noChannels, noRoutes, noSends, networkOf, runOf, trimmedNetwork, trimmed}
-use Rattle.archive.specs.Refusals.{bodyRefusal, readRefusal, decode}
+use Rattle.format.specs.Format.{at, word, quad, sendOf, headBytes, encode, lengthOf, versionPlace, sitesPlace, countPlace, headLength, version, routesPlace, sendsPlace, lengthWith, channelsOf, routesOf, sendsOf, noChannels, noRoutes, noSends, networkOf, runOf, trimmedNetwork, trimmed}
+use Rattle.format.specs.Refusals.{readRefusal, decode}
+use Rattle.model.specs.Runs.{bodyRefusal}
 use Rattle.archive.proofs.Numbers.{two, four}
 use Rattle.archive.proofs.Parts.{length-encode, in-head, in-channels, in-routes, in-sends}
 use Rattle.archive.proofs.Passed.{head-passes, head-by, body-passes, Stored, stored-passes, stored-by}
 use Rattle.archive.proofs.Room.{trimmed-body}
-use Rattle.archive.proofs.RoundTripBytes.{Bytes, write-read}
-
--- the numbers of a run that the archive holds fit their types
-pub record Fits (r : Run) : Type 0 where
-  pub tries : r .network .tries < 256
-  pub channels : (c : ℕ) → at (r .network .channels) c < 256
-  pub routes : (k : ℕ) → at (r .network .routes) k < 65536
-  pub seed : r .seed < 4294967296
-  pub draws : r .draws < 65536
-  pub marks : (k : ℕ) → sendAt r k .draw < 65536
-  pub sites : (k : ℕ) → sendAt r k .site < 256
+use Rattle.archive.proofs.RoundTripBytes.{write-read}
+use Rattle.format.specs.Format.{Bytes, Fits}
 
 -- ---- reading what was written
 

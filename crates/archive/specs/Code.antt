@@ -2,16 +2,20 @@
 -- the draw number before it. Assumes nothing.
 use mathlib.Core.Path.{_≡_}
 use mathlib.Core.Bool.{Bool, true, cond, _&&_}
-use mathlib.Core.List.{List}
+use mathlib.Core.List.{List, _++_}
 use Prim.Native.Nat.{ℕ, _+_, _-_, _*_, _≤_}
 use lib.Dec.{eqb, ltb, leb}
-use lib.ListN.{length}
+use lib.ListN.{length, take, drop}
 use Rattle.base.specs.Sizes.{sitesMost, queueRoom, sendsMost}
 use Rattle.sets.specs.Sets.{targets}
 use Rattle.model.specs.declared.StoredSend.{StoredSend}
 use Rattle.model.specs.declared.Run.{Run}
 use Rattle.model.specs.Network.{sizesOk}
-use Rattle.archive.specs.Format.{at, word, quad, versionPlace, sitesPlace, countPlace, headLength, version, lengthWith, sendOf, networkOf}
+use Rattle.format.specs.Format.{at, word, quad, versionPlace, sitesPlace, countPlace, headLength, version, lengthWith, sendOf, networkOf}
+
+-- the list with the bytes xs from place p on; what stands before and behind them stays
+unfoldable pub put : List ℕ → ℕ → List ℕ → List ℕ
+put out p xs = take p out ++ xs ++ drop (p + length xs) out
 
 -- bytes that are not refused 1 to 5
 pub record Head (b : List ℕ) : Type 0 where

@@ -1,4 +1,2 @@
--- The format of the archive, what its reader and writer answer, and what their code needs.
-pub mod Format
-pub mod Refusals
+-- What the code of reader and writer needs; the format itself is in crate format.
 pub mod Code

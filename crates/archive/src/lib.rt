@@ -3,7 +3,7 @@
 // `write-read`, `read-write`, `exactly`. The public functions take any slice, of any length, and any run.
 ghost use mathlib.Core.Path.{_≡_};
 ghost use Prim.Native.Nat.{_<_};
-ghost use Rattle.archive.specs.Format.{lengthWith};
+ghost use Rattle.format.specs.Format.{lengthWith};
 
 mod reader;
 mod sends;
@@ -12,18 +12,6 @@ mod writer;
 pub use reader::check;
 pub use reader::read;
 pub use writer::write;
-
-// What the reader answers: the run, or the refusal and the all-zero run.
-pub struct Decoded {
-    pub refusal: u8,
-    pub run: model::Run,
-}
-
-// What the writer answers: how many bytes it wrote, or the refusal and 0.
-pub struct Written {
-    pub refusal: u8,
-    pub length: usize,
-}
 
 // The number of bytes of an archive with so many sites and sends.
 pub(crate) fn size_of(sites: usize, count: usize) -> usize

@@ -4,10 +4,10 @@ ghost use Prim.Native.Nat.{_+_, _*_, _≤_, _<_};
 ghost use lib.ListN.{length};
 ghost use Rattle.base.specs.Sizes.{sitesMost, portCount, sendsMost};
 ghost use Rattle.model.specs.Runs.{storedRefusal};
-ghost use Rattle.archive.specs.Format.{headLength, lengthOf, wordBytes, headWith, channelBytes, routeBytes, sendBytes, sendsBytes, encode};
-ghost use Rattle.archive.specs.Refusals.{put, writeAnswer, written};
-ghost use Rattle.archive.specs.Code.{Fit};
-use crate::Written;
+ghost use Rattle.format.specs.Format.{headLength, lengthOf, wordBytes, headWith, channelBytes, routeBytes, sendBytes, sendsBytes, encode};
+ghost use Rattle.format.specs.Refusals.{writeAnswer, written};
+ghost use Rattle.archive.specs.Code.{put, Fit};
+use format::Written;
 use model::Run;
 use model::StoredSend;
 

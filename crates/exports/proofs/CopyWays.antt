@@ -6,18 +6,18 @@ use mathlib.Core.List.{List}
 use native.Mathlib.Omega.{arith}
 use borrow.Author.Tests.{eqb-true, ne-eqb}
 use lib.Dec.{eqb, ltb}
-use lib.ListN.{length, drop}
+use lib.ListN.{length}
 use Rattle.base.specs.Sizes.{sendsMost}
 use Rattle.model.specs.declared.Run.{Run}
 use Rattle.model.specs.Runs.{storedRefusal}
-use Rattle.archive.specs.declared.Decoded.{Decoded}
-use Rattle.archive.specs.declared.Written.{Written}
-use Rattle.archive.specs.Format.{lengthOf, encode, runOf, noRun}
-use Rattle.archive.specs.Refusals.{readRefusal, decode, writeRefusal, writeAnswer, put, written}
+use Rattle.format.specs.declared.Decoded.{Decoded}
+use Rattle.format.specs.declared.Written.{Written}
+use Rattle.format.specs.Format.{Bytes, lengthOf, runOf}
+use Rattle.format.specs.Refusals.{readRefusal, decode, writeRefusal, writeAnswer, written}
 use Rattle.archive.proofs.Parts.{length-encode}
-use Rattle.archive.proofs.RoundTripBytes.{Bytes, write-read}
+use Rattle.archive.proofs.RoundTripBytes.{write-read}
 use Rattle.machine.proofs.PlayerAnswers.{read-refusal, read-run, read-count, read-stored}
-use Rattle.exports.specs.Calls.{atFront, copyRefusal, copyAfter}
+use Rattle.exports.specs.Calls.{copyRefusal, copyAfter}
 
 -- the writer's answer, taken apart
 write-refusal : (r : Run) (room : ℕ) → writeAnswer r room .refusal ≡ writeRefusal r room
@@ -29,10 +29,6 @@ write-refusal r room = go (eqb (writeRefusal r room) 0) refl
         (record { refusal = writeRefusal r room; length = 0 }) .refusal ≡ writeRefusal r room
     go true e = sym (eqb-true (writeRefusal r room) 0 e)
     go false e = refl
-
-put-front : (out xs : List ℕ) → put out 0 xs ≡ atFront xs out
-unfolding put atFront
-put-front out xs = let e : 0 + length xs ≡ length xs = omega arith in rw e refl
 
 module _ (b out : List ℕ) (d : Decoded) (ed : d ≡ decode b) where
   -- what the contract says of an answer, and of the room after the call
@@ -66,5 +62,5 @@ module _ (b out : List ℕ) (d : Decoded) (ed : d ≡ decode b) where
     unfolding copyAfter written
     copy-written a after ea ew = (
       ap (λ (a : Written). a .refusal) ea ∙ write-refusal (d .run) (length out) ∙ same-room,
-      ew ∙ (rw (same-room, read-run b d ed z, write-read b w passes, put-front out b) refl),
+      ew ∙ (rw (same-room, read-run b d ed z, write-read b w passes) refl),
     )

@@ -7,8 +7,9 @@ use Rattle.base.specs.All.{all}
 use Rattle.base.specs.Over.{over}
 use Rattle.base.specs.Sums.{sum}
 use Rattle.sets.specs.Sets.{has, sizeIn}
-use Rattle.archive.specs.Format.{networkOf, runOf}
-use Rattle.archive.specs.Refusals.{headThen, bodyRefusal, readRefusal}
+use Rattle.format.specs.Format.{networkOf, runOf}
+use Rattle.format.specs.Refusals.{headThen, readRefusal}
+use Rattle.model.specs.Runs.{bodyRefusal}
 use Rattle.machine.specs.Play.{playRefusal}
 use Rattle.exports.specs.Calls.{callRefusal, bookAfter, countsAfter, copyRefusal, copyAfter}
 

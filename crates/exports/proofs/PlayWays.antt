@@ -10,11 +10,12 @@ use lib.Dec.{eqb, ltb}
 use lib.ListN.{length, set}
 use Rattle.model.specs.declared.Counts.{Counts}
 use Rattle.model.specs.Runs.{bookRoom, playedRun, countsOf}
-use Rattle.archive.specs.Format.{runOf}
-use Rattle.archive.specs.Refusals.{readRefusal}
+use Rattle.format.specs.Format.{runOf}
+use Rattle.format.specs.Refusals.{readRefusal}
 use Rattle.machine.specs.declared.player.PlayAnswer.{PlayAnswer}
 use Rattle.machine.specs.Play.{playRefusal, playAnswer, playBook, noCounts}
-use Rattle.exports.specs.Calls.{countPlaces, atFront, fourCounts, callRefusal, bookAfter, countsAfter}
+use Rattle.base.specs.Answers.{atFront}
+use Rattle.exports.specs.Calls.{countPlaces, fourCounts, callRefusal, bookAfter, countsAfter}
 
 -- four stores, one after the other
 pub four-stored : (x y z w : ℕ) (out : List ℕ) → countPlaces ≤ length out

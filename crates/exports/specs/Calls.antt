@@ -2,28 +2,25 @@
 -- player's and the reader's part; the slice for the counts, and the copy, are this library's own. Assumes nothing.
 use Prim.Native.Nat.{ℕ}
 use mathlib.Core.Bool.{cond}
-use mathlib.Core.List.{List, [], _∷_, _++_}
+use mathlib.Core.List.{List, [], _∷_}
 use lib.Dec.{eqb, ltb}
-use lib.ListN.{length, drop}
+use lib.ListN.{length}
+use Rattle.base.specs.Answers.{orNext, atFront}
 use Rattle.model.specs.declared.Counts.{Counts}
 use Rattle.model.specs.Runs.{playedRun, countsOf}
-use Rattle.archive.specs.Format.{runOf}
-use Rattle.archive.specs.Refusals.{readRefusal}
+use Rattle.format.specs.Format.{runOf}
+use Rattle.format.specs.Refusals.{readRefusal}
 use Rattle.machine.specs.Play.{playRefusal, bookIn}
 
 -- the places of a slice that the counts of a run take
 abbrev pub countPlaces : ℕ
 countPlaces = 4
 
--- "Success writes its bytes at the front; the rest stays."
-unfoldable pub atFront : List ℕ → List ℕ → List ℕ
-atFront xs room = xs ++ drop (length xs) room
-
 -- ---- fennqualo_play: bytes b, a book of so many bytes, a slice of so many places for the counts
 
 -- "player 1 to 8, then 14"; after these 14 for too few places
 unfoldable pub callRefusal : List ℕ → ℕ → ℕ → ℕ
-callRefusal b room places = cond (eqb (playRefusal b room) 0) (cond (ltb places countPlaces) 14 0) (playRefusal b room)
+callRefusal b room places = orNext (playRefusal b room) (cond (ltb places countPlaces) 14 0)
 
 unfoldable pub bookAfter : List ℕ → List ℕ → ℕ → List ℕ
 bookAfter b book places = cond (eqb (callRefusal b (length book) places) 0) (bookIn (runOf b) book) book
@@ -42,7 +39,7 @@ countsAfter b room counts =
 
 -- the reader's refusals, then "14 .. if the room is below the archive's length"
 unfoldable pub copyRefusal : List ℕ → ℕ → ℕ
-copyRefusal b room = cond (eqb (readRefusal b) 0) (cond (ltb room (length b)) 14 0) (readRefusal b)
+copyRefusal b room = orNext (readRefusal b) (cond (ltb room (length b)) 14 0)
 
 unfoldable pub copyAfter : List ℕ → List ℕ → List ℕ
 copyAfter b out = cond (eqb (copyRefusal b (length out)) 0) (atFront b out) out

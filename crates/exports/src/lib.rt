@@ -6,8 +6,9 @@
 ghost use mathlib.Core.Path.{_≡_};
 ghost use Prim.Native.Nat.{_≤_};
 ghost use lib.ListN.{length};
-ghost use Rattle.archive.specs.Refusals.{readRefusal};
-ghost use Rattle.exports.specs.Calls.{countPlaces, atFront, fourCounts};
+ghost use Rattle.format.specs.Refusals.{readRefusal};
+ghost use Rattle.base.specs.Answers.{atFront};
+ghost use Rattle.exports.specs.Calls.{countPlaces, fourCounts};
 ghost use Rattle.exports.specs.Calls.{callRefusal, bookAfter, countsAfter, copyRefusal, copyAfter};
 use model::Counts;
 

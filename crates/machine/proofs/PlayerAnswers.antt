@@ -14,9 +14,10 @@ use Rattle.model.specs.declared.Run.{Run}
 use Rattle.model.specs.declared.StoredSend.{StoredSend}
 use Rattle.model.specs.Types.{sendD}
 use Rattle.model.specs.Runs.{storedRefusal, bookRoom, playedRun, countsOf}
-use Rattle.archive.specs.declared.Decoded.{Decoded}
-use Rattle.archive.specs.Format.{runOf, sendOf, sendsPlace, at, sitesPlace, countPlace, noSends, noRun}
-use Rattle.archive.specs.Refusals.{bodyRefusal, readRefusal, decode}
+use Rattle.format.specs.declared.Decoded.{Decoded}
+use Rattle.format.specs.Format.{runOf, sendOf, sendsPlace, at, sitesPlace, countPlace, noSends, noRun}
+use Rattle.format.specs.Refusals.{readRefusal, decode}
+use Rattle.model.specs.Runs.{bodyRefusal}
 use Rattle.archive.proofs.Passed.{head-passes, stored-by}
 use Rattle.machine.specs.Play.{playRefusal, noCounts, playAnswer, bookIn, playBook}
 

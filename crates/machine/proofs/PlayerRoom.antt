@@ -22,7 +22,7 @@ use Rattle.model.specs.declared.Run.{Run}
 use Rattle.model.specs.Types.{sendD, siteAt, inAt, outAt, outEntry, inEntry}
 use Rattle.model.specs.Range.{inputOk, outputOk, outEntryOk, inEntryOk, outQueueOk, inQueueOk, siteOk, placeOk, zeroSite, zeroInput, zeroOutput, zeroOutEntry, zeroInEntry, inRange}
 use Rattle.model.specs.Runs.{bookRoom}
-use Rattle.model.proofs.Networks.{Valid}
+use Rattle.theorems.proofs.Networks.{Valid}
 use Rattle.machine.specs.Owing.{QueuesFit}
 use Rattle.machine.specs.Play.{roomOf}
 

@@ -30,7 +30,7 @@ use Rattle.model.specs.Steps.{Act, Idle, act, ends, run, patch, enqueue}
 use Rattle.model.specs.Events.{sendFault, runs, sends}
 use Rattle.model.specs.Owing.{owedPairs}
 use Rattle.model.specs.Runs.{sendOk, storedRefusal, trySend, bookRoom, playedRun, countsOf}
-use Rattle.model.proofs.Networks.{Valid}
+use Rattle.theorems.proofs.Networks.{Valid}
 use Rattle.machine.specs.declared.step.Act.the-variants.{the-data as Did, Idle as didNothing, Own as didOwn, Serve as didServe, Pass as didPass}
 use Rattle.machine.specs.declared.step.Change.{Change}
 use Rattle.machine.specs.Step.{ofAct, stored, storedBy, farAt}

@@ -26,7 +26,7 @@ use Rattle.model.specs.declared.Sent.the-variants.{the-data as Sent, Accepted, 
 use Rattle.model.specs.declared.Ran.the-variants.{the-data as Ran, Nothing, Changed, Serviced, Refused as RunRefused}
 use Rattle.model.specs.Types.{sendAt}
 use Rattle.model.specs.Network.{sizesOk, channelsOk, routesOk}
-use Rattle.model.specs.Runs.{sendsOk, storedRefusal, trySend}
+use Rattle.model.specs.Runs.{sendsOk, bodyRefusal, storedRefusal, trySend}
 use Rattle.machine.specs.Progress.{Progress, due, answered, sendTurn, went, drew, drawnRun, drawTurn, turned, progress, entered-length}
 
 -- ---- a turn's two ways
@@ -46,7 +46,7 @@ turned-by P r p h k =
 -- ---- a valid run's sends: no more than it may have, and each as it should be
 
 pub stored-sends : (r : Run) → storedRefusal r ≡ 0 → (r .count ≤ sendsMost) × (sendsOk r ≡ true)
-unfolding storedRefusal
+unfolding storedRefusal bodyRefusal
 stored-sends r h =
     let a = first-of (sizesOk (r .network)) _ 3 0 (λ e. omega arith) h in
     let b = second-of (eqb (r .seed) 0) 4 _ 0 (λ e. omega arith) (a .1) in

@@ -22,7 +22,7 @@ use Rattle.model.specs.Types.{sendAt}
 use Rattle.model.specs.Events.{runs}
 use Rattle.model.specs.Runs.{trySend}
 use Rattle.model.specs.Network.{networkRefusal}
-use Rattle.model.proofs.Networks.{valid-ok}
+use Rattle.theorems.proofs.Networks.{valid-ok}
 use Rattle.machine.specs.Progress.{Progress, due, due-at, answered, sendTurn, went, enteredAt, drew, drawnRun, drawTurn, turned}
 
 module _ (r : Run) (p : Progress) where

@@ -16,6 +16,7 @@ use Rattle.model.specs.declared.AfterSend.{AfterSend}
 use Rattle.model.specs.declared.Sent.the-variants.{the-data as Sent, Accepted, Refused as SendRefused}
 use Rattle.model.specs.declared.Ran.the-variants.{the-data as Ran, Nothing, Changed, Serviced, Refused as RunRefused}
 use Rattle.model.specs.Types.{sendAt}
+use Rattle.base.specs.Answers.{atFront}
 use Rattle.model.specs.Runs.{Service, Played, unplayed, serviceBytes, bookBytes, bookRoom, storedRefusal, entered, trySend, played, playedRun}
 use Rattle.machine.specs.Progress.{Progress, due, answered, sendTurn, enteredAt, drew, drawnRun, drawTurn, turned, progress}
 use Rattle.machine.proofs.ProgressLaws.{stored-sends, facts}
@@ -122,6 +123,10 @@ module _ (r : Run) (room : List ℕ) (ok : storedRefusal r ≡ 0) (held : length
 
 -- ---- the law
 
+filled-front : (l : List Service) (room : List ℕ) → filled l room ≡ atFront (bookBytes l) room
+unfolding atFront
+filled-front l room = rw (bytes-length l) refl
+
 pub progress-is : (r : Run) (room : List ℕ) → storedRefusal r ≡ 0 → length (r .sends) ≡ sendsMost
     → bookRoom r ≤ length room
     → let p = progress r room (r .count + r .draws) in
@@ -129,7 +134,7 @@ pub progress-is : (r : Run) (room : List ℕ) → storedRefusal r ≡ 0 → leng
     × (p .accepted ≡ playedRun r .accepted)
     × (p .pairs ≡ playedRun r .pairs)
     × (p .serviced ≡ length (playedRun r .book))
-    × (p .book ≡ bookBytes (playedRun r .book) ++ drop (4 * length (playedRun r .book)) room)
+    × (p .book ≡ atFront (bookBytes (playedRun r .book)) room)
 progress-is r room ok held wide =
     let e = progress-played r room ok held in
     let b = booked r room ok held wide (r .count + r .draws) in (
@@ -137,5 +142,5 @@ progress-is r room ok held wide =
       ap (λ (w : Played). w .accepted) e,
       ap (λ (w : Played). w .pairs) e,
       b .0 ∙ ap (λ (w : Played). length (w .book)) e,
-      b .1 ∙ ap (λ (w : Played). filled (w .book) room) e,
+      b .1 ∙ ap (λ (w : Played). filled (w .book) room) e ∙ filled-front (playedRun r .book) room,
     )

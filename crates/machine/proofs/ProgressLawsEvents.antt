@@ -25,12 +25,14 @@ use Rattle.model.specs.Range.{inRange}
 use Rattle.model.specs.Events.{Event, Send, Run, final}
 use Rattle.model.specs.Owing.{owedPairs}
 use Rattle.model.specs.Runs.{Timed, Service, Played, unplayed, storedRefusal, bookRoom, sendPlayed, entered, trySend, advance, played, playedSingly}
-use Rattle.model.proofs.Networks.{valid-ok}
-use Rattle.model.proofs.RangeKept.{Shaped, empty-shaped, empty-in-range, final-shaped, reached}
-use Rattle.model.proofs.Played.{events, AllNamed, singly-state, same-played, stored-network}
-use Rattle.model.proofs.PlayerCounts.{singly-counts}
+use Rattle.theorems.proofs.Networks.{valid-ok}
+use Rattle.theorems.proofs.RangeKept.{empty-shaped, empty-in-range, final-shaped, reached}
+use Rattle.theorems.proofs.Played.{AllNamed, singly-state, same-played, stored-network}
+use Rattle.theorems.proofs.PlayerCounts.{singly-counts}
 use Rattle.machine.specs.Progress.{Progress, due, answered, sendTurn, drew, drawnRun, drawTurn, turned, progress}
 use Rattle.machine.proofs.ProgressLaws.{sizesTo, sizes-grow, facts}
+use Rattle.model.specs.Shapes.{Shaped}
+use Rattle.model.specs.Runs.{events}
 
 -- ---- the events of the first k turns, and their services
 

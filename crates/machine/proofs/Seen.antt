@@ -26,7 +26,7 @@ use Rattle.model.specs.Range.{inputOk, outputOk, outQueueOk, inQueueOk, siteOk,
 use Rattle.model.specs.NetInput.{Turn, Stay, To, allReady, hears, ready, inState, netInput}
 use Rattle.model.specs.Places.{Work, Rest, Cleared, Service, localOutput, deliver, channelOutput, outQueue, operator, timeout}
 use Rattle.model.specs.Steps.{Act, Idle, Own, Serve, Pass, ownTurn, passTurn, workDone, setBoth, netOutput, act, ends}
-use Rattle.model.proofs.Networks.{Valid, valid-ok}
+use Rattle.theorems.proofs.Networks.{Valid, valid-ok}
 use Rattle.machine.specs.declared.step.Act.the-variants.{Idle as didNothing, Own as didOwn, Serve as didServe, Pass as didPass}
 use Rattle.machine.specs.Step.{ofAct, Runnable, Bytes, Passable, isPass, farAt, fourEnds}
 

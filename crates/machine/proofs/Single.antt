@@ -19,8 +19,8 @@ use Rattle.model.specs.Network.{networkRefusal, joined}
 use Rattle.model.specs.Range.{inRange}
 use Rattle.model.specs.Steps.{Act, Idle, Own, Serve, Pass, patch, act, ends, run}
 use Rattle.model.specs.Events.{refusalThen, runFault, sendFault, runRefusal, sendRefusal, runs, sends, ran, sent}
-use Rattle.model.proofs.Networks.{valid-ok}
-use Rattle.model.proofs.Refusals.{not-refused, send-passes}
+use Rattle.theorems.proofs.Networks.{valid-ok}
+use Rattle.theorems.proofs.Refusals.{not-refused, send-passes}
 use Rattle.machine.specs.Step.{ofAct, stored, farAt, fourEnds}
 use Rattle.machine.proofs.Seen.{act-same, four-at}
 

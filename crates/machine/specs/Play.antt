@@ -1,11 +1,12 @@
 -- Document 01, "Draws and the stored run": what the player answers to any bytes, with any room lent for the book.
 -- Assumes nothing.
 use Prim.Native.Nat.{ℕ, _*_}
-use mathlib.Core.List.{List, _++_}
+use mathlib.Core.List.{List}
 use mathlib.Core.Bool.{cond}
 use lib.Dec.{eqb, ltb}
-use lib.ListN.{length, drop, getD}
+use lib.ListN.{length, getD}
 use Rattle.base.specs.Sizes.{packetsMost}
+use Rattle.base.specs.Answers.{orNext, atFront}
 use Rattle.base.specs.Sums.{upto}
 use Rattle.sets.specs.Sets.{targets, size}
 use Rattle.model.specs.declared.Counts.{Counts}
@@ -15,14 +16,14 @@ use Rattle.model.specs.declared.StoredSend.{StoredSend}
 use Rattle.model.specs.declared.Sent.the-variants.{the-data as Sent, Accepted, Refused as SendRefused}
 use Rattle.model.specs.Types.{sendD}
 use Rattle.model.specs.Runs.{bookBytes, bookRoom, playedRun, countsOf}
-use Rattle.archive.specs.Format.{runOf}
-use Rattle.archive.specs.Refusals.{readRefusal}
+use Rattle.format.specs.Format.{runOf}
+use Rattle.format.specs.Refusals.{readRefusal}
 use Rattle.machine.specs.declared.player.PlayAnswer.{PlayAnswer}
 
 -- "player 1 to 8, then 14": the reader's, then "14 .. for the book below 4 times the summed sizes of the stored sends'
 -- sets"; 0 for bytes b that are played with so much room
 unfoldable pub playRefusal : List ℕ → ℕ → ℕ
-playRefusal b room = cond (eqb (readRefusal b) 0) (cond (ltb room (bookRoom (runOf b))) 14 0) (readRefusal b)
+playRefusal b room = orNext (readRefusal b) (cond (ltb room (bookRoom (runOf b))) 14 0)
 
 -- "A refusal's other numbers are zero."
 abbrev pub noCounts : Counts
@@ -35,9 +36,9 @@ playAnswer b room =
     cond (eqb (playRefusal b room) 0) (record { refusal = 0; counts = countsOf (playedRun (runOf b)) })
     (record { refusal = playRefusal b room; counts = noCounts })
 
--- "Success writes its bytes at the front; the rest stays.": the book of run r in the lent bytes
+-- the book of run r in the lent bytes
 abbrev pub bookIn : Run → List ℕ → List ℕ
-bookIn r room = bookBytes (playedRun r .book) ++ drop (4 * length (playedRun r .book)) room
+bookIn r room = atFront (bookBytes (playedRun r .book)) room
 
 unfoldable pub playBook : List ℕ → List ℕ → List ℕ
 playBook b room = cond (eqb (playRefusal b (length room)) 0) (bookIn (runOf b) room) room

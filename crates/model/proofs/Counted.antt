@@ -1,14 +1,14 @@
--- Demand 3 on four short runs, by computation: packet 0's services and the places that owe it, site by site of its set.
--- `once` says it of every run; here a rule that loses or doubles a target shows the wrong number.
-use Prim.Native.Nat.{ℕ, _+_}
+-- Demand 3 on short runs, by computation: services and the places that owe, packet by packet and site by site, beside what
+-- document 01 asks. `once` says it of every run; here a rule that loses or doubles a target shows the wrong number.
+use Prim.Native.Nat.{ℕ, zero, suc, _+_, _*_}
 use mathlib.Core.Path.{_≡_, refl}
 use mathlib.Core.List.{List, [], _∷_, _++_, map}
-use lib.ListN.{replicate}
+use lib.ListN.{getD, replicate}
 use lib.Count.{trailingZeros}
 use Rattle.base.specs.Sizes.{noChannel}
 use Rattle.base.specs.All.{all, any}
 use Rattle.base.specs.Over.{over}
-use Rattle.base.specs.Sums.{sum, isum}
+use Rattle.base.specs.Sums.{sum, isum, upto}
 use Rattle.sets.specs.Sets.{has, plus, minus, sizeIn, lowest}
 use Rattle.model.specs.Types.{Network, noState}
 use Rattle.model.specs.Network.{networkRefusal}
@@ -17,8 +17,9 @@ use Rattle.model.specs.Router.{firstPort, gatherFrom, gather, spread, or
 use Rattle.model.specs.NetInput.{hears, give, occupy, marksOf, seek, inState}
 use Rattle.model.specs.Places.{localOutput, deliver, channelOutput, outQueue, operate, cutAt}
 use Rattle.model.specs.Steps.{netOutput, act, run, enqueue}
-use Rattle.model.specs.Events.{Event, Send, Run, ran, sent, runRefusal, sendRefusal, after, final, serviced}
+use Rattle.model.specs.Events.{Event, Send, Run, ran, sent, runRefusal, sendRefusal, after, serviced, acceptedSet, timesAnswered}
 use Rattle.model.specs.Owing.{owed}
+use Rattle.model.specs.Runs.{Timed, Service, unplayed, atDraw, playedSingly, inBook, inEntries, bookBytes}
 use Rattle.model.proofs.Examples.{two, at}
 
 -- three sites in a ring, 0 to 1 to 2 to 0, all by ports 1
@@ -32,12 +33,11 @@ ring =
       routes = 0 ∷ 4096 ∷ 4096 ∷ 4096 ∷ 0 ∷ 4096 ∷ 4096 ∷ 4096 ∷ 0 ∷ replicate 247 0;
     }
 
--- packet 0 at sites 0, 1, 2: the times it was serviced there, and the places that owe it
-ones : Network → List Event → ℕ → ℕ
-ones n es t = serviced n noState es 0 t + owed (final n noState es .sites) 0 t
-
-row : Network → List Event → List ℕ
-row n es = ones n es 0 ∷ ones n es 1 ∷ ones n es 2 ∷ []
+-- packet p at sites 0, 1, 2: the times it stands in the book of the events there, and the places that owe it
+row : Network → ℕ → List Event → List ℕ
+row n p es =
+    let g = playedSingly n unplayed (atDraw 0 es) in
+    map (λ t. inBook p t (g .book) + owed (g .state .sites) p t) (0 ∷ 1 ∷ 2 ∷ [])
 
 -- a split of {0,1}: site 0's in-queue has the head, nothing ended yet; the operator has nothing to do
 waiting : List Event
@@ -63,12 +63,38 @@ chased =
 -- what is computed, and what demand 3 says
 pub tally : List (List ℕ × List ℕ)
 tally =
-    (row two waiting, 1 ∷ 1 ∷ 0 ∷ [])
-    ∷ (row two ended, 1 ∷ 1 ∷ 0 ∷ [])
-    ∷ (row two cut, 1 ∷ 1 ∷ 0 ∷ [])
-    ∷ (row ring chased, 1 ∷ 1 ∷ 1 ∷ [])
+    (row two 0 waiting, 1 ∷ 1 ∷ 0 ∷ [])
+    ∷ (row two 0 ended, 1 ∷ 1 ∷ 0 ∷ [])
+    ∷ (row two 0 cut, 1 ∷ 1 ∷ 0 ∷ [])
+    ∷ (row ring 0 chased, 1 ∷ 1 ∷ 1 ∷ [])
     ∷ []
 
 pub counted : map (λ pair. pair .0) tally ≡ map (λ pair. pair .1) tally
-unfolding tally row ones waiting ended cut chased at serviced owed final ran sent runRefusal sendRefusal networkRefusal inRange all any over sum isum has plus minus sizeIn lowest trailingZeros firstPort gatherFrom gather spread orElse route hears give occupy marksOf seek inState localOutput deliver channelOutput outQueue operate cutAt netOutput act run enqueue
+unfolding tally row waiting ended cut chased at playedSingly owed ran sent runRefusal sendRefusal networkRefusal inRange all any over sum isum has plus minus sizeIn lowest trailingZeros firstPort gatherFrom gather spread orElse route hears give occupy marksOf seek inState localOutput deliver channelOutput outQueue operate cutAt netOutput act run enqueue
 counted = refl
+
+-- ---- the numbers of the answers: a packet, a site and an accepted number that differ, none of them 0
+
+-- SEND at site 1 to {0,2} is packet 0; SEND at site 2 to {2} is packet 1; SEND at no site is refused 9; packet 1 goes through
+-- site 2's own output 0 and is serviced there by the operator
+orders : List Event
+orders = Send 1 5 ∷ Send 2 4 ∷ Send 3 1 ∷ []
+
+numbered : List Event
+numbered = orders ++ at 2 (10 ∷ 0 ∷ 5 ∷ 10 ∷ 0 ∷ 5 ∷ 11 ∷ [])
+
+pub number-rows : List (List ℕ × List ℕ)
+number-rows =
+    -- "The answer is the packet number.": the sets accepted under 0, 1, 2, 9 and how often these numbers were answered
+    (map (acceptedSet ring noState orders) (0 ∷ 1 ∷ 2 ∷ 9 ∷ []), 5 ∷ 4 ∷ 0 ∷ 0 ∷ [])
+    ∷ (map (timesAnswered ring noState orders) (0 ∷ 1 ∷ 2 ∷ 9 ∷ []), 1 ∷ 1 ∷ 0 ∷ 0 ∷ [])
+    -- "The answer is 2 with packet and site": packet 1 at site 2, and not packet 2 at site 1
+    ∷ (serviced ring noState numbered 1 2 ∷ serviced ring noState numbered 2 1 ∷ [], 1 ∷ 0 ∷ [])
+    -- "draw 2, packet 1, site 1": the service by draw 259, and how often it is found in the book and in its bytes
+    ∷ (let book = playedSingly ring unplayed (atDraw 259 numbered) .book in bookBytes book, 1 ∷ 3 ∷ 1 ∷ 2 ∷ [])
+    ∷ (inEntries 1 2 (1 ∷ 3 ∷ 1 ∷ 2 ∷ 0 ∷ 0 ∷ 2 ∷ 1 ∷ 0 ∷ 0 ∷ 1 ∷ 2 ∷ []) 2 ∷ inEntries 2 1 (1 ∷ 3 ∷ 1 ∷ 2 ∷ []) 1 ∷ [], 1 ∷ 0 ∷ [])
+    ∷ []
+
+pub numbers-read : map (λ pair. pair .0) number-rows ≡ map (λ pair. pair .1) number-rows
+unfolding number-rows orders numbered at acceptedSet timesAnswered serviced playedSingly bookBytes ran sent runRefusal sendRefusal networkRefusal inRange all any over sum isum upto has plus minus sizeIn lowest trailingZeros firstPort gatherFrom gather spread orElse route hears give occupy marksOf seek inState localOutput deliver channelOutput outQueue operate cutAt netOutput act run enqueue
+numbers-read = refl

@@ -20,7 +20,7 @@ use Rattle.model.specs.Places.{localOutput, deliver, channelOutput, outQ
 use Rattle.model.specs.Steps.{netOutput, act, run, enqueue}
 use Rattle.model.specs.Events.{Event, Send, Run, ran, sent, runRefusal, sendRefusal, after, final}
 use Rattle.model.specs.Owing.{owedPairs}
-use Rattle.model.specs.Runs.{storedRefusal, marked, scriptTo, script, bookBytes, played, playedRun, countsOf}
+use Rattle.model.specs.Runs.{bodyRefusal, storedRefusal, marked, scriptTo, script, bookBytes, played, playedRun, countsOf}
 
 -- "one site"
 abbrev one : ℕ → Network
@@ -151,7 +151,7 @@ handRun =
     }
 
 pub played-runs : (storedRefusal runR ∷ storedRefusal handRun ∷ []) ≡ (0 ∷ 0 ∷ [])
-unfolding runR handRun storedRefusal all any
+unfolding runR handRun storedRefusal bodyRefusal all any
 played-runs = refl
 
 pub hand-book : bookBytes (playedRun handRun .book) ≡ 0 ∷ 7 ∷ 0 ∷ 0 ∷ []

@@ -1,33 +1,6 @@
--- The theorems about the definitions of edition 1, and what they rest on. docs/PROMISES.md says which to read first.
+-- Computed tables: what the definitions give beside what document 01 says, row by row. The theorems stand in crate theorems.
 pub mod Examples
 pub mod Counted
 pub mod RouterCases
-pub mod Networks
-pub mod Refusals
-pub mod RouterGather
-pub mod RouterLaws
-pub mod OutputReads
-pub mod Invariant
-pub mod ConnectionLaws
-pub mod SeekLaws
-pub mod InputLaws
-pub mod QueueLaws
-pub mod OperatorLaws
-pub mod OutputLaws
-pub mod ChannelEnds
-pub mod ChannelLaws
-pub mod StepLaws
-pub mod Demand3
-pub mod RangeTests
-pub mod RangePlaces
-pub mod RangeSites
-pub mod RangeInputs
-pub mod RangeRun
-pub mod RangePackets
-pub mod RangeKept
-pub mod Answers
 pub mod RangeCases
 pub mod RefusalCases
-pub mod Pairs
-pub mod Played
-pub mod PlayerCounts

@@ -1,19 +1,22 @@
--- Document 01, single events: SEND and RUN with their refusals, "single events 3, 6, 7, 13, 9, 10, 12, 11"; and what a list of events leaves behind.
+-- Document 01, the single events and their refusals, "single events 3, 6, 7, 13, 9, 10, 12, 11"; and what a list of events leaves
+-- behind.
 use Prim.Native.Nat.{ℕ, zero, suc, _+_}
 use mathlib.Core.List.{List, [], _∷_}
 use mathlib.Core.Bool.{Bool, true, false, cond, not, _&&_}
 use lib.Dec.{eqb, ltb, leb}
 use Rattle.base.specs.Sizes.{codeCount, packetsMost}
 use Rattle.base.specs.Bools.{count}
+use Rattle.base.specs.Answers.{orNext}
 use Rattle.sets.specs.Sets.{targets}
-use Rattle.model.specs.Types.{Site, State, Network, Sent, Accepted, SendRefused, Ran, Nothing, Changed, Serviced, RunRefused, AfterSend, AfterRun, siteAt}
+use Rattle.model.specs.Types.{State, Network, Sent, Accepted, SendRefused, Ran, RunRefused, AfterSend, AfterRun, siteAt}
+use Rattle.model.specs.Numbers.{sentRefusal, sentPacket, answerOf, ranPacket, ranSite}
 use Rattle.model.specs.Network.{networkRefusal}
 use Rattle.model.specs.Range.{inRange}
 use Rattle.model.specs.Steps.{Stepped, run, enqueue}
 
 -- the network's own refusals 3, 6, 7, then "13: state not in range", then those of the event
 abbrev pub refusalThen : Network → State → ℕ → ℕ
-refusalThen n st own = cond (eqb (networkRefusal n) 0) (cond (inRange n st) own 13) (networkRefusal n)
+refusalThen n st own = orNext (networkRefusal n) (cond (inRange n st) own 13)
 
 -- "9: RUN or SEND: no such site or code"
 abbrev pub runFault : Network → ℕ → ℕ → ℕ
@@ -36,21 +39,30 @@ runRefusal n st s code = refusalThen n st (runFault n s code)
 unfoldable pub sendRefusal : Network → State → ℕ → ℕ → ℕ
 sendRefusal n st s X = refusalThen n st (sendFault n st s X)
 
--- nothing refused: RUN's answer and state; SEND "takes the counter as packet number, adds one", "The answer is the packet number."
+-- nothing refused: RUN's answer and state; SEND "takes the counter as packet number, adds one", "The answer is the packet
+-- number."
 abbrev pub runs : Network → State → ℕ → ℕ → AfterRun
 runs n st s code =
     let r = run n (st .sites) s code in
     record { answer = r .answer; state = record { sites = r .sites; counter = st .counter } }
 
 abbrev pub sends : State → ℕ → ℕ → AfterSend
-sends st s X = record { answer = Accepted (st .counter); state = record { sites = enqueue (st .sites) s (st .counter) X; counter = st .counter + 1 } }
+sends st s X =
+    record {
+      answer = Accepted (st .counter);
+      state = record { sites = enqueue (st .sites) s (st .counter) X; counter = st .counter + 1 };
+    }
 
 -- the single events: a refusal gives its number and hands the state back
 unfoldable pub ran : Network → State → ℕ → ℕ → AfterRun
-ran n st s code = cond (eqb (runRefusal n st s code) 0) (runs n st s code) (record { answer = RunRefused (runRefusal n st s code); state = st })
+ran n st s code =
+    cond (eqb (runRefusal n st s code) 0) (runs n st s code)
+    (record { answer = RunRefused (runRefusal n st s code); state = st })
 
 unfoldable pub sent : Network → State → ℕ → ℕ → AfterSend
-sent n st s X = cond (eqb (sendRefusal n st s X) 0) (sends st s X) (record { answer = SendRefused (sendRefusal n st s X); state = st })
+sent n st s X =
+    cond (eqb (sendRefusal n st s X) 0) (sends st s X)
+    (record { answer = SendRefused (sendRefusal n st s X); state = st })
 
 pub data Event : Type 0 where
   Send : ℕ → ℕ → Event
@@ -65,10 +77,33 @@ unfoldable pub final : Network → State → List Event → State
 final n st [] = st
 final n st (e ∷ es) = final n (after n st e) es
 
--- the sets of the accepted packets, in the order of their numbers
+-- ---- what is read of the answers, by document 01's numbers
+
+-- The set under which number p was accepted: "The answer is the packet number." The empty set for a number that was not
+-- answered; later is what the events after this one say.
+abbrev pub answered : ℕ → Sent → Bool
+answered p w = eqb (sentRefusal w) 0 && eqb (sentPacket w) p
+
+abbrev pub setBy : Network → State → Event → ℕ → ℕ → ℕ
+setBy n st (Send s X) p later = cond (answered p (sent n st s X .answer)) X later
+setBy n st (Run s code) p later = later
+
+unfoldable pub acceptedSet : Network → State → List Event → ℕ → ℕ
+acceptedSet n st [] p = 0
+acceptedSet n st (e ∷ es) p = setBy n st e p (acceptedSet n (after n st e) es p)
+
+-- how often number p was answered
+abbrev pub answeredBy : Network → State → Event → ℕ → ℕ
+answeredBy n st (Send s X) p = count (answered p (sent n st s X .answer))
+answeredBy n st (Run s code) p = 0
+
+unfoldable pub timesAnswered : Network → State → List Event → ℕ → ℕ
+timesAnswered n st [] p = 0
+timesAnswered n st (e ∷ es) p = answeredBy n st e p + timesAnswered n (after n st e) es p
+
+-- the accepted sets, in the order of their sends
 abbrev pub ifAccepted : Sent → ℕ → List ℕ → List ℕ
-ifAccepted (Accepted q) X l = X ∷ l
-ifAccepted (SendRefused k) X l = l
+ifAccepted w X l = cond (eqb (sentRefusal w) 0) (X ∷ l) l
 
 abbrev pub acceptedBy : Network → State → Event → List ℕ → List ℕ
 acceptedBy n st (Send s X) l = ifAccepted (sent n st s X .answer) X l
@@ -78,12 +113,9 @@ unfoldable pub accepted : Network → State → List Event → List ℕ
 accepted n st [] = []
 accepted n st (e ∷ es) = acceptedBy n st e (accepted n (after n st e) es)
 
--- how often packet p was serviced at site t: by an answer, by an event, by a list of them
+-- how often packet p was serviced at site t: by an answer, "2 with packet and site", by an event, by a list of them
 abbrev pub hits : ℕ → ℕ → Ran → ℕ
-hits p t Nothing = 0
-hits p t Changed = 0
-hits p t (Serviced q s) = cond (eqb p q) (cond (eqb t s) 1 0) 0
-hits p t (RunRefused k) = 0
+hits p t w = cond (eqb (answerOf w) 2) (cond (eqb p (ranPacket w)) (cond (eqb t (ranSite w)) 1 0) 0) 0
 
 abbrev pub servicedBy : Network → State → Event → ℕ → ℕ → ℕ
 servicedBy n st (Send s X) p t = 0

@@ -1,3 +1,4 @@
+-- Document 01's definitions, in its order, but for sets (crate sets), draws (draws) and the archive's bytes (archive).
 pub mod Types
 pub mod Numbers
 pub mod Network
@@ -10,3 +11,4 @@ pub mod Steps
 pub mod Events
 pub mod Owing
 pub mod Runs
+pub mod Shapes

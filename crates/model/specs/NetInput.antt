@@ -9,7 +9,9 @@ use Rattle.base.specs.Sizes.{outputCount}
 use Rattle.base.specs.Bools.{implies}
 use Rattle.base.specs.All.{all}
 use Rattle.base.specs.Over.{over}
-use Rattle.model.specs.Types.{Connection, Unicast, Passthru, AllRemote, SomeLocal, Handed, Received, gotEnd, gotAbort, Terminator, tNone, tEnd, tAbort, tKeep, Phase, Free, Seek, Open, Wait, Done, Last, Aborted, FinAbort, Input, Output, Network, noMarks, noInput, outOf, mark, inPhase, outTerm}
+use Rattle.model.specs.Types.{Connection, Unicast, Passthru, AllRemote, SomeLocal, Handed, Received, gotEnd, gotAbort}
+use Rattle.model.specs.Types.{Terminator, tNone, tEnd, tAbort, tKeep, Phase, Free, Seek, Open, Wait, Done, Last, Aborted, FinAbort}
+use Rattle.model.specs.Types.{Input, Output, Network, noMarks, noInput, outOf, mark, inPhase, outTerm}
 use Rattle.model.specs.Phases.{listening, asTerminator}
 use Rattle.model.specs.Router.{Choice, Chosen, Unserved, route, isEmpty, isChosen, unchosen}
 
@@ -44,13 +46,14 @@ table gotEnd Handed j = tEnd
 table gotEnd AllRemote j = atZero j tAbort tEnd
 table gotEnd SomeLocal j = atZero j tKeep tEnd
 
--- "give every connected output its terminator": each output j that is marked gets f j
+-- "give every connected output its terminator": each output j that is marked gets the one given to j
 unfoldable pub give : (ℕ → Terminator) → List Bool → List Output → List Output
-give f bs os = over (λ j. cond (mark bs j) (outTerm (outOf os j) (f j)) (outOf os j)) outputCount os
+give given bs os = over (λ j. cond (mark bs j) (outTerm (outOf os j) (given j)) (outOf os j)) outputCount os
 
--- "Success puts the net-input in open and its outputs in use, head not taken, no terminator." Packet q, input i, each chosen output with its set
+-- "Success puts the net-input in open and its outputs in use, head not taken, no terminator." Packet q, input i, each chosen
+-- output with its set
 abbrev pub taken : ℕ → ℕ → ℕ → Output
-taken q i z = record { set = z; terminator = tNone; packet = q; input = i; used = true; head = false }
+taken q i X = record { set = X; terminator = tNone; packet = q; input = i; used = true; head = false }
 
 unfoldable pub occupy : ℕ → ℕ → List ℕ → List Output → List Output
 occupy q i sets os = over (λ j. cond (isChosen sets j) (taken q i (getD sets j 0)) (outOf os j)) outputCount os

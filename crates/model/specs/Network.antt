@@ -12,7 +12,7 @@ use Rattle.model.specs.Types.{Network}
 
 -- "per site and port 1..4 a channel byte, 255 for none, else 4 x site + port - 1 of the input": that of output j + 1 of site s
 abbrev pub channelByte : Network → ℕ → ℕ
-channelByte n c = getD (n .channels) c 0
+channelByte n m = getD (n .channels) m 0
 
 abbrev pub channel : Network → ℕ → ℕ → ℕ
 channel n s j = channelByte n (portCount * s + j)
@@ -32,7 +32,7 @@ abbrev pub routeOf : Network → ℕ → ℕ → ℕ
 routeOf n s t = getD (n .routes) (s * n .sites + t) 0
 
 abbrev pub choices : ℕ → List ℕ
-choices r = r / 4096 ∷ r / 256 % 16 ∷ r / 16 % 16 ∷ r % 16 ∷ []
+choices route = route / 4096 ∷ route / 256 % 16 ∷ route / 16 % 16 ∷ route % 16 ∷ []
 
 abbrev pub listOf : Network → ℕ → ℕ → List ℕ
 listOf n s t = choices (routeOf n s t)
@@ -43,29 +43,29 @@ sizesOk n = leb 1 (n .sites) && leb (n .sites) sitesMost && leb 1 (n .tries) && 
 
 -- "channel byte neither 255 nor below 4S, or an input fed twice" is what is turned down
 abbrev pub channelOk : Network → ℕ → Bool
-channelOk n c =
-    eqb (channelByte n c) noChannel
-    || ltb (channelByte n c) (portCount * n .sites)
-    && all (λ d. not (eqb (channelByte n d) (channelByte n c))) c
+channelOk n m =
+    eqb (channelByte n m) noChannel
+    || ltb (channelByte n m) (portCount * n .sites)
+    && all (λ m′. not (eqb (channelByte n m′) (channelByte n m))) m
 
 abbrev pub channelsOk : Network → Bool
 channelsOk n = all (channelOk n) (portCount * n .sites)
 
--- "one to four different ports with channels"; "zeros only after the last port". choice k of the list l
+-- "one to four different ports with channels"; "zeros only after the last port". choice m of the list l
 abbrev pub choice : List ℕ → ℕ → ℕ
-choice l k = getD l k 0
+choice l m = getD l m 0
 
 abbrev pub portOk : Network → ℕ → ℕ → Bool
-portOk n s p = eqb p 0 || leb p portCount && joined n s (p - 1)
+portOk n s j = eqb j 0 || leb j portCount && joined n s (j - 1)
 
 abbrev pub differs : List ℕ → ℕ → Bool
-differs l k = eqb (choice l k) 0 || all (λ i. not (eqb (choice l i) (choice l k))) k
+differs l m = eqb (choice l m) 0 || all (λ m′. not (eqb (choice l m′) (choice l m))) m
 
 abbrev pub listOk : Network → ℕ → List ℕ → Bool
 listOk n s l =
     not (eqb (choice l 0) 0)
-    && all (λ k. portOk n s (choice l k)) portCount
-    && all (λ k. implies (eqb (choice l k) 0) (eqb (choice l (k + 1)) 0)) (portCount - 1)
+    && all (λ m. portOk n s (choice l m)) portCount
+    && all (λ m. implies (eqb (choice l m) 0) (eqb (choice l (m + 1)) 0)) (portCount - 1)
     && all (differs l) portCount
 
 -- "For each ordered pair of different sites a route list"; "all zero from a site to itself"
@@ -75,6 +75,10 @@ routeOk n s t = eqb s t && eqb (routeOf n s t) 0 || not (eqb s t) && listOk n s 
 abbrev pub routesOk : Network → Bool
 routesOk n = all (λ s. all (routeOk n s) (n .sites)) (n .sites)
 
--- "3: S, T or D outside its limits"; "6: channel byte .."; "7: a route not as described"; 0 for a valid network
+-- "6: channel byte neither 255 nor below 4S, or an input fed twice"; "7: a route not as described"; or what comes after them
+abbrev pub joinsThen : Network → ℕ → ℕ
+joinsThen n next = cond (channelsOk n) (cond (routesOk n) next 7) 6
+
+-- "3: S, T or D outside its limits"; 6; 7; 0 for a valid network
 unfoldable pub networkRefusal : Network → ℕ
-networkRefusal n = cond (sizesOk n) (cond (channelsOk n) (cond (routesOk n) 0 7) 6) 3
+networkRefusal n = cond (sizesOk n) (joinsThen n 0) 3

@@ -1,7 +1,10 @@
 -- Document 01's number for each case of an enum, and its numbers for each answer.
 use Prim.Native.Nat.{ℕ}
 use mathlib.Core.List.{List, [], _∷_}
-use Rattle.model.specs.Types.{Connection, Unicast, Passthru, AllRemote, SomeLocal, Handed, Received, gotEnd, gotAbort, Terminator, tNone, tEnd, tAbort, tKeep, Phase, Free, Seek, Open, Wait, Done, Last, Aborted, FinAbort, Sent, Accepted, SendRefused, Ran, Nothing, Changed, Serviced, RunRefused}
+use lib.ListN.{getD}
+use Rattle.model.specs.Types.{Connection, Unicast, Passthru, AllRemote, SomeLocal, Handed, Received, gotEnd, gotAbort}
+use Rattle.model.specs.Types.{Terminator, tNone, tEnd, tAbort, tKeep, Phase, Free, Seek, Open, Wait, Done, Last, Aborted, FinAbort}
+use Rattle.model.specs.Types.{Sent, Accepted, SendRefused, Ran, Nothing, Changed, Serviced, RunRefused}
 
 -- "connection (0 none, 1 unicast, 2 passthru, 3 all-remote, 4 some-local, 5 handed)"
 abbrev pub connectionNumber : Connection → ℕ
@@ -34,7 +37,7 @@ stateNumber (Last c r) = 5
 stateNumber (Aborted c) = 6
 stateNumber (FinAbort c r) = 7
 
--- a net-input's connection and terminator, as numbers
+-- a net-input's connection, as a number
 abbrev pub connectionOf : Phase → ℕ
 connectionOf Free = 0
 connectionOf Seek = 0
@@ -45,20 +48,10 @@ connectionOf (Last c r) = connectionNumber c
 connectionOf (Aborted c) = connectionNumber c
 connectionOf (FinAbort c r) = connectionNumber c
 
-abbrev pub terminatorOf : Phase → ℕ
-terminatorOf Free = 0
-terminatorOf Seek = 0
-terminatorOf (Open c) = 0
-terminatorOf (Wait c) = 0
-terminatorOf (Done c r) = receivedNumber r
-terminatorOf (Last c r) = receivedNumber r
-terminatorOf (Aborted c) = 0
-terminatorOf (FinAbort c r) = receivedNumber r
-
 -- SEND: the refusal number, the packet. "A refusal's other numbers are zero."
 abbrev pub sentNumbers : Sent → List ℕ
 sentNumbers (Accepted q) = 0 ∷ q ∷ []
-sentNumbers (SendRefused k) = k ∷ 0 ∷ []
+sentNumbers (SendRefused f) = f ∷ 0 ∷ []
 
 -- RUN: the refusal number, the answer, packet and site. "The answer is 2 with packet and site where the operator serviced,
 -- else 1 if anything in the state changed, else 0."
@@ -66,4 +59,21 @@ abbrev pub ranNumbers : Ran → List ℕ
 ranNumbers Nothing = 0 ∷ 0 ∷ 0 ∷ 0 ∷ []
 ranNumbers Changed = 0 ∷ 1 ∷ 0 ∷ 0 ∷ []
 ranNumbers (Serviced q s) = 0 ∷ 2 ∷ q ∷ s ∷ []
-ranNumbers (RunRefused k) = k ∷ 0 ∷ 0 ∷ 0 ∷ []
+ranNumbers (RunRefused f) = f ∷ 0 ∷ 0 ∷ 0 ∷ []
+
+-- What the promises read of an answer: of SEND the refusal (0 if it is accepted) and the packet, of RUN the answer 0, 1
+-- or 2, the packet and the site
+abbrev pub sentRefusal : Sent → ℕ
+sentRefusal w = getD (sentNumbers w) 0 0
+
+abbrev pub sentPacket : Sent → ℕ
+sentPacket w = getD (sentNumbers w) 1 0
+
+abbrev pub answerOf : Ran → ℕ
+answerOf w = getD (ranNumbers w) 1 0
+
+abbrev pub ranPacket : Ran → ℕ
+ranPacket w = getD (ranNumbers w) 2 0
+
+abbrev pub ranSite : Ran → ℕ
+ranSite w = getD (ranNumbers w) 3 0

@@ -15,8 +15,8 @@ use Rattle.model.specs.Phases.{held}
 abbrev pub owesAs : Terminator → ℕ → ℕ → ℕ → ℕ → ℕ → ℕ
 owesAs tNone s p t q X = 0
 owesAs tAbort s p t q X = 0
-owesAs tEnd s p t q X = cond (eqb p q) (bit X t) 0
-owesAs tKeep s p t q X = cond (eqb t s) (cond (eqb p q) (bit X t) 0) 0
+owesAs tEnd s p t q X = cond (eqb p q) (bit t X) 0
+owesAs tKeep s p t q X = cond (eqb t s) (cond (eqb p q) (bit t X) 0) 0
 
 -- "An out-queue entry owes its set. A net-input, net-output or in-queue entry" by its terminator
 module _ (s p t : ℕ) where
@@ -27,16 +27,16 @@ module _ (s p t : ℕ) where
   owesOutput o = owesAs (o .terminator) s p t (o .packet) (o .set)
 
   abbrev pub owesOutEntry : OutEntry → ℕ
-  owesOutEntry d = owesAs tEnd s p t (d .packet) (d .set)
+  owesOutEntry u = owesAs tEnd s p t (u .packet) (u .set)
 
   abbrev pub owesInEntry : InEntry → ℕ
   owesInEntry a = owesAs (a .terminator) s p t (a .packet) (a .set)
 
   abbrev pub owesOutQueue : OutQueue → ℕ
-  owesOutQueue q = sum owesOutEntry (take (q .count) (q .entries))
+  owesOutQueue oq = sum owesOutEntry (take (oq .count) (oq .entries))
 
   abbrev pub owesInQueue : InQueue → ℕ
-  owesInQueue q = sum owesInEntry (take (q .count) (q .entries))
+  owesInQueue iq = sum owesInEntry (take (iq .count) (iq .entries))
 
 abbrev pub owesSite : ℕ → ℕ → ℕ → Site → ℕ
 owesSite p t s x =
@@ -44,7 +44,7 @@ owesSite p t s x =
 
 -- the places of all sites that owe packet p to site t
 unfoldable pub owed : List Site → ℕ → ℕ → ℕ
-owed st p t = isum (owesSite p t) 0 st
+owed xs p t = isum (owesSite p t) 0 xs
 
 -- How many sites a place owes, whatever the packet: "the owed pairs counted over the final state"
 abbrev pub pairsAs : Terminator → ℕ → ℕ → ℕ
@@ -61,7 +61,7 @@ module _ (s : ℕ) where
   pairsOutput o = pairsAs (o .terminator) s (o .set)
 
   abbrev pub pairsOutEntry : OutEntry → ℕ
-  pairsOutEntry d = pairsAs tEnd s (d .set)
+  pairsOutEntry u = pairsAs tEnd s (u .set)
 
   abbrev pub pairsInEntry : InEntry → ℕ
   pairsInEntry a = pairsAs (a .terminator) s (a .set)
@@ -74,4 +74,4 @@ pairsSite s x =
     + sum (pairsInEntry s) (take (x .incoming .count) (x .incoming .entries))
 
 unfoldable pub owedPairs : List Site → ℕ
-owedPairs st = isum pairsSite 0 st
+owedPairs xs = isum pairsSite 0 xs

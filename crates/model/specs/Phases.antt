@@ -1,6 +1,8 @@
 -- What a net-input's state and a terminator tell: small case functions that the rules and "in range" share.
 use mathlib.Core.Bool.{Bool, true, false}
-use Rattle.model.specs.Types.{Connection, Unicast, Passthru, AllRemote, SomeLocal, Handed, Received, gotEnd, gotAbort, Terminator, tNone, tEnd, tAbort, tKeep, Phase, Free, Seek, Open, Wait, Done, Last, Aborted, FinAbort, Input, inPhase}
+use Rattle.model.specs.Types.{Connection, Unicast, Passthru, AllRemote, SomeLocal, Handed, Received, gotEnd, gotAbort}
+use Rattle.model.specs.Types.{Terminator, tNone, tEnd, tAbort, tKeep, Phase, Free, Seek, Open, Wait, Done, Last, Aborted, FinAbort}
+use Rattle.model.specs.Types.{Input, inPhase}
 
 abbrev pub isFree : Phase → Bool
 isFree Free = true
@@ -96,10 +98,10 @@ receive r Free = Free
 receive r Seek = Seek
 receive r (Open c) = Done c r
 receive r (Wait c) = Wait c
-receive r (Done c q) = Done c q
-receive r (Last c q) = Last c q
+receive r (Done c r′) = Done c r′
+receive r (Last c r′) = Last c r′
 receive r (Aborted c) = FinAbort c r
-receive r (FinAbort c q) = FinAbort c q
+receive r (FinAbort c r′) = FinAbort c r′
 
 abbrev pub received : Received → Input → Input
 received r y = inPhase y (receive r (y .phase))

@@ -5,38 +5,45 @@ use mathlib.Core.Bool.{Bool, true, false, cond, not, _&&_, _||_}
 use lib.Dec.{eqb, ltb}
 use lib.ListN.{set}
 use Rattle.sets.specs.Sets.{has, minus}
-use Rattle.model.specs.Types.{Connection, Received, gotEnd, gotAbort, Terminator, tNone, tEnd, tAbort, tKeep, Phase, Free, Seek, Open, Wait, Done, Last, Aborted, FinAbort, Input, Output, OutEntry, InEntry, OutQueue, InQueue, noMarks, noOutput, outOf, mark, outEntry, inEntry, outHead, entryStarted, entryTerm, pushOut, popOut, pushIn, popIn}
+use Rattle.model.specs.Types.{Connection, Received, gotEnd, gotAbort, Terminator, tNone, tEnd, tAbort, tKeep}
+use Rattle.model.specs.Types.{Phase, Free, Seek, Open, Wait, Done, Last, Aborted, FinAbort}
+use Rattle.model.specs.Types.{Input, Output, OutEntry, InEntry, OutQueue, InQueue, noMarks, noOutput, outOf, mark, outEntry, inEntry}
+use Rattle.model.specs.Types.{outHead, entryStarted, entryTerm, pushOut, popOut, pushIn, popIn}
 use Rattle.model.specs.Phases.{isFree, listening, splits, isNone, received}
 use Rattle.model.specs.NetInput.{Turn, Stay, To, give}
 
 -- an input that "goes to seek with no tries"
 abbrev pub seeking : ℕ → ℕ → Input
-seeking q z = record { set = z; phase = Seek; outputs = noMarks; packet = q; tries = 0 }
+seeking q X = record { set = X; phase = Seek; outputs = noMarks; packet = q; tries = 0 }
 
 -- the in-queue's last entry, and whether there is one that lacks a terminator
 abbrev pub lastOf : InQueue → InEntry
-lastOf q = inEntry q (q .count - 1)
+lastOf iq = inEntry iq (iq .count - 1)
 
 abbrev pub lastLacks : InQueue → Bool
-lastLacks q = ltb 0 (q .count) && isNone (lastOf q .terminator)
+lastLacks iq = ltb 0 (iq .count) && isNone (lastOf iq .terminator)
 
 -- "its last entry gets it"
 abbrev pub endLast : InQueue → Terminator → InQueue
-endLast q k = record { entries = set (q .entries) (q .count - 1) (entryTerm (lastOf q) k); count = q .count }
+endLast iq h = record { entries = set (iq .entries) (iq .count - 1) (entryTerm (lastOf iq) h); count = iq .count }
 
--- Net-output 0. "In use, head not taken: output 0 appends (packet, set, no terminator) to the in-queue if it has room"; "Head taken with a
--- terminator: if ready, deliver it and become empty"; "if the queue is empty or that entry has one already, nothing changes."
+-- Net-output 0. "In use, head not taken: output 0 appends (packet, set, no terminator) to the in-queue if it has room"; "Head taken
+-- with a terminator: if ready, deliver it and become empty"; "if the queue is empty or that entry has one already, nothing changes."
 abbrev pub headIn : ℕ → Output → InQueue → Turn Output InQueue
-headIn D o q = cond (ltb (q .count) D) (To (outHead o) (pushIn q (record { set = o .set; terminator = tNone; packet = o .packet }))) Stay
+headIn D o iq =
+    cond (ltb (iq .count) D)
+    (To (outHead o) (pushIn iq (record { set = o .set; terminator = tNone; packet = o .packet })))
+    Stay
 
 abbrev pub termIn : Output → InQueue → Turn Output InQueue
-termIn o q = cond (lastLacks q) (To noOutput (endLast q (o .terminator))) Stay
+termIn o iq = cond (lastLacks iq) (To noOutput (endLast iq (o .terminator))) Stay
 
 unfoldable pub localOutput : ℕ → Output → InQueue → Turn Output InQueue
-localOutput D o q = cond (o .used) (cond (o .head) (cond (isNone (o .terminator)) Stay (termIn o q)) (headIn D o q)) Stay
+localOutput D o iq = cond (o .used) (cond (o .head) (cond (isNone (o .terminator)) Stay (termIn o iq)) (headIn D o iq)) Stay
 
--- Net-outputs 1 to 4; there tells whether the output has a channel, y is the input at its end. "another passes it to its channel's input if that
--- is free, which goes to seek with no tries"; "Delivery to an input: open to done, abort to fin-abort."; without a channel they "never move"
+-- Net-outputs 1 to 4; there tells whether the output has a channel, y is the input at its end. "another passes it to its channel's
+-- input if that is free, which goes to seek with no tries"; "Delivery to an input: open to done, abort to fin-abort."; without a
+-- channel they "never move"
 abbrev pub headOn : Bool → Output → Input → Turn Output Input
 headOn there o y = cond (there && isFree (y .phase)) (To (outHead o) (seeking (o .packet) (o .set))) Stay
 
@@ -52,17 +59,17 @@ deliver there y tKeep = Stay
 unfoldable pub channelOutput : Bool → Output → Input → Turn Output Input
 channelOutput there o y = cond (o .used) (cond (o .head) (deliver there y (o .terminator)) (headOn there o y)) Stay
 
--- "Front not started: net-input 0, if free, takes it into seek. Started: if net-input 0 is open or abort, it receives end as above and the
--- entry leaves." y is net-input 0
+-- "Front not started: net-input 0, if free, takes it into seek. Started: if net-input 0 is open or abort, it receives end as above
+-- and the entry leaves." y is net-input 0
 abbrev pub startFront : OutQueue → OutQueue
-startFront q = record { entries = set (q .entries) 0 (entryStarted (outEntry q 0)); count = q .count }
+startFront oq = record { entries = set (oq .entries) 0 (entryStarted (outEntry oq 0)); count = oq .count }
 
 unfoldable pub outQueue : OutQueue → Input → Turn OutQueue Input
-outQueue q y =
-    cond (ltb 0 (q .count))
-    (cond (outEntry q 0 .started)
-    (cond (listening (y .phase)) (To (popOut q) (received gotEnd y)) Stay)
-    (cond (isFree (y .phase)) (To (startFront q) (seeking (outEntry q 0 .packet) (outEntry q 0 .set))) Stay))
+outQueue oq y =
+    cond (ltb 0 (oq .count))
+    (cond (outEntry oq 0 .started)
+    (cond (listening (y .phase)) (To (popOut oq) (received gotEnd y)) Stay)
+    (cond (isFree (y .phase)) (To (startFront oq) (seeking (outEntry oq 0 .packet) (outEntry oq 0 .set))) Stay))
     Stay
 
 -- What the operator does: nothing, the queues changed, or the same and a service of packet q.
@@ -71,25 +78,33 @@ pub data Work : Type 0 where
   Cleared : InQueue → OutQueue → Work
   Service : InQueue → OutQueue → ℕ → Work
 
+-- "the rest" of X, "under the same packet number", not started
+abbrev pub requeued : ℕ → ℕ → ℕ → OutEntry
+requeued s q X = record { set = minus s X; packet = q; started = false }
+
 -- "service s if in X"
 abbrev pub serviceIf : ℕ → ℕ → ℕ → InQueue → OutQueue → Work
-serviceIf s q X a b = cond (has s X) (Service a b q) (Cleared a b)
+serviceIf s q X iq oq = cond (has s X) (Service iq oq q) (Cleared iq oq)
 
--- "Front in-queue entry with a terminator, set X, site s", packet q; a and b are in-queue and out-queue
+-- "Front in-queue entry with a terminator, set X, site s", packet q
 unfoldable pub operate : ℕ → ℕ → InQueue → OutQueue → ℕ → ℕ → Terminator → Work
 -- "No terminator: nothing."
-operate D s a b q X tNone = Rest
+operate D s iq oq q X tNone = Rest
 -- "Abort: discard."
-operate D s a b q X tAbort = Cleared (popIn a) b
+operate D s iq oq q X tAbort = Cleared (popIn iq) oq
 -- "Keep-local: service s if in X, then discard."
-operate D s a b q X tKeep = serviceIf s q X (popIn a) b
--- "End: service s if in X; the rest, if any, goes to the back of the out-queue under the same packet number, and if that is full nothing at all happens."
-operate D s a b q X tEnd =
-    cond (eqb (minus s X) 0) (serviceIf s q X (popIn a) b)
-    (cond (ltb (b .count) D) (serviceIf s q X (popIn a) (pushOut b (record { set = minus s X; packet = q; started = false }))) Rest)
+operate D s iq oq q X tKeep = serviceIf s q X (popIn iq) oq
+-- "End: service s if in X; the rest, if any, goes to the back of the out-queue under the same packet number, and if that is full
+-- nothing at all happens."
+operate D s iq oq q X tEnd =
+    cond (eqb (minus s X) 0) (serviceIf s q X (popIn iq) oq)
+    (cond (ltb (oq .count) D) (serviceIf s q X (popIn iq) (pushOut oq (requeued s q X))) Rest)
 
 abbrev pub operator : ℕ → ℕ → InQueue → OutQueue → Work
-operator D s a b = cond (ltb 0 (a .count)) (operate D s a b (inEntry a 0 .packet) (inEntry a 0 .set) (inEntry a 0 .terminator)) Rest
+operator D s iq oq =
+    cond (ltb 0 (iq .count))
+    (operate D s iq oq (inEntry iq 0 .packet) (inEntry iq 0 .set) (inEntry iq 0 .terminator))
+    Rest
 
 -- "its remote outputs get abort and are disconnected; it goes to abort from open or wait, to fin-abort from done or last"
 abbrev pub remote : List Bool → List Bool
@@ -111,10 +126,10 @@ cutAt y os (Last c r) = cond (splits c) (cutOff y os (FinAbort c r)) Stay
 cutAt y os (Aborted c) = Stay
 cutAt y os (FinAbort c r) = Stay
 
--- "If the last in-queue entry lacks a terminator, output 0 is in use with head taken and no terminator, and the input feeding it is .. Otherwise
--- ignored." y is the input that feeds output 0
+-- "If the last in-queue entry lacks a terminator, output 0 is in use with head taken and no terminator, and the input feeding it
+-- is .. Otherwise ignored." y is the input that feeds output 0
 abbrev pub stalled : Output → Bool
 stalled o = o .used && o .head && isNone (o .terminator)
 
 abbrev pub timeout : InQueue → List Output → Input → Turn Input (List Output)
-timeout q os y = cond (lastLacks q && stalled (outOf os 0)) (cutAt y os (y .phase)) Stay
+timeout iq os y = cond (lastLacks iq && stalled (outOf os 0)) (cutAt y os (y .phase)) Stay

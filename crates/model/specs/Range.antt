@@ -9,12 +9,13 @@ use Rattle.base.specs.Sizes.{sitesMost, inputCount, outputCount, portCount, que
 use Rattle.base.specs.Bools.{implies, pick, alike}
 use Rattle.base.specs.All.{all, any}
 use Rattle.sets.specs.Sets.{targets}
-use Rattle.model.specs.Types.{Phase, Input, Output, OutEntry, InEntry, OutQueue, InQueue, Site, State, Network, siteAt, inAt, outOf, outAt, mark, outEntry, inEntry}
+use Rattle.model.specs.Types.{Phase, Input, Output, OutEntry, InEntry, OutQueue, InQueue, Site, State, Network}
+use Rattle.model.specs.Types.{siteAt, inAt, outOf, outAt, mark, outEntry, inEntry}
 use Rattle.model.specs.Phases.{isFree, connected, splitting, aborting, isNone, isKeep}
 
 -- "sets non-empty and within S wherever a place is used, packets below the counter". S sites; k is the counter
 abbrev pub tagOk : ℕ → ℕ → ℕ → ℕ → Bool
-tagOk S k q z = ltb q k && targets S z
+tagOk S k q X = ltb q k && targets S X
 
 abbrev pub anyMark : List Bool → Bool
 anyMark bs = any (mark bs) outputCount
@@ -30,7 +31,7 @@ abbrev pub zeroOutput : Output → Bool
 zeroOutput o = not (o .used) && eqb (o .packet) 0 && eqb (o .set) 0 && eqb (o .input) 0 && not (o .head) && isNone (o .terminator)
 
 abbrev pub zeroOutEntry : OutEntry → Bool
-zeroOutEntry d = eqb (d .packet) 0 && eqb (d .set) 0 && not (d .started)
+zeroOutEntry u = eqb (u .packet) 0 && eqb (u .set) 0 && not (u .started)
 
 abbrev pub zeroInEntry : InEntry → Bool
 zeroInEntry a = eqb (a .packet) 0 && eqb (a .set) 0 && isNone (a .terminator)
@@ -47,7 +48,8 @@ inputOk S T k os i y =
     && alike (anyMark (y .outputs)) (connected (y .phase))  -- "its connected outputs likewise"
     && all (λ j. implies (mark (y .outputs) j) (fedBy i (outOf os j))) outputCount
     && implies (splitting (y .phase)) (mark (y .outputs) 0)  -- "output 0 among them for connections 3 and 4"
-    && implies (aborting (y .phase)) (splitting (y .phase) && not (anyRemote (y .outputs)))  -- "and alone, with one of those two, in abort and fin-abort"
+    -- "and alone, with one of those two, in abort and fin-abort"
+    && implies (aborting (y .phase)) (splitting (y .phase) && not (anyRemote (y .outputs)))
 
 -- net-output j: "input that feeds it", 0 to 4; "keep-local only at output 0 and in in-queues"
 abbrev pub outputOk : ℕ → ℕ → ℕ → Output → Bool
@@ -56,19 +58,19 @@ outputOk S k j o =
     (tagOk S k (o .packet) (o .set) && ltb (o .input) inputCount && implies (isKeep (o .terminator)) (eqb j 0))
     (zeroOutput o)
 
--- entry m of a queue that has c: "only the front may be started"; "room beyond a queue's count" is zero
+-- entry m of a queue of which so many places are filled: "only the front may be started"; "room beyond a queue's count" is zero
 abbrev pub outEntryOk : ℕ → ℕ → ℕ → ℕ → OutEntry → Bool
-outEntryOk S k c m d = pick (ltb m c) (tagOk S k (d .packet) (d .set) && implies (d .started) (eqb m 0)) (zeroOutEntry d)
+outEntryOk S k filled m u = pick (ltb m filled) (tagOk S k (u .packet) (u .set) && implies (u .started) (eqb m 0)) (zeroOutEntry u)
 
 abbrev pub inEntryOk : ℕ → ℕ → ℕ → ℕ → InEntry → Bool
-inEntryOk S k c m a = pick (ltb m c) (tagOk S k (a .packet) (a .set)) (zeroInEntry a)
+inEntryOk S k filled m a = pick (ltb m filled) (tagOk S k (a .packet) (a .set)) (zeroInEntry a)
 
 -- "queue counts at most D"
 abbrev pub outQueueOk : ℕ → ℕ → ℕ → OutQueue → Bool
-outQueueOk S D k q = leb (q .count) D && all (λ m. outEntryOk S k (q .count) m (outEntry q m)) queueRoom
+outQueueOk S D k oq = leb (oq .count) D && all (λ m. outEntryOk S k (oq .count) m (outEntry oq m)) queueRoom
 
 abbrev pub inQueueOk : ℕ → ℕ → ℕ → InQueue → Bool
-inQueueOk S D k q = leb (q .count) D && all (λ m. inEntryOk S k (q .count) m (inEntry q m)) queueRoom
+inQueueOk S D k iq = leb (iq .count) D && all (λ m. inEntryOk S k (iq .count) m (inEntry iq m)) queueRoom
 
 abbrev pub siteOk : ℕ → ℕ → ℕ → ℕ → Site → Bool
 siteOk S T D k x =

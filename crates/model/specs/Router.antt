@@ -20,52 +20,55 @@ abbrev pub unchosen : List ℕ
 unchosen = replicate outputCount 0
 
 abbrev pub isChosen : List ℕ → ℕ → Bool
-isChosen sets p = not (eqb (getD sets p 0) 0)
+isChosen sets j = not (eqb (getD sets j 0) 0)
 
 abbrev pub isEmpty : List Output → ℕ → Bool
 isEmpty os j = not (outOf os j .used)
 
--- "empty or already chosen for this packet": port p, with the sets chosen so far
+-- "empty or already chosen for this packet": port j, with the sets chosen so far
 abbrev pub serves : List Output → List ℕ → ℕ → Bool
-serves os sets p = leb 1 p && leb p portCount && (isEmpty os p || isChosen sets p)
+serves os sets j = leb 1 j && leb j portCount && (isEmpty os j || isChosen sets j)
 
 -- "the first output in its list that ..", 0 if there is none
 unfoldable pub firstPort : (ℕ → Bool) → List ℕ → ℕ
 firstPort ok [] = 0
-firstPort ok (p ∷ ps) = let later = firstPort ok ps in cond (ok p) p later
+firstPort ok (j ∷ js) = let later = firstPort ok js in cond (ok j) j later
 
--- the whole X goes to output p
+-- the whole X goes to output j
 abbrev pub oneOutput : Connection → ℕ → ℕ → Choice
-oneOutput c X p = Chosen c (set unchosen p X)
+oneOutput c X j = Chosen c (set unchosen j X)
 
 -- "output 0, unicast"
 abbrev pub toOwn : List Output → ℕ → Choice
 toOwn os X = cond (isEmpty os 0) (oneOutput Unicast X 0) Unserved
 
--- "the first empty output in t's list"
 abbrev pub onPort : Connection → ℕ → ℕ → Choice
-onPort c X p = cond (eqb p 0) Unserved (oneOutput c X p)
+onPort c X j = cond (eqb j 0) Unserved (oneOutput c X j)
+
+-- "the first empty output in t's list": no port is chosen yet, so only an empty output serves
+abbrev pub firstEmpty : List Output → List ℕ → ℕ
+firstEmpty os l = firstPort (serves os unchosen) l
 
 abbrev pub toOther : Network → ℕ → List Output → Connection → ℕ → ℕ → Choice
-toOther n s os c X t = onPort c X (firstPort (serves os unchosen) (listOf n s t))
+toOther n s os c X t = onPort c X (firstEmpty os (listOf n s t))
 
 -- "for each t other than s, ascending, the first output in its list that is empty or already chosen for this packet":
--- for the targets in Y among the k sites from t on; port p gets the target t too
+-- for the targets in Y among so many more sites from t on; port j gets the target t too
 pub data Gathered : Type 0 where
   Every : List ℕ → Gathered
   Missing : Gathered
 
 abbrev pub gets : List ℕ → ℕ → ℕ → List ℕ
-gets sets p t = set sets p (plus t (getD sets p 0))
+gets sets j t = set sets j (plus t (getD sets j 0))
 
 module _ (n : Network) (s : ℕ) (os : List Output) (Y : ℕ) where
   unfoldable pub gatherFrom : ℕ → ℕ → List ℕ → Gathered
   gatherFrom zero t sets = Every sets
-  gatherFrom (suc k) t sets =
-      let p = firstPort (serves os sets) (listOf n s t) in
-      let on = gatherFrom k (t + 1) (gets sets p t) in
-      let found = cond (eqb p 0) Missing on in
-      let past = gatherFrom k (t + 1) sets in
+  gatherFrom (suc more) t sets =
+      let j = firstPort (serves os sets) (listOf n s t) in
+      let on = gatherFrom more (t + 1) (gets sets j t) in
+      let found = cond (eqb j 0) Missing on in
+      let past = gatherFrom more (t + 1) sets in
       cond (has t Y) found past
 
 unfoldable pub gather : Network → ℕ → List Output → ℕ → Gathered
@@ -74,7 +77,7 @@ gather n s os Y = gatherFrom n s os Y (n .sites) 0 unchosen
 -- "where a single remote output was chosen and s isn't in X, passthru on it with X, output 0 not taken. Otherwise split: each remote output
 -- gets its own targets, output 0 gets the whole X; some-local if s is in X, else all-remote."
 abbrev pub chosenCount : List ℕ → ℕ
-chosenCount sets = sum (λ z. count (not (eqb z 0))) sets
+chosenCount sets = sum (λ X. count (not (eqb X 0))) sets
 
 abbrev pub firstChosen : List ℕ → ℕ
 firstChosen sets = firstPort (isChosen sets) (1 ∷ 2 ∷ 3 ∷ 4 ∷ [])
@@ -92,7 +95,11 @@ orElse Unserved other = other
 -- the router's rules but the last
 unfoldable pub route : Network → ℕ → List Output → ℕ → Choice
 route n s os X =
-    cond (eqb X (only s)) (toOwn os X)  -- "X = {s}: output 0, unicast."
-    (cond (eqb (size X) 1) (toOther n s os Unicast X (lowest X))  -- "X = {t}, another site: the first empty output in t's list, unicast."
-    (orElse (cond (isEmpty os 0) (spread s X (gather n s os (minus s X))) Unserved)  -- "Two or more targets and output 0 empty: .."
-    (toOther n s os Passthru X (lowest (minus s X)))))  -- "Otherwise, .. passthru of the whole X to the first empty output in the list of the lowest t other than s."
+    -- "X = {s}: output 0, unicast."
+    cond (eqb X (only s)) (toOwn os X)
+    -- "X = {t}, another site: the first empty output in t's list, unicast."
+    (cond (eqb (size X) 1) (toOther n s os Unicast X (lowest X))
+    -- "Two or more targets and output 0 empty: .."
+    (orElse (cond (isEmpty os 0) (spread s X (gather n s os (minus s X))) Unserved)
+    -- "Otherwise, .. passthru of the whole X to the first empty output in the list of the lowest t other than s."
+    (toOther n s os Passthru X (lowest (minus s X)))))

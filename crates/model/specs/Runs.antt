@@ -6,33 +6,37 @@ use lib.Dec.{eqb, ltb, leb}
 use lib.ListN.{getD, take, length}
 use Rattle.base.specs.Sizes.{sendsMost}
 use Rattle.base.specs.All.{all}
-use Rattle.base.specs.Sums.{sum}
+use Rattle.base.specs.Sums.{sum, upto}
 use Rattle.sets.specs.Sets.{targets, size}
 use Rattle.draws.specs.Draws.{valueAfter, drawnSite, drawnCode}
-use Rattle.model.specs.Types.{State, Network, StoredSend, Run as StoredRun, Sent, Accepted, SendRefused, Ran, Nothing, Changed, Serviced, RunRefused, AfterSend, AfterRun, Counts, noState, sendAt}
-use Rattle.model.specs.Network.{sizesOk, channelsOk, routesOk}
+use Rattle.model.specs.Types.{State, Network, StoredSend, Run as StoredRun, Sent, Accepted, SendRefused, Ran, AfterSend, AfterRun, Counts}
+use Rattle.model.specs.Types.{noState, sendAt}
+use Rattle.model.specs.Numbers.{answerOf, ranPacket, ranSite}
+use Rattle.model.specs.Network.{sizesOk, joinsThen}
 use Rattle.model.specs.Events.{Event, Send, Run, sendFault, runs, sends, ran, sent}
 use Rattle.model.specs.Owing.{owedPairs}
 
--- "8: a send's site, set or draw number impossible, or draw numbers falling": send k of run r
+-- "8: a send's site, set or draw number impossible, or draw numbers falling": send m of run R
 abbrev pub sendOk : StoredRun → ℕ → Bool
-sendOk r k =
-    ltb (sendAt r k .site) (r .network .sites)
-    && targets (r .network .sites) (sendAt r k .set)
-    && leb (sendAt r k .draw) (r .draws)
-    && (eqb k 0 || leb (sendAt r (k - 1) .draw) (sendAt r k .draw))
+sendOk R m =
+    ltb (sendAt R m .site) (R .network .sites)
+    && targets (R .network .sites) (sendAt R m .set)
+    && leb (sendAt R m .draw) (R .draws)
+    && (eqb m 0 || leb (sendAt R (m - 1) .draw) (sendAt R m .draw))
 
 abbrev pub sendsOk : StoredRun → Bool
-sendsOk r = all (sendOk r) (r .count)
+sendsOk R = all (sendOk R) (R .count)
 
--- "4: seed 0"; "5: .. more than 255 sends"; with the network's 3, 6, 7 in the writer's order "3, 4, 5, 6, 7, 8"; 0 for a valid run
+-- 6, 7, 8, which reader, player and writer share
+unfoldable pub bodyRefusal : StoredRun → ℕ
+bodyRefusal R = joinsThen (R .network) (cond (sendsOk R) 0 8)
+
+-- "3: S, T or D outside its limits"; "4: seed 0"; "5: .. more than 255 sends"; then 6, 7, 8: the writer's order; 0 for a valid run
 unfoldable pub storedRefusal : StoredRun → ℕ
-storedRefusal r =
-    cond (sizesOk (r .network))
-    (cond (eqb (r .seed) 0) 4
-    (cond (leb (r .count) sendsMost)
-    (cond (channelsOk (r .network)) (cond (routesOk (r .network)) (cond (sendsOk r) 0 8) 7) 6)
-    5))
+storedRefusal R =
+    cond (sizesOk (R .network))
+    (cond (eqb (R .seed) 0) 4
+    (cond (leb (R .count) sendsMost) (bodyRefusal R) 5))
     3
 
 -- "A send marked d is applied before draw d (counted from 0), in stored order": the sends marked d
@@ -43,13 +47,13 @@ marked d (e ∷ es) =
     cond (eqb (e .draw) d) (Send (e .site) (e .set) ∷ later) later
 
 abbrev pub sendsAt : StoredRun → ℕ → List Event
-sendsAt r d = marked d (take (r .count) (r .sends))
+sendsAt R d = marked d (take (R .count) (R .sends))
 
 -- "Each draw advances first." Draw d is RUN of what the value after d + 1 draws names
 abbrev pub drawAt : StoredRun → ℕ → Event
-drawAt r d =
-    let v = valueAfter (d + 1) (r .seed) in
-    Run (drawnSite (r .network .sites) v) (drawnCode (r .network .sites) v)
+drawAt R d =
+    let v = valueAfter (d + 1) (R .seed) in
+    Run (drawnSite (R .network .sites) v) (drawnCode (R .network .sites) v)
 
 -- an event and the number of the draw that it is, or stands before
 pub record Timed : Type 0 where
@@ -59,13 +63,16 @@ pub record Timed : Type 0 where
 abbrev pub atDraw : ℕ → List Event → List Timed
 atDraw d es = map (λ e. record { draw = d; event = e }) es
 
+abbrev pub events : List Timed → List Event
+events es = map (λ e. e .event) es
+
 -- the events up to draw d, and of the whole run: "d may equal the number of draws"
 unfoldable pub scriptTo : StoredRun → ℕ → List Timed
-scriptTo r zero = []
-scriptTo r (suc d) = scriptTo r d ++ atDraw d (sendsAt r d ++ (drawAt r d ∷ []))
+scriptTo R zero = []
+scriptTo R (suc d) = scriptTo R d ++ atDraw d (sendsAt R d ++ (drawAt R d ∷ []))
 
 unfoldable pub script : StoredRun → List Timed
-script r = scriptTo r (r .draws) ++ atDraw (r .draws) (sendsAt r (r .draws))
+script R = scriptTo R (R .draws) ++ atDraw (R .draws) (sendsAt R (R .draws))
 
 -- "The book is 4 bytes a service: draw 2, packet 1, site 1."
 pub record Service : Type 0 where
@@ -80,9 +87,17 @@ unfoldable pub bookBytes : List Service → List ℕ
 bookBytes [] = []
 bookBytes (e ∷ es) = serviceBytes e ++ bookBytes es
 
+-- how often packet p at site t stands in a book: by its services; by the first so many entries of its bytes
+abbrev pub inBook : ℕ → ℕ → List Service → ℕ
+inBook p t l = sum (λ e. cond (eqb p (e .packet)) (cond (eqb t (e .site)) 1 0) 0) l
+
+abbrev pub inEntries : ℕ → ℕ → List ℕ → ℕ → ℕ
+inEntries p t bytes services =
+    upto services (λ m. cond (eqb p (getD bytes (4 * m + 2) 0)) (cond (eqb t (getD bytes (4 * m + 3) 0)) 1 0) 0)
+
 -- "14 .. for the book below 4 times the summed sizes of the stored sends' sets"
 abbrev pub bookRoom : StoredRun → ℕ
-bookRoom r = 4 * sum (λ e. size (e .set)) (take (r .count) (r .sends))
+bookRoom R = 4 * sum (λ e. size (e .set)) (take (R .count) (R .sends))
 
 -- how far a run has come: its state, the packets accepted, "their summed set sizes (pairs)", the services
 pub record Played : Type 0 where
@@ -94,44 +109,45 @@ pub record Played : Type 0 where
 abbrev pub unplayed : Played
 unplayed = record { state = noState; accepted = 0; pairs = 0; book = [] }
 
--- what an answer adds; "A refused send is passed over."
+-- what SEND's answer adds, w being what it leaves; "A refused send is passed over."
 abbrev pub sendPlayed : Played → ℕ → AfterSend → Sent → Played
-sendPlayed p X a (Accepted q) = record { state = a .state; accepted = p .accepted + 1; pairs = p .pairs + size X; book = p .book }
-sendPlayed p X a (SendRefused k) = p
+sendPlayed g X w (Accepted q) = record { state = w .state; accepted = g .accepted + 1; pairs = g .pairs + size X; book = g .book }
+sendPlayed g X w (SendRefused f) = g
 
+-- what RUN's answer adds, by document 01's numbers: a service of "packet and site" by draw d
 abbrev pub entered : ℕ → Ran → List Service → List Service
-entered d Nothing l = l
-entered d Changed l = l
-entered d (Serviced q s) l = l ++ (record { draw = d; packet = q; site = s } ∷ [])
-entered d (RunRefused k) l = l
+entered d w l = cond (eqb (answerOf w) 2) (l ++ (record { draw = d; packet = ranPacket w; site = ranSite w } ∷ [])) l
 
 abbrev pub runPlayed : Played → ℕ → AfterRun → Played
-runPlayed p d a = record { state = a .state; accepted = p .accepted; pairs = p .pairs; book = entered d (a .answer) (p .book) }
+runPlayed g d w = record { state = w .state; accepted = g .accepted; pairs = g .pairs; book = entered d (w .answer) (g .book) }
 
 -- "A run keeps one state and advances it draw by draw": of the refusals only a send's own are left
 abbrev pub trySend : Network → State → ℕ → ℕ → AfterSend
-trySend n st s X = cond (eqb (sendFault n st s X) 0) (sends st s X) (record { answer = SendRefused (sendFault n st s X); state = st })
+trySend n st s X =
+    cond (eqb (sendFault n st s X) 0) (sends st s X) (record { answer = SendRefused (sendFault n st s X); state = st })
 
 abbrev pub advance : Network → Played → ℕ → Event → Played
-advance n p d (Send s X) = sendPlayed p X (trySend n (p .state) s X) (trySend n (p .state) s X .answer)
-advance n p d (Run s code) = runPlayed p d (runs n (p .state) s code)
+advance n g d (Send s X) = sendPlayed g X (trySend n (g .state) s X) (trySend n (g .state) s X .answer)
+advance n g d (Run s code) = runPlayed g d (runs n (g .state) s code)
 
 unfoldable pub played : Network → Played → List Timed → Played
-played n p [] = p
-played n p (e ∷ es) = played n (advance n p (e .draw) (e .event)) es
+played n g [] = g
+played n g (e ∷ es) = played n (advance n g (e .draw) (e .event)) es
 
 unfoldable pub playedRun : StoredRun → Played
-playedRun r = played (r .network) unplayed (script r)
+playedRun R = played (R .network) unplayed (script R)
 
--- "The player's answer also holds the packets accepted, their summed set sizes (pairs), the services and the owed pairs counted over the final state."
+-- "The player's answer also holds the packets accepted, their summed set sizes (pairs), the services and the owed pairs counted
+-- over the final state."
 abbrev pub countsOf : Played → Counts
-countsOf p = record { accepted = p .accepted; pairs = p .pairs; serviced = length (p .book); owed = owedPairs (p .state .sites) }
+countsOf g =
+    record { accepted = g .accepted; pairs = g .pairs; serviced = length (g .book); owed = owedPairs (g .state .sites) }
 
 -- the same by the public single events, with all their refusals
 abbrev pub advanceSingly : Network → Played → ℕ → Event → Played
-advanceSingly n p d (Send s X) = sendPlayed p X (sent n (p .state) s X) (sent n (p .state) s X .answer)
-advanceSingly n p d (Run s code) = runPlayed p d (ran n (p .state) s code)
+advanceSingly n g d (Send s X) = sendPlayed g X (sent n (g .state) s X) (sent n (g .state) s X .answer)
+advanceSingly n g d (Run s code) = runPlayed g d (ran n (g .state) s code)
 
 unfoldable pub playedSingly : Network → Played → List Timed → Played
-playedSingly n p [] = p
-playedSingly n p (e ∷ es) = playedSingly n (advanceSingly n p (e .draw) (e .event)) es
+playedSingly n g [] = g
+playedSingly n g (e ∷ es) = playedSingly n (advanceSingly n g (e .draw) (e .event)) es

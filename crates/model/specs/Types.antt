@@ -1,5 +1,16 @@
 -- The declared types under one roof, each variant under a name of its own; what an empty place holds; reads and writes of places.
 -- A list read beyond its end gives the language's own default, whose arrays are empty: inputD, siteD, sendD.
+--
+-- The letters of all definitions in this folder:
+--   n  a network           S, T, D  its sites, tries and depth   R  a stored run            d  a draw's number
+--   st a state             xs  the sites of a state              x  one site                k  the counter
+--   s  the own site        t   another site, or a target         e, es  events              v  a draw's value
+--   y  a net-input         i   its number, 0 to 4                ph a phase                 bs marks, one an output
+--   o  a net-output        j   its number, 0 to 4 (a port: 1 to 4)                          os a site's net-outputs
+--   oq an out-queue        u   an entry of it                    iq an in-queue             a  an entry of it
+--   q  a place's packet    p   a packet that is asked for        X, Y  sets of sites        b  a channel's byte
+--   c  a connection        r   what was received                 h  a terminator            f  a refusal's number
+--   m  a place in a list   l   a list                            g  how far a run has come
 use Prim.Native.Nat.{ℕ, _+_, _-_, _*_}
 use mathlib.Core.List.{List, [], _∷_, _++_}
 use mathlib.Core.Bool.{Bool, true, false}
@@ -7,8 +18,10 @@ use lib.ListN.{getD, set, drop, replicate}
 use Rattle.base.specs.Sizes.{sitesMost, inputCount, outputCount, queueRoom}
 pub use Rattle.model.specs.declared.Connection.the-variants.{the-data as Connection, Unicast, Passthru, AllRemote, SomeLocal, Handed}
 pub use Rattle.model.specs.declared.Received.the-variants.{the-data as Received, End as gotEnd, Abort as gotAbort}
-pub use Rattle.model.specs.declared.Terminator.the-variants.{the-data as Terminator, None as tNone, End as tEnd, Abort as tAbort, KeepLocal as tKeep}
-pub use Rattle.model.specs.declared.Phase.the-variants.{the-data as Phase, Free, Seek, Open, Wait, Done, Last, Abort as Aborted, FinAbort}
+pub use Rattle.model.specs.declared.Terminator.the-variants.{the-data as Terminator, None as tNone, End as tEnd}
+pub use Rattle.model.specs.declared.Terminator.the-variants.{Abort as tAbort, KeepLocal as tKeep}
+pub use Rattle.model.specs.declared.Phase.the-variants.{the-data as Phase, Free, Seek, Open, Wait, Done, Last}
+pub use Rattle.model.specs.declared.Phase.the-variants.{Abort as Aborted, FinAbort}
 pub use Rattle.model.specs.declared.Input.{Input}
 pub use Rattle.model.specs.declared.Output.{Output}
 pub use Rattle.model.specs.declared.OutEntry.{OutEntry}
@@ -66,7 +79,7 @@ sendD = record { set = 0; draw = 0; site = 0 }
 
 -- reads
 abbrev pub siteAt : List Site → ℕ → Site
-siteAt st s = getD st s siteD
+siteAt xs s = getD xs s siteD
 
 abbrev pub inAt : Site → ℕ → Input
 inAt x i = getD (x .inputs) i inputD
@@ -81,42 +94,42 @@ abbrev pub mark : List Bool → ℕ → Bool
 mark bs j = getD bs j false
 
 abbrev pub outEntry : OutQueue → ℕ → OutEntry
-outEntry q k = getD (q .entries) k noOutEntry
+outEntry oq m = getD (oq .entries) m noOutEntry
 
 abbrev pub inEntry : InQueue → ℕ → InEntry
-inEntry q k = getD (q .entries) k noInEntry
+inEntry iq m = getD (iq .entries) m noInEntry
 
 abbrev pub sendAt : Run → ℕ → StoredSend
-sendAt r k = getD (r .sends) k sendD
+sendAt R m = getD (R .sends) m sendD
 
 -- a place with a field changed
 abbrev pub inPhase : Input → Phase → Input
 inPhase y ph = record { set = y .set; phase = ph; outputs = y .outputs; packet = y .packet; tries = y .tries }
 
 abbrev pub outTerm : Output → Terminator → Output
-outTerm o k = record { set = o .set; terminator = k; packet = o .packet; input = o .input; used = o .used; head = o .head }
+outTerm o h = record { set = o .set; terminator = h; packet = o .packet; input = o .input; used = o .used; head = o .head }
 
 abbrev pub outHead : Output → Output
 outHead o = record { set = o .set; terminator = o .terminator; packet = o .packet; input = o .input; used = o .used; head = true }
 
 abbrev pub entryStarted : OutEntry → OutEntry
-entryStarted d = record { set = d .set; packet = d .packet; started = true }
+entryStarted u = record { set = u .set; packet = u .packet; started = true }
 
 abbrev pub entryTerm : InEntry → Terminator → InEntry
-entryTerm a k = record { set = a .set; terminator = k; packet = a .packet }
+entryTerm a h = record { set = a .set; terminator = h; packet = a .packet }
 
 -- a site, and the sites, with a place changed
 abbrev pub withInputs : Site → List Input → Site
-withInputs x l = record { inputs = l; outputs = x .outputs; outgoing = x .outgoing; incoming = x .incoming }
+withInputs x ys = record { inputs = ys; outputs = x .outputs; outgoing = x .outgoing; incoming = x .incoming }
 
 abbrev pub withOutputs : Site → List Output → Site
-withOutputs x l = record { inputs = x .inputs; outputs = l; outgoing = x .outgoing; incoming = x .incoming }
+withOutputs x os = record { inputs = x .inputs; outputs = os; outgoing = x .outgoing; incoming = x .incoming }
 
 abbrev pub withOutQueue : Site → OutQueue → Site
-withOutQueue x q = record { inputs = x .inputs; outputs = x .outputs; outgoing = q; incoming = x .incoming }
+withOutQueue x oq = record { inputs = x .inputs; outputs = x .outputs; outgoing = oq; incoming = x .incoming }
 
 abbrev pub withInQueue : Site → InQueue → Site
-withInQueue x q = record { inputs = x .inputs; outputs = x .outputs; outgoing = x .outgoing; incoming = q }
+withInQueue x iq = record { inputs = x .inputs; outputs = x .outputs; outgoing = x .outgoing; incoming = iq }
 
 abbrev pub setIn : Site → ℕ → Input → Site
 setIn x i y = withInputs x (set (x .inputs) i y)
@@ -125,17 +138,17 @@ abbrev pub setOut : Site → ℕ → Output → Site
 setOut x j o = withOutputs x (set (x .outputs) j o)
 
 abbrev pub setSite : List Site → ℕ → Site → List Site
-setSite st s x = set st s x
+setSite xs s x = set xs s x
 
 -- queues: an entry more at the back; the front away, what is behind it moved up, the freed room zero
 abbrev pub pushOut : OutQueue → OutEntry → OutQueue
-pushOut q d = record { entries = set (q .entries) (q .count) d; count = q .count + 1 }
+pushOut oq u = record { entries = set (oq .entries) (oq .count) u; count = oq .count + 1 }
 
 abbrev pub popOut : OutQueue → OutQueue
-popOut q = record { entries = drop 1 (q .entries) ++ (noOutEntry ∷ []); count = q .count - 1 }
+popOut oq = record { entries = drop 1 (oq .entries) ++ (noOutEntry ∷ []); count = oq .count - 1 }
 
 abbrev pub pushIn : InQueue → InEntry → InQueue
-pushIn q a = record { entries = set (q .entries) (q .count) a; count = q .count + 1 }
+pushIn iq a = record { entries = set (iq .entries) (iq .count) a; count = iq .count + 1 }
 
 abbrev pub popIn : InQueue → InQueue
-popIn q = record { entries = drop 1 (q .entries) ++ (noInEntry ∷ []); count = q .count - 1 }
+popIn iq = record { entries = drop 1 (iq .entries) ++ (noInEntry ∷ []); count = iq .count - 1 }

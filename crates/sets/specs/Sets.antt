@@ -8,7 +8,7 @@ use Rattle.base.specs.Sizes.{setBits}
 
 -- 1 where t is in X, else 0
 abbrev pub bit : ℕ → ℕ → ℕ
-bit X t = X / 2 ^ t % 2
+bit t X = X / 2 ^ t % 2
 
 -- t is in X
 unfoldable pub has : ℕ → ℕ → Bool

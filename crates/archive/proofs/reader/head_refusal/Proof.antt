@@ -1,7 +1,7 @@
 -- `reader::head_refusal` meets its contract, one law of Passed for each way. Assumes nothing.
 use mathlib.Core.Path.{sym, ap₂, _∙_}
 use mathlib.Core.Bool.{true, false}
-use Rattle.archive.specs.Format.{lengthWith}
+use Rattle.format.specs.Format.{lengthWith}
 use Rattle.archive.proofs.Passed.{sizes-read, head-short, head-field, head-version, head-sizes, head-seed, head-size, head-by}
 use borrow.Author.Needs.{needs}
 use Rattle.archive.proofs.reader.head_refusal.Statement.{statement}

@@ -3,7 +3,7 @@ use mathlib.Core.Path.{_≡_, refl, sym, _∙_}
 use Prim.Native.Nat.{_≤_, _-_}
 use native.Mathlib.Omega.{arith}
 use Rattle.base.specs.Over.{over-none, over-step}
-use Rattle.archive.specs.Format.{sendsOf}
+use Rattle.format.specs.Format.{sendsOf}
 use native.Mathlib.Omega.{arith}
 use Rattle.archive.proofs.reader.read_sends.Statement.{statement}
 use Rattle.archive.proofs.reader.read_sends.Tie as tie

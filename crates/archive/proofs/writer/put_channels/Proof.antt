@@ -3,8 +3,8 @@ use mathlib.Core.Path.{_≡_, refl, _∙_}
 use Prim.Native.Nat.{_≤_, _-_}
 use native.Mathlib.Omega.{arith}
 use lib.ListN.{length, length-set}
-use Rattle.archive.specs.Format.{headLength, channelBytes}
-use Rattle.archive.specs.Refusals.{put}
+use Rattle.format.specs.Format.{headLength, channelBytes}
+use Rattle.archive.specs.Code.{put}
 use Rattle.archive.proofs.Put.{channels-none, channels-turn}
 use native.Mathlib.Omega.{arith}
 use Rattle.archive.proofs.writer.put_channels.Statement.{statement}

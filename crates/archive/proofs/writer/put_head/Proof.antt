@@ -1,7 +1,7 @@
 -- `writer::put_head` meets its contract: thirteen stores. Assumes nothing.
 use native.Mathlib.Omega.{arith}
 use lib.ListN.{length-set}
-use Rattle.archive.specs.Format.{headWith}
+use Rattle.format.specs.Format.{headWith}
 use Rattle.archive.proofs.Put.{put-sets}
 use native.Mathlib.Omega.{arith}
 use borrow.Author.Needs.{needs}

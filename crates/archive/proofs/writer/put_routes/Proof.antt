@@ -3,8 +3,8 @@ use mathlib.Core.Path.{_≡_, refl, ap, _∙_}
 use Prim.Native.Nat.{_≤_, _-_}
 use native.Mathlib.Omega.{arith}
 use lib.ListN.{length}
-use Rattle.archive.specs.Format.{routeBytes}
-use Rattle.archive.specs.Refusals.{put}
+use Rattle.format.specs.Format.{routeBytes}
+use Rattle.archive.specs.Code.{put}
 use Rattle.archive.proofs.Put.{routes-none, routes-turn, length-put}
 use native.Mathlib.Omega.{arith}
 use Rattle.archive.proofs.writer.put_routes.Statement.{statement}

@@ -1,7 +1,7 @@
 use mathlib.Core.Path.{_≡_, refl, sym, ap, _∙_}
 use borrow.Author.Tests.{lt-ltb, le-ltb, ltb-true}
 use Rattle.base.specs.Bools.{both}
-use Rattle.model.proofs.Refusals.{not-refused}
+use Rattle.theorems.proofs.Refusals.{not-refused}
 use Rattle.machine.proofs.Single.{run-shared, run-none, run-passes-on}
 use borrow.Author.Needs.{needs}
 use Rattle.machine.proofs.events.run.Statement.{statement}

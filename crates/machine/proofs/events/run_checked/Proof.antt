@@ -3,7 +3,7 @@ use borrow.Author.Tests.{lt-ltb, le-ltb, ltb-true}
 use native.Mathlib.Omega.{arith}
 use Rattle.model.specs.Types.{siteAt}
 use Rattle.model.specs.Steps.{act, ends}
-use Rattle.model.proofs.Networks.{valid-ok}
+use Rattle.theorems.proofs.Networks.{valid-ok}
 use Rattle.machine.specs.Step.{stored, ofAct, farAt, fourEnds, Passable}
 use Rattle.machine.proofs.Seen.{range-runnable, valid-bytes, act-passable}
 use Rattle.machine.proofs.Single.{run-stored}

@@ -1,8 +1,8 @@
 use mathlib.Core.Path.{_≡_, refl, sym, ap, _∙_}
 use borrow.Author.Tests.{lt-ltb, le-ltb, ltb-true}
 use native.Mathlib.Omega.{arith}
-use Rattle.model.proofs.Networks.{valid-ok}
-use Rattle.model.proofs.Refusals.{not-refused, send-passes}
+use Rattle.theorems.proofs.Networks.{valid-ok}
+use Rattle.theorems.proofs.Refusals.{not-refused, send-passes}
 use Rattle.machine.proofs.Single.{send-shared, send-own, send-passes-on, send-facts}
 use borrow.Author.Needs.{needs}
 use Rattle.machine.proofs.events.send.Statement.{statement}

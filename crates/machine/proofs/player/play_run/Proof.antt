@@ -9,8 +9,8 @@ use lib.ListN.{length}
 use Rattle.base.specs.Sizes.{sendsMost}
 use Rattle.sets.proofs.LawsBit.{size-most}
 use Rattle.model.specs.Types.{sendAt, siteAt, mark}
-use Rattle.model.proofs.Networks.{valid-ok}
-use Rattle.model.proofs.Played.{stored-network}
+use Rattle.theorems.proofs.Networks.{valid-ok}
+use Rattle.theorems.proofs.Played.{stored-network}
 use Rattle.machine.specs.Step.{farAt, Passable}
 use Rattle.machine.specs.Play.{runWith}
 use Rattle.machine.specs.Progress.{Progress, progress, no-turn, one-turn, due-at}

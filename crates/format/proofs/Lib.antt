@@ -1,0 +1,2 @@
+-- Computed tables of the definitions.
+pub mod Examples

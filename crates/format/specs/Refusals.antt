@@ -1,0 +1,59 @@
+-- What reader and writer answer (document 01, "Numbers given back when something is turned down"): the refusal, and what
+-- stands beside it. The network's and the run's own tests are the model's.
+use mathlib.Core.Bool.{Bool, cond, _&&_}
+use mathlib.Core.List.{List}
+use Prim.Native.Nat.{ℕ}
+use lib.Dec.{eqb, ltb, leb}
+use lib.ListN.{length}
+use Rattle.model.specs.declared.Run.{Run}
+use Rattle.base.specs.Answers.{orNext, atFront}
+use Rattle.model.specs.Network.{sizesOk}
+use Rattle.model.specs.Runs.{bodyRefusal, storedRefusal}
+use Rattle.format.specs.declared.Decoded.{Decoded}
+use Rattle.format.specs.declared.Written.{Written}
+use Rattle.format.specs.Format.{at, word, lengthPlace, versionPlace, sitesPlace, countPlace, headLength, version, lengthWith, lengthOf, encode, networkOf, runOf, noRun}
+
+-- ---- the reader, "1 to 8"
+
+-- "1: fewer than 13 bytes, or length field unequal to the slice's length"
+abbrev pub lengthOk : List ℕ → Bool
+lengthOk b = leb headLength (length b) && eqb (word b lengthPlace) (length b)
+
+-- "5: length not 13 + 4S + 2S² + 5N"
+abbrev pub sizeOk : List ℕ → Bool
+sizeOk b = eqb (length b) (lengthWith (at b sitesPlace) (at b countPlace))
+
+-- "2: version not 1"; "3: S, T or D outside its limits"; "4: seed 0": 1 to 5, or what follows them
+unfoldable pub headThen : List ℕ → ℕ → ℕ
+headThen b rest =
+    cond (lengthOk b)
+    (cond (eqb (at b versionPlace) version)
+    (cond (sizesOk (networkOf b)) (cond (eqb (runOf b .seed) 0) 4 (cond (sizeOk b) rest 5)) 3)
+    2)
+    1
+
+-- then 6, 7, 8; 0 for an archive
+unfoldable pub readRefusal : List ℕ → ℕ
+readRefusal b = headThen b (bodyRefusal (runOf b))
+
+-- the run, or the refusal and the all-zero run
+unfoldable pub decode : List ℕ → Decoded
+decode b =
+    cond (eqb (readRefusal b) 0) (record { refusal = 0; run = runOf b })
+    (record { refusal = readRefusal b; run = noRun })
+
+-- ---- the writer, "3, 4, 5, 6, 7, 8, 14", into a room of so many bytes
+
+-- "14 is given exactly if the room is below the archive's length"
+unfoldable pub writeRefusal : Run → ℕ → ℕ
+writeRefusal r room = orNext (storedRefusal r) (cond (ltb room (lengthOf r)) 14 0)
+
+-- "A refusal's other numbers are zero."
+unfoldable pub writeAnswer : Run → ℕ → Written
+writeAnswer r room =
+    cond (eqb (writeRefusal r room) 0) (record { refusal = 0; length = lengthOf r })
+    (record { refusal = writeRefusal r room; length = 0 })
+
+-- "Success writes its bytes at the front; the rest stays."
+unfoldable pub written : Run → List ℕ → List ℕ
+written r out = cond (eqb (writeRefusal r (length out)) 0) (atFront (encode r) out) out
