@@ -1,7 +1,7 @@
 #!/bin/sh
 # Makes the corpus (crates/batch/data, to which corpus leads) and its expected outputs (crates/batch/stdout, for the names
-# of crates/batch/stdin) anew under target/ and compares them with the committed ones. With --write the committed ones are
-# replaced instead (not corpus/typed, which is typed by hand).
+# of crates/batch/stdin) anew under target/, and so the stored cases of crates/singles, and compares them with the committed
+# ones. With --write the committed ones are replaced instead (not corpus/typed, which is typed by hand).
 # It needs cargo; nothing is fetched.
 set -eu
 export LC_ALL=C
@@ -11,6 +11,7 @@ programs="$CARGO_TARGET_DIR/release"
 fresh="$root/target/corpus"
 names="$root/crates/batch/stdin"
 outputs="$root/crates/batch/stdout"
+singles="$root/crates/singles"
 
 # Every archive of the corpus by name, and then names that lead to no archive and one that is longer than need be.
 list() {
@@ -18,6 +19,11 @@ list() {
     printf '%s\n' . missing.bin ''
     printf 'long-%.0s' $(seq 60)
     printf '%s\n%s' .bin ./01-run-r.bin
+}
+
+# The stored cases of `singles` and what comes of them: 300 of seed 193.
+cases() {
+    "$programs/cases" 193 300 "$1/stdin" "$1/stdout" > /dev/null
 }
 
 (cd "$root/reference" && cargo build --release --offline --quiet)
@@ -30,6 +36,7 @@ if [ "${1:-}" = --write ]; then
     cp "$fresh"/*.bin "$root/corpus/"
     list > "$names"
     (cd "$root/corpus" && "$programs/batch" --services < "$names" > "$outputs")
+    cases "$singles"
     echo "expected: written, $(tail -n 1 "$outputs")"
     exit 0
 fi
@@ -58,6 +65,13 @@ if ! cmp -s "$root/target/expected.txt" "$outputs"; then
     diff "$outputs" "$root/target/expected.txt" | head -n 20 >&2 || true
 fi
 
+# The stored cases of `singles` are those of the second model.
+cases "$fresh"
+for name in stdin stdout; do
+    cmp -s "$fresh/$name" "$singles/$name" ||
+        differs "crates/singles/$name is not what the second model's \`cases 193 300\` writes; --write makes it anew"
+done
+
 # The outputs typed from document 01 are those of the second model.
 typed=0
 for file in "$root"/corpus/typed/*.out; do
@@ -69,4 +83,4 @@ for file in "$root"/corpus/typed/*.out; do
 done
 
 [ "$bad" = 0 ] || exit 1
-echo "expected: $(tail -n 1 "$outputs"), $typed typed by hand"
+echo "expected: $(tail -n 1 "$outputs"), $typed typed by hand; the 300 stored cases of singles"

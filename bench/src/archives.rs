@@ -5,7 +5,7 @@ use reference::making::{graphs, rng::Rng, routes};
 use reference::network::Network;
 
 /// 255 sends over 65,535 draws, one each 250 draws.
-fn loaded(mut network: Network, limits: (u8, u8)) -> Vec<u8> {
+fn loaded(mut network: Network, limits: (u8, u64)) -> Vec<u8> {
     let sites = network.sites as usize;
     let mut rng = Rng::new(44);
     (network.tries, network.depth) = limits;

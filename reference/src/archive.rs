@@ -45,7 +45,8 @@ pub fn read(bytes: &[u8]) -> Result<Run, Refusal> {
     if bytes[2] != 1 {
         return Err(Refusal::Version);
     }
-    let mut network = Network { sites: bytes[3], tries: bytes[4], depth: bytes[5], ..Network::blank() };
+    let (sites, tries, depth) = (bytes[3] as u64, bytes[4], bytes[5] as u64);
+    let mut network = Network { sites, tries, depth, ..Network::blank() };
     network.check_limits()?;
     let seed = u32::from_be_bytes([bytes[6], bytes[7], bytes[8], bytes[9]]);
     check_seed(seed)?;
@@ -98,13 +99,13 @@ impl Run {
         (rising && self.sends.iter().all(possible)).then_some(()).ok_or(Refusal::Send)
     }
 
-    /// The archive's bytes with the fields as they are, good or bad. S is at most 16, at most 255 sends.
+    /// The archive's bytes with the fields as they are, good or bad. S is at most 16, D a byte, at most 255 sends.
     pub fn bytes(&self) -> Vec<u8> {
         let network = &self.network;
         let sites = (network.sites as usize).min(SITES);
         let mut bytes = Vec::with_capacity(length(sites, self.sends.len()));
         bytes.extend((length(sites, self.sends.len()) as u16).to_be_bytes());
-        bytes.extend([1, network.sites, network.tries, network.depth]);
+        bytes.extend([1, network.sites as u8, network.tries, network.depth as u8]);
         bytes.extend(self.seed.to_be_bytes());
         bytes.extend(self.draws.to_be_bytes());
         bytes.push(self.sends.len() as u8);

@@ -17,12 +17,12 @@ pub const NO_CHANNEL: u8 = 255;
 /// In a wiring: no input at the end of this output.
 pub const NO_INPUT: u8 = 255;
 
-/// A network as it stands in an archive; room beyond S sites is not looked at.
+/// A network as it is handed in, S and D of any size; room beyond S sites is not looked at.
 #[derive(Clone, PartialEq, Eq, Debug)]
 pub struct Network {
-    pub sites: u8,
+    pub sites: u64,
     pub tries: u8,
-    pub depth: u8,
+    pub depth: u64,
     /// At 4 * site + port - 1: 255, or 4 * site + port - 1 of the input that the channel feeds.
     pub channels: [u8; 4 * SITES],
     /// At S * from + to: four hex digits, first choice highest.
@@ -67,9 +67,9 @@ impl Network {
 
     /// Refusal 3: S 1 to 16, T 1 to 255, D 1 to 8.
     pub fn check_limits(&self) -> Result<(), Refusal> {
-        let good = (1..=SITES as u8).contains(&self.sites)
+        let good = (1..=SITES as u64).contains(&self.sites)
             && self.tries >= 1
-            && (1..=DEPTH as u8).contains(&self.depth);
+            && (1..=DEPTH as u64).contains(&self.depth);
         good.then_some(()).ok_or(Refusal::Limits)
     }
 

@@ -89,7 +89,7 @@ impl Writer {
     }
 
     fn network(&mut self, network: &Network) {
-        self.line(&[network.sites, network.tries, network.depth].map(u64::from));
+        self.line(&[network.sites, network.tries as u64, network.depth]);
         self.filled(&network.channels.map(u64::from));
         self.filled(&network.routes.map(u64::from));
     }
@@ -173,7 +173,7 @@ impl Reader<'_> {
     }
 
     fn network(&mut self) -> Network {
-        let (sites, tries, depth) = (self.byte(), self.byte(), self.byte());
+        let (sites, tries, depth) = (self.number(), self.byte(), self.number());
         let channels = self.filled().map(|n| n as u8);
         let routes = self.filled().map(|n| n as u16);
         Network { sites, tries, depth, channels, routes }

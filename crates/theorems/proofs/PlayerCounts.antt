@@ -154,9 +154,9 @@ singly-counts n v es =
     let sh = final-shaped n (events es) noState empty-shaped in
     let few = at-most-255 n (events es) noState (omega arith) in
     let small : (s : ℕ) → s < length (st .sites) → SmallSite P (siteAt (st .sites) s) =
-        λ s l.
-        more-room (st .counter + 1) P (siteAt (st .sites) s) (omega arith)
-        (range-small n (valid-ok n v) st sh (reached n (events es)) s (omega (arith, sh .sixteen))) in
+    λ s l.
+    more-room (st .counter + 1) P (siteAt (st .sites) s) (omega arith)
+    (range-small n (valid-ok n v) st sh (reached n (events es)) s (omega (arith, sh .sixteen))) in
     omega (
       arith,
       book-length n unplayed es empty-shaped (omega arith),
@@ -164,7 +164,7 @@ singly-counts n v es =
       state-pairs P (st .sites) (omega arith) (omega (arith, sh .sixteen)) small,
       grand-add P (serviced n noState (events es)) (owed (st .sites)),
       grand-ext P (λ p t. serviced n noState (events es) p t + owed (st .sites) p t) (λ p t. bit t (getD (accepted n noState (events es)) p 0))
-      (λ p t. once n (events es) p t ∙ ap (λ (X : ℕ). bit t X) (placed-once n (events es) p)),
+          (λ p t. once n (events es) p t ∙ ap (λ (X : ℕ). bit t X) (placed-once n (events es) p)),
       sets-sum (accepted n noState (events es)) (omega (arith, counted n noState (events es))),
       singly-pairs n unplayed es,
     )

@@ -5,8 +5,8 @@ use crate::network::{Network, NO_CHANNEL, PORTS};
 
 impl Network {
     /// A network without channels and routes.
-    pub fn bare(sites: usize, tries: u8, depth: u8) -> Network {
-        let mut network = Network { sites: sites as u8, tries, depth, ..Network::blank() };
+    pub fn bare(sites: usize, tries: u8, depth: u64) -> Network {
+        let mut network = Network { sites: sites as u64, tries, depth, ..Network::blank() };
         network.channels[..4 * sites].fill(NO_CHANNEL);
         network
     }

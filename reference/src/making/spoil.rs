@@ -76,7 +76,7 @@ pub fn spoil_state(rng: &mut Rng, network: &Network, state: &mut State) {
     let sites = (network.sites as usize).clamp(1, SITES);
     let beyond = sites < SITES && rng.one_in(4);
     let site = if beyond { rng.within(sites, SITES - 1) } else { rng.below(sites) };
-    let limits = Limits { sites, tries: network.tries, depth: network.depth as u64, counter: state.counter };
+    let limits = Limits { sites, tries: network.tries, depth: network.depth, counter: state.counter };
     let place = PORTS * site + rng.below(PORTS);
     match rng.below(5) {
         0 | 1 => limits.input(rng, &mut state.inputs[place]),

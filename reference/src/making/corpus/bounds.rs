@@ -61,7 +61,7 @@ fn by_hand() -> Vec<Named> {
 }
 
 /// One site, no channels, `count` sends of {0} before the first draw.
-fn one_site(depth: u8, draws: u16, count: usize) -> Run {
+fn one_site(depth: u64, draws: u16, count: usize) -> Run {
     let send = Send { draw: 0, site: 0, set: 1 };
     Run { network: Network::bare(1, 1, depth), seed: 1, draws, sends: vec![send; count] }
 }

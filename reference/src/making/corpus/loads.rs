@@ -8,7 +8,7 @@ use crate::player::Play;
 use crate::step::{Answer, Machine};
 
 /// A run on the network: T, D, the draws and the number of sends given, the rest from the seed.
-fn loaded(mut network: Network, limits: (u8, u8), draws: u16, count: usize, seed: u64) -> Vec<u8> {
+fn loaded(mut network: Network, limits: (u8, u64), draws: u16, count: usize, seed: u64) -> Vec<u8> {
     let mut rng = Rng::new(seed);
     (network.tries, network.depth) = limits;
     let sends = runs::load(&mut rng, network.sites as usize, draws, count);

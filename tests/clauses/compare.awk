@@ -1,0 +1,81 @@
+# Compares what a program printed with what expand.awk expects, event by event, and names the cases that differ and their
+# places. POSIX awk.
+# usage: awk -f places.awk -f compare.awk -v who=PROGRAM EVENTS EXPECTED PRINTED
+# Prints how many cases and events there are; if some differ, they are told on standard error, the first five of them
+# place by place, and the exit status is 1.
+
+FILENAME == ARGV[1] { EVENT[++events] = $0; next }
+FILENAME == ARGV[2] { TYPED[++lines] = $0; next }
+{ PRINTED[++printed] = $0 }
+
+END {
+    if (events == 0 || lines != 18 * events)
+        tell("clauses: " events + 0 " events, " lines + 0 " lines: 18 for each event, and at least one, are expected")
+    for (e = 1; e <= events; e++) {
+        split(EVENT[e], part, ": ")
+        if (!(part[1] in CASES)) {
+            CASES[part[1]] = 1
+            cases++
+        }
+        compare(e)
+    }
+    if (differing > 5)
+        tell("clauses: and " differing - 5 " more")
+    if (printed != lines)
+        tell("clauses: " who " printed " printed + 0 " lines, not " lines)
+    print cases, events
+    exit told
+}
+
+function tell(words) {
+    print words | "cat 1>&2"
+    told = 1
+}
+
+# An event has 18 lines: the numbers, the counter, the 16 sites.
+function compare(e,    i, line) {
+    for (i = 1; i <= 18; i++) {
+        line = 18 * (e - 1) + i
+        if ((TYPED[line] "") == (PRINTED[line] ""))
+            continue
+        if (last != e && ++differing <= 5)
+            tell("clauses: " EVENT[e] ": " who " differs:")
+        last = e
+        if (differing > 5)
+            return
+        if (line > printed) {
+            tell("    nothing more is printed")
+            return
+        }
+        if (i < 3)
+            differ(i == 1 ? "refusal, answer, packet, site" : "counter", TYPED[line], PRINTED[line])
+        else
+            compare_site(i - 3, TYPED[line], PRINTED[line])
+    }
+}
+
+# Of a site the places that differ. A site of zeros is the number 0, any other 1 and 135 numbers.
+function compare_site(site, typed, text,    n, m, k, i, at, size, a, b, left, right, unit) {
+    n = split(typed, left, " ")
+    m = split(text, right, " ")
+    if ((n != 1 && n != 136) || (m != 1 && m != 136)) {
+        differ("site " site, typed, text)
+        return
+    }
+    at = 1
+    for (k = 0; k < 28; k++) {
+        size = split(ZERO[k], unit, " ")
+        a = b = ""
+        for (i = at + 1; i <= at + size; i++) {
+            a = a " " (n == 1 ? "0" : left[i])
+            b = b " " (m == 1 ? "0" : right[i])
+        }
+        if (a != b)
+            differ(place_name(site, k), substr(a, 2), substr(b, 2))
+        at += size
+    }
+}
+
+function differ(what, typed, text) {
+    tell("    " what ": typed " typed ", printed " text)
+}
