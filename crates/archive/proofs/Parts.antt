@@ -16,10 +16,6 @@ use Rattle.format.specs.Format.{at, wordBytes, sendBytes, each, headBytes, chan
 
 -- ---- pieces of one width
 
-pub each-none : (f : ℕ → List ℕ) → each f 0 ≡ []
-unfolding each
-each-none f = refl
-
 place-below : (w k n j : ℕ) → k < n → j < w → w * k + j < w * n
 place-below w k n j h l =
     let a : w * suc k ≤ w * n = mul-le-mul (le-refl w) h in

@@ -85,10 +85,6 @@ and3 a b c ha hb hc = and (a && b) c (and a b ha hb) hc
 pub both3 : (a b c : Bool) → a && b && c ≡ true → (a ≡ true) × (b ≡ true) × (c ≡ true)
 both3 a b c h = let u = both (a && b) c h in let w = both a b (u .0) in (w .0, w .1, u .1)
 
-pub and6 : (a b c d e f : Bool) → a ≡ true → b ≡ true → c ≡ true → d ≡ true → e ≡ true → f ≡ true
-    → a && b && c && d && e && f ≡ true
-and6 a b c d e f ha hb hc hd he hf = and3 (a && b && c && d) e f (and (a && b && c) d (and3 a b c ha hb hc) hd) he hf
-
 pub both6 : (a b c d e f : Bool) → a && b && c && d && e && f ≡ true
     → (a ≡ true) × (b ≡ true) × (c ≡ true) × (d ≡ true) × (e ≡ true) × (f ≡ true)
 both6 a b c d e f h =

@@ -1,12 +1,10 @@
 -- A list whose first places are filled by a function: what a loop that stores from the front has done. Assumes nothing.
-use mathlib.Core.Path.{_≡_, refl, sym, ap, ap₂, _∙_}
+use mathlib.Core.Path.{_≡_, refl, ap, ap₂}
 use mathlib.Core.List.{List, [], _∷_}
 use Prim.Native.Nat.{ℕ, zero, suc, _+_, _≤_, _<_, suc-le-suc}
 use native.Mathlib.Nat.{not-suc-le-zero, le-of-suc-le-suc, zero-lt-suc}
 use native.Mathlib.Numerals.{add-one}
-use native.Mathlib.Omega.{arith}
 use lib.ListN.{length, getD, set}
-use lib.Seq.{set-getD, ext-getD}
 
 module _ {A : Type 0} where
   -- xs with f 0, f 1, .. in its first k places
@@ -57,13 +55,6 @@ module _ {A : Type 0} where
       → set a k v ≡ over f (k + 1) xs
   over-step f k xs a v e q h = rw (e, q) (over-more f k xs h)
 
-  -- a turn that stores nothing, where the list has it already
-  pub over-keep : (f : ℕ → A) (k : ℕ) (xs a : List A) (d : A) → a ≡ over f k xs → getD xs k d ≡ f k → k < length xs
-      → a ≡ over f (k + 1) xs
-  over-keep f k xs a d e q h =
-      let s = over-above f k xs k d (omega arith) ∙ q in
-      e ∙ sym (set-getD (over f k xs) k d) ∙ over-step f k xs (over f k xs) (getD (over f k xs) k d) refl s h
-
   -- two functions that agree below k fill alike
   pub over-same : (f g : ℕ → A) (k : ℕ) (xs : List A) → ((i : ℕ) → i < k → f i ≡ g i) → over f k xs ≡ over g k xs
   unfolding over
@@ -72,11 +63,3 @@ module _ {A : Type 0} where
   over-same f g (suc k) (x ∷ xs) h =
       ap₂ (λ (y : A) (ys : List A). y ∷ ys) (h zero (zero-lt-suc k))
       (over-same (λ i. f (suc i)) (λ i. g (suc i)) k xs (λ i l. h (suc i) (suc-le-suc l)))
-
-  -- filled to its end it is the list g that has f's values
-  pub over-is : (f : ℕ → A) (k : ℕ) (xs g : List A) (d : A) → length xs ≡ k → length g ≡ k
-      → ((i : ℕ) → i < k → f i ≡ getD g i d) → over f k xs ≡ g
-  over-is f k xs g d e q h =
-      let l = length-over f k xs in
-      ext-getD d (over f k xs) g (omega arith)
-      (λ i p. over-below f k xs i d (omega arith) (omega arith) ∙ h i (omega arith))

@@ -9,7 +9,6 @@ use native.Mathlib.Omega.{arith}
 use lib.Dec.{eqb, eqb·zero-suc, eqb·suc-zero, eqb·suc-suc}
 use lib.ListN.{getD, set, take, drop, length}
 use lib.Seq.{take-append-le, take-set-lt, length-take-le, getD-take}
-use Rattle.base.specs.Bools.{eqb-sym}
 
 -- f of each entry, summed
 unfoldable pub sum : {A : Type 0} → (A → ℕ) → List A → ℕ
@@ -120,11 +119,6 @@ upto-one (suc n) (suc k) f h =
     upto-ext n _ (λ j. cond (eqb j k) (f (suc j)) 0)
     (λ j l. ap (λ (b : Bool). cond b (f (suc j)) 0) (eqb·suc-suc j k)) in
     rw (eqb·zero-suc k) (omega (arith, e, upto-one n k (λ j. f (suc j)) (le-of-suc-le-suc h)))
-
-pub upto-one-of : (n k : ℕ) (f : ℕ → ℕ) → k < n → upto n (λ j. cond (eqb k j) (f j) 0) ≡ f k
-upto-one-of n k f h =
-    upto-ext n _ (λ j. cond (eqb j k) (f j) 0) (λ j l. ap (λ (b : Bool). cond b (f j) 0) (eqb-sym k j))
-    ∙ upto-one n k f h
 
 -- ---- two sums in either order
 

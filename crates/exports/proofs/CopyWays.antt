@@ -1,13 +1,11 @@
 -- The ways of `fennqualo_copy`: its refusal and the room by what reader and writer answer. Assumes what each law names.
-use Prim.Native.Nat.{ℕ, _+_, _≤_, _<_}
+use Prim.Native.Nat.{ℕ}
 use mathlib.Core.Path.{_≡_, refl, sym, ap, _∙_}
 use mathlib.Core.Bool.{Bool, true, false, cond}
 use mathlib.Core.List.{List}
-use native.Mathlib.Omega.{arith}
 use borrow.Author.Tests.{eqb-true, ne-eqb}
-use lib.Dec.{eqb, ltb}
+use lib.Dec.{eqb}
 use lib.ListN.{length}
-use Rattle.base.specs.Sizes.{sendsMost}
 use Rattle.model.specs.declared.Run.{Run}
 use Rattle.model.specs.Runs.{storedRefusal}
 use Rattle.format.specs.declared.Decoded.{Decoded}

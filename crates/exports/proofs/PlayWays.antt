@@ -8,7 +8,6 @@ use native.Mathlib.Omega.{arith}
 use borrow.Author.Tests.{lt-ltb, le-ltb, eqb-true, eq-eqb, ne-eqb}
 use lib.Dec.{eqb, ltb}
 use lib.ListN.{length, set}
-use Rattle.model.specs.declared.Counts.{Counts}
 use Rattle.model.specs.Runs.{bookRoom, playedRun, countsOf}
 use Rattle.format.specs.Format.{runOf}
 use Rattle.format.specs.Refusals.{readRefusal}

@@ -1,9 +1,9 @@
 -- Document 01, the single events and their refusals, "single events 3, 6, 7, 13, 9, 10, 12, 11"; and what a list of events leaves
 -- behind.
-use Prim.Native.Nat.{ℕ, zero, suc, _+_}
+use Prim.Native.Nat.{ℕ, _+_}
 use mathlib.Core.List.{List, [], _∷_}
-use mathlib.Core.Bool.{Bool, true, false, cond, not, _&&_}
-use lib.Dec.{eqb, ltb, leb}
+use mathlib.Core.Bool.{Bool, cond, _&&_}
+use lib.Dec.{eqb, ltb}
 use Rattle.base.specs.Sizes.{codeCount, packetsMost}
 use Rattle.base.specs.Bools.{count}
 use Rattle.base.specs.Answers.{orNext}
@@ -12,7 +12,7 @@ use Rattle.model.specs.Types.{State, Network, Sent, Accepted, SendRefuse
 use Rattle.model.specs.Numbers.{sentRefusal, sentPacket, answerOf, ranPacket, ranSite}
 use Rattle.model.specs.Network.{networkRefusal}
 use Rattle.model.specs.Range.{inRange}
-use Rattle.model.specs.Steps.{Stepped, run, enqueue}
+use Rattle.model.specs.Steps.{run, enqueue}
 
 -- the network's own refusals 3, 6, 7, then "13: state not in range", then those of the event
 abbrev pub refusalThen : Network → State → ℕ → ℕ

@@ -1,8 +1,8 @@
 -- Document 01, "ready", the terminator table and the rules of a net-input.
 -- A rule looks at two kinds of places, and says that they stay or what becomes of them.
 use Prim.Native.Nat.{ℕ, zero, suc, _+_}
-use mathlib.Core.List.{List, [], _∷_}
-use mathlib.Core.Bool.{Bool, true, false, cond, not, _&&_, _||_}
+use mathlib.Core.List.{List}
+use mathlib.Core.Bool.{Bool, true, false, cond, _&&_}
 use lib.Dec.{eqb, ltb}
 use lib.ListN.{getD, set}
 use Rattle.base.specs.Sizes.{outputCount}

@@ -1,7 +1,7 @@
 -- Document 01, "Owing", place by place: what is owed of a packet to a site, and how many pairs a state owes.
-use Prim.Native.Nat.{ℕ, zero, suc, _+_}
-use mathlib.Core.List.{List, [], _∷_}
-use mathlib.Core.Bool.{Bool, true, false, cond}
+use Prim.Native.Nat.{ℕ, _+_}
+use mathlib.Core.List.{List}
+use mathlib.Core.Bool.{cond}
 use lib.Dec.{eqb}
 use lib.ListN.{take}
 use Rattle.base.specs.Bools.{count}

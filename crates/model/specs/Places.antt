@@ -1,11 +1,11 @@
 -- Document 01: the rules of a net-output, the out-queue, the operator and the timeout.
-use Prim.Native.Nat.{ℕ, zero, suc, _+_, _-_}
-use mathlib.Core.List.{List, [], _∷_}
-use mathlib.Core.Bool.{Bool, true, false, cond, not, _&&_, _||_}
+use Prim.Native.Nat.{ℕ, _-_}
+use mathlib.Core.List.{List}
+use mathlib.Core.Bool.{Bool, false, cond, _&&_}
 use lib.Dec.{eqb, ltb}
 use lib.ListN.{set}
 use Rattle.sets.specs.Sets.{has, minus}
-use Rattle.model.specs.Types.{Connection, Received, gotEnd, gotAbort, Terminator, tNone, tEnd, tAbort, tKeep}
+use Rattle.model.specs.Types.{Received, gotEnd, gotAbort, Terminator, tNone, tEnd, tAbort, tKeep}
 use Rattle.model.specs.Types.{Phase, Free, Seek, Open, Wait, Done, Last, Aborted, FinAbort}
 use Rattle.model.specs.Types.{Input, Output, OutEntry, InEntry, OutQueue, InQueue, noMarks, noOutput, outOf, mark, outEntry, inEntry}
 use Rattle.model.specs.Types.{outHead, entryStarted, entryTerm, pushOut, popOut, pushIn, popIn}

@@ -1,15 +1,15 @@
 -- Document 01, "In range means: ..", clause by clause, and no more than it says. Tests are joined without a branch, place by place.
 -- What a type already says is no clause: packets, tries, feeders and the counter are bytes; a connection exists exactly in the states 2 to 7,
 -- a received terminator exactly in 4, 5 and 7; arrays have their lengths.
-use Prim.Native.Nat.{ℕ, zero, suc, _+_, _-_}
-use mathlib.Core.List.{List, [], _∷_}
-use mathlib.Core.Bool.{Bool, true, false, not, _&&_, _||_}
+use Prim.Native.Nat.{ℕ, suc}
+use mathlib.Core.List.{List}
+use mathlib.Core.Bool.{Bool, not, _&&_}
 use lib.Dec.{eqb, ltb, leb}
 use Rattle.base.specs.Sizes.{sitesMost, inputCount, outputCount, portCount, queueRoom}
 use Rattle.base.specs.Bools.{implies, pick, alike}
 use Rattle.base.specs.All.{all, any}
 use Rattle.sets.specs.Sets.{targets}
-use Rattle.model.specs.Types.{Phase, Input, Output, OutEntry, InEntry, OutQueue, InQueue, Site, State, Network}
+use Rattle.model.specs.Types.{Input, Output, OutEntry, InEntry, OutQueue, InQueue, Site, State, Network}
 use Rattle.model.specs.Types.{siteAt, inAt, outOf, outAt, mark, outEntry, inEntry}
 use Rattle.model.specs.Phases.{isFree, connected, splitting, aborting, isNone, isKeep}
 

@@ -2,14 +2,14 @@
 -- A choice gives each output its set; 0 for an output that is not chosen.
 use Prim.Native.Nat.{ℕ, zero, suc, _+_}
 use mathlib.Core.List.{List, [], _∷_}
-use mathlib.Core.Bool.{Bool, true, false, cond, not, _&&_, _||_}
+use mathlib.Core.Bool.{Bool, cond, not, _&&_, _||_}
 use lib.Dec.{eqb, leb}
 use lib.ListN.{getD, set, replicate}
 use Rattle.base.specs.Sizes.{outputCount, portCount}
 use Rattle.base.specs.Bools.{count}
 use Rattle.base.specs.Sums.{sum}
 use Rattle.sets.specs.Sets.{has, only, plus, minus, size, lowest}
-use Rattle.model.specs.Types.{Connection, Unicast, Passthru, AllRemote, SomeLocal, Handed, Output, Network, outOf}
+use Rattle.model.specs.Types.{Connection, Unicast, Passthru, AllRemote, SomeLocal, Output, Network, outOf}
 use Rattle.model.specs.Network.{listOf}
 
 pub data Choice : Type 0 where

@@ -1,7 +1,7 @@
 -- Document 01, "Draws and the stored run": a run's own refusals, the events that it stands for, its book and the player's counts.
 use Prim.Native.Nat.{ℕ, zero, suc, _+_, _-_, _*_, _/_, _%_}
 use mathlib.Core.List.{List, [], _∷_, _++_, map}
-use mathlib.Core.Bool.{Bool, true, false, cond, not, _&&_, _||_}
+use mathlib.Core.Bool.{Bool, cond, _&&_, _||_}
 use lib.Dec.{eqb, ltb, leb}
 use lib.ListN.{getD, take, length}
 use Rattle.base.specs.Sizes.{sendsMost}

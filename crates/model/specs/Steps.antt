@@ -1,12 +1,12 @@
 -- Document 01, RUN and SEND on the sites, nothing refused: what an event sees (its own site, the inputs at the ends of its channels), what the
 -- rule decides, what is written. Two sites may be one: the own site is written first, the far input into the changed sites.
-use Prim.Native.Nat.{ℕ, zero, suc, _+_, _-_, _*_}
-use mathlib.Core.List.{List, [], _∷_}
-use mathlib.Core.Bool.{Bool, true, false, cond, not, _&&_, _||_}
+use Prim.Native.Nat.{ℕ, zero, suc, _-_}
+use mathlib.Core.List.{List}
+use mathlib.Core.Bool.{false, cond, _&&_}
 use lib.Dec.{eqb, ltb}
 use lib.ListN.{set}
-use Rattle.base.specs.Sizes.{inputCount, outputCount, portCount}
-use Rattle.model.specs.Types.{Input, Output, OutEntry, OutQueue, InQueue, Site, State, Network, Ran, Nothing, Changed, Serviced}
+use Rattle.base.specs.Sizes.{portCount}
+use Rattle.model.specs.Types.{Input, Output, Site, Network, Ran, Nothing, Changed, Serviced}
 use Rattle.model.specs.Types.{noInput, siteAt, inAt, outAt, withInputs, withOutputs, withOutQueue, withInQueue}
 use Rattle.model.specs.Types.{setIn, setOut, setSite, pushOut}
 use Rattle.model.specs.Network.{channel, joined, endSite, endPort}

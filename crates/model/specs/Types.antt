@@ -11,7 +11,7 @@
 --   q  a place's packet    p   a packet that is asked for        X, Y  sets of sites        b  a channel's byte
 --   c  a connection        r   what was received                 h  a terminator            f  a refusal's number
 --   m  a place in a list   l   a list                            g  how far a run has come
-use Prim.Native.Nat.{ℕ, _+_, _-_, _*_}
+use Prim.Native.Nat.{ℕ, _+_, _-_}
 use mathlib.Core.List.{List, [], _∷_, _++_}
 use mathlib.Core.Bool.{Bool, true, false}
 use lib.ListN.{getD, set, drop, replicate}

@@ -1,7 +1,7 @@
 -- ANSWERS: RUN answers 0 exactly where it leaves the state as it was. What it services is a packet below the counter. Assumes the
 -- arrays' lengths, which the types give.
 use Prim.Native.Nat.{ℕ, _<_}
-use mathlib.Core.Path.{_≡_, refl, sym, ap, subst}
+use mathlib.Core.Path.{_≡_, refl, ap, subst}
 use mathlib.Core.List.{List}
 use mathlib.Core.Bool.{true}
 use native.Mathlib.Omega.{arith}

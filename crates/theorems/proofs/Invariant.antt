@@ -6,7 +6,7 @@ use mathlib.Core.Path.{_≡_, refl, _∙_}
 use mathlib.Core.List.{List, [], _∷_}
 use mathlib.Core.Bool.{Bool, true, false, cond, not}
 use native.Mathlib.Omega.{arith}
-use lib.ListN.{getD, set, length, length-set}
+use lib.ListN.{getD, length, length-set}
 use Rattle.base.specs.Sizes.{sitesMost, inputCount, outputCount, portCount, queueRoom}
 use Rattle.base.specs.Lists.{all-set, rel-set}
 use Rattle.base.specs.Sums.{upto, isum-set}

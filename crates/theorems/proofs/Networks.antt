@@ -1,7 +1,7 @@
 -- What a valid network is known by: the test of a network (3, 6, 7), taken apart. Assumes nothing.
-use Prim.Native.Nat.{ℕ, zero, suc, _+_, _*_, _≤_, _<_}
-use mathlib.Core.Path.{_≡_, refl, sym, ap, _∙_}
-use mathlib.Core.Bool.{Bool, true, false, cond, not, _&&_, _||_}
+use Prim.Native.Nat.{ℕ, _+_, _*_, _≤_, _<_}
+use mathlib.Core.Path.{_≡_, sym, _∙_}
+use mathlib.Core.Bool.{true, not}
 use mathlib.Core.Logic.{⊎-elim}
 use native.Mathlib.Omega.{arith}
 use native.Mathlib.Decide.{decLt}
@@ -9,7 +9,7 @@ use borrow.Author.Tests.{ltb-true, leb-true, eqb-true, eqb-false, not-true}
 use lib.Dec.{eqb, ltb, leb}
 use Rattle.base.specs.Sizes.{sitesMost, portCount, queueRoom, noChannel}
 use Rattle.base.specs.Bools.{both, either, first-of}
-use Rattle.base.specs.All.{all, all-at}
+use Rattle.base.specs.All.{all-at}
 use Rattle.theorems.specs.Names.{Network}
 use Rattle.model.specs.Network.{channelByte, channel, joined, sizesOk, channelOk, channelsOk, routesOk, networkRefusal}
 

@@ -3,7 +3,7 @@
 use Prim.Native.Nat.{ℕ, zero, suc, _+_, _≤_, _<_}
 use mathlib.Core.Path.{_≡_, refl, sym, ap, _∙_}
 use mathlib.Core.List.{List, [], _∷_}
-use mathlib.Core.Bool.{true, false, cond, _&&_}
+use mathlib.Core.Bool.{cond}
 use native.Mathlib.Omega.{arith}
 use native.Mathlib.Nat.{zero-add}
 use native.Mathlib.Decide.{ℕ-discrete}
@@ -11,10 +11,10 @@ use borrow.Author.Tests.{eq-eqb, ne-eqb}
 use lib.Dec.{eqb}
 use lib.ListN.{getD}
 use Rattle.base.specs.Bools.{count}
-use Rattle.theorems.specs.Names.{State, Network, AfterSend}
+use Rattle.theorems.specs.Names.{State, Network}
 use Rattle.model.specs.Types.{noState}
-use Rattle.model.specs.Events.{Event, Send, Run, sends, ran, sent, after, answered, setBy, acceptedSet, answeredBy, timesAnswered}
-use Rattle.model.specs.Events.{accepted, ifAccepted, acceptedBy}
+use Rattle.model.specs.Events.{Event, Send, Run, sends, ran, answered, acceptedSet, timesAnswered}
+use Rattle.model.specs.Events.{accepted, ifAccepted}
 use Rattle.theorems.proofs.Refusals.{sent-ways, ran-counter}
 
 -- ---- numbers below the counter are not answered any more

@@ -9,9 +9,9 @@ use borrow.Author.Tests.{eqb-true}
 use lib.ListN.{getD, take, length}
 use Rattle.base.specs.Sizes.{setBits}
 use Rattle.base.specs.Sums.{sum, isum, upto, upto-ext, upto-add, upto-zero, upto-one, upto-sum, upto-isum}
-use Rattle.sets.specs.Sets.{has, size, bit}
+use Rattle.sets.specs.Sets.{bit}
 use Rattle.sets.proofs.LawsBit.{count-has, size-upto}
-use Rattle.theorems.specs.Names.{Terminator, tNone, tEnd, tAbort, tKeep, Input, Output, OutEntry, InEntry, Site}
+use Rattle.theorems.specs.Names.{Terminator, tNone, tEnd, tAbort, tKeep, Site}
 use Rattle.model.specs.Types.{inputD, noOutput, noOutEntry, noInEntry, siteD, siteAt, inAt, outAt, outEntry, inEntry}
 use Rattle.model.specs.Phases.{held}
 use Rattle.model.specs.Owing.{owesAs, owesInput, owesOutput, owesOutEntry, owesInEntry, owesOutQueue, owesInQueue, owesSite, owed, pairsAs, pairsInput, pairsOutput, pairsOutEntry, pairsInEntry, pairsSite, owedPairs}

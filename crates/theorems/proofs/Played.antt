@@ -1,23 +1,23 @@
 -- A run is the single events in order: its state, book and counts are those of SEND and RUN, with all their refusals, applied one after the
 -- other from the empty state. Assumes a valid network.
-use Prim.Native.Nat.{ℕ, zero, suc, _+_, _*_, _≤_, _<_}
-use mathlib.Core.Path.{_≡_, refl, sym, ap, ap₂, _∙_}
-use mathlib.Core.List.{List, [], _∷_, _++_, map}
-use mathlib.Core.Bool.{Bool, true, false, cond, not, _&&_}
+use Prim.Native.Nat.{ℕ, zero, suc, _+_, _≤_, _<_}
+use mathlib.Core.Path.{_≡_, refl, ap, _∙_}
+use mathlib.Core.List.{List, [], _∷_, _++_}
+use mathlib.Core.Bool.{true, cond}
 use native.Mathlib.Omega.{arith}
-use borrow.Author.Tests.{lt-ltb, eq-eqb}
-use lib.Dec.{eqb, ltb, leb}
-use lib.ListN.{length, getD}
+use borrow.Author.Tests.{lt-ltb}
+use lib.Dec.{eqb, leb}
+use lib.ListN.{length}
 use Rattle.base.specs.Sizes.{codeCount, sendsMost}
 use Rattle.base.specs.Bools.{cond-ok, first-of, second-of}
 use Rattle.base.specs.Sums.{sum, sum-append}
 use Rattle.sets.specs.Sets.{size, bit}
 use Rattle.draws.proofs.Laws.{site-below, code-below}
-use Rattle.theorems.specs.Names.{Site, State, Network, Run as StoredRun, StoredSend, Sent, Accepted, SendRefused, Ran, Nothing, Changed, Serviced, RunRefused, AfterSend, AfterRun}
+use Rattle.theorems.specs.Names.{State, Network, Run as StoredRun, StoredSend, Ran, Nothing, Changed, Serviced, RunRefused, AfterSend}
 use Rattle.model.specs.Types.{noState}
 use Rattle.model.specs.Network.{sizesOk, channelsOk, routesOk, networkRefusal}
 use Rattle.model.specs.Range.{inRange}
-use Rattle.model.specs.Events.{Event, Send, Run, refusalThen, runFault, sendFault, runRefusal, sendRefusal, runs, sends, ran, sent, after}
+use Rattle.model.specs.Events.{Event, Send, Run, refusalThen, runFault, sendFault, runRefusal, sendRefusal, runs, ran, sent, after}
 use Rattle.model.specs.Events.{final, accepted, ifAccepted, acceptedBy, acceptedSet, hits, servicedBy, serviced}
 use Rattle.model.specs.Owing.{owed}
 use Rattle.model.specs.Runs.{Timed, Service, Played, events, inBook, unplayed, marked, atDraw, sendsAt, drawAt, scriptTo, script}

@@ -1,9 +1,8 @@
 -- Over a run, services and owed pairs make up the pairs of the accepted packets: demand 3 summed over all packets and sites.
 -- Assumes a valid network.
 use Prim.Native.Nat.{ℕ, zero, suc, _+_, _≤_, _<_}
-use mathlib.Core.Path.{_≡_, refl, sym, ap, ap₂, _∙_}
+use mathlib.Core.Path.{_≡_, refl, sym, ap, _∙_}
 use mathlib.Core.List.{List, [], _∷_}
-use mathlib.Core.Bool.{Bool, true, false}
 use native.Mathlib.Omega.{arith}
 use native.Mathlib.Nat.{not-suc-le-zero, le-of-suc-le-suc}
 use lib.Dec.{eqb}
@@ -18,7 +17,6 @@ use Rattle.sets.proofs.LawsSize.{size-empty}
 use Rattle.theorems.specs.Names.{Site, State, Network, Run as StoredRun, Ran, Nothing, Changed, Serviced, RunRefused, AfterSend, AfterRun}
 use Rattle.model.specs.Types.{noState, siteAt}
 use Rattle.model.specs.Network.{networkRefusal}
-use Rattle.model.specs.Range.{inRange}
 use Rattle.model.specs.Steps.{run}
 use Rattle.model.specs.Events.{Event, Send, Run, sendRefusal, runRefusal, ran, sent, after, final, accepted, acceptedBy, ifAccepted, hits, servicedBy, serviced}
 use Rattle.model.specs.Owing.{owed, owedPairs}
@@ -27,7 +25,7 @@ use Rattle.theorems.proofs.Networks.{valid-ok}
 use Rattle.theorems.proofs.Refusals.{RunPasses, run-passes, send-passes, sent-ways, ran-counter}
 use Rattle.theorems.proofs.Numbered.{placed-once}
 use Rattle.theorems.proofs.Demand3.{once}
-use Rattle.theorems.proofs.RangeKept.{empty-shaped, shaped-kept, empty-in-range, range-kept, final-shaped, reached}
+use Rattle.theorems.proofs.RangeKept.{empty-shaped, shaped-kept, final-shaped, reached}
 use Rattle.theorems.proofs.RangePackets.{range-small}
 use Rattle.theorems.proofs.Answers.{served-below}
 use Rattle.theorems.proofs.Pairs.{grand, grand-add, grand-zero, grand-pair, grand-ext, SmallSite, state-pairs}

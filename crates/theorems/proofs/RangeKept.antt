@@ -24,7 +24,7 @@ use Rattle.theorems.proofs.Networks.{Valid, valid-ok}
 use Rattle.theorems.proofs.Refusals.{run-passes, send-passes}
 use Rattle.theorems.proofs.RangeSites.{SitesIn, sites-at, sites-by, sites-shaped}
 use Rattle.theorems.proofs.RangeRun.{StepIn, run-in, send-in}
-use Rattle.model.specs.Shapes.{SiteShaped, Shaped}
+use Rattle.model.specs.Shapes.{Shaped}
 
 -- ---- the test and the facts, of a state
 
