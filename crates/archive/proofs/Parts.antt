@@ -12,7 +12,8 @@ use Rattle.base.specs.Sizes.{portCount}
 use Rattle.model.specs.declared.Run.{Run}
 use Rattle.model.specs.declared.StoredSend.{StoredSend}
 use Rattle.model.specs.Types.{sendD, sendAt}
-use Rattle.format.specs.Format.{at, wordBytes, sendBytes, each, headBytes, channelBytes, routeBytes, sendsBytes, encode, lengthOf, headLength, routesPlace, sendsPlace}
+use Rattle.format.specs.Format.{at, wordBytes, sendBytes, each, headBytes, channelBytes, routeBytes, sendsBytes, encode, lengthOf}
+use Rattle.format.specs.Format.{headLength, routesPlace, sendsPlace}
 
 -- ---- pieces of one width
 

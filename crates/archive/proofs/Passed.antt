@@ -14,7 +14,8 @@ use Rattle.model.specs.declared.Run.{Run}
 use Rattle.model.specs.Network.{sizesOk, channelsOk, routesOk}
 use Rattle.model.specs.Runs.{sendsOk, storedRefusal}
 use Rattle.checks.proofs.NetworkLaws.{sizes-few}
-use Rattle.format.specs.Format.{at, word, quad, versionPlace, sitesPlace, triesPlace, depthPlace, countPlace, headLength, version, lengthWith, networkOf, runOf}
+use Rattle.format.specs.Format.{at, word, quad, versionPlace, sitesPlace, triesPlace, depthPlace, countPlace, headLength, version}
+use Rattle.format.specs.Format.{lengthWith, networkOf, runOf}
 use Rattle.archive.specs.Code.{Head, Fit}
 use Rattle.format.specs.Refusals.{lengthOk, sizeOk, headThen}
 use Rattle.model.specs.Runs.{bodyRefusal}

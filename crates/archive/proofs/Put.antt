@@ -13,7 +13,8 @@ use Rattle.base.specs.Answers.{atFront}
 use Rattle.model.specs.declared.StoredSend.{StoredSend}
 use Rattle.model.specs.declared.Run.{Run}
 use Rattle.model.specs.Types.{sendD}
-use Rattle.format.specs.Format.{at, headLength, routesPlace, sendsPlace, lengthOf, wordBytes, sendBytes, each, headWith, headBytes, channelBytes, routeBytes, sendsBytes, encode}
+use Rattle.format.specs.Format.{at, headLength, routesPlace, sendsPlace, lengthOf, wordBytes, sendBytes, each, headWith, headBytes}
+use Rattle.format.specs.Format.{channelBytes, routeBytes, sendsBytes, encode}
 use Rattle.archive.specs.Code.{put}
 use Rattle.archive.proofs.Parts.{length-each, length-head, length-channels, length-routes, length-sends}
 

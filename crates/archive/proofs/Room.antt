@@ -16,7 +16,8 @@ use Rattle.model.specs.declared.Network.{Network}
 use Rattle.model.specs.declared.StoredSend.{StoredSend}
 use Rattle.model.specs.declared.Run.{Run}
 use Rattle.model.specs.Types.{sendD, sendAt}
-use Rattle.model.specs.Network.{channelByte, joined, routeOf, listOf, channelOk, channelsOk, portOk, listOk, routeOk, routesOk, choice, choices}
+use Rattle.model.specs.Network.{channelByte, joined, routeOf, listOf, channelOk, channelsOk, portOk, listOk, routeOk, routesOk}
+use Rattle.model.specs.Network.{choice, choices}
 use Rattle.model.specs.Runs.{sendOk, sendsOk}
 use Rattle.checks.proofs.NetworkLaws.{place-below}
 use Rattle.format.specs.Format.{at, noChannels, noRoutes, noSends, trimmedNetwork, trimmed}

@@ -22,7 +22,9 @@ use Rattle.model.specs.declared.Run.{Run}
 use Rattle.model.specs.Types.{sendD, sendAt}
 use Rattle.model.specs.Network.{sizesOk}
 use Rattle.model.specs.Runs.{sendOk, storedRefusal}
-use Rattle.format.specs.Format.{at, word, quad, sendOf, headBytes, encode, lengthOf, versionPlace, sitesPlace, countPlace, headLength, version, routesPlace, sendsPlace, lengthWith, channelsOf, routesOf, sendsOf, noChannels, noRoutes, noSends, networkOf, runOf, trimmedNetwork, trimmed}
+use Rattle.format.specs.Format.{at, word, quad, sendOf, headBytes, encode, lengthOf, versionPlace, sitesPlace, countPlace}
+use Rattle.format.specs.Format.{headLength, version, routesPlace, sendsPlace, lengthWith, channelsOf, routesOf, sendsOf, noChannels}
+use Rattle.format.specs.Format.{noRoutes, noSends, networkOf, runOf, trimmedNetwork, trimmed}
 use Rattle.format.specs.Refusals.{readRefusal, decode}
 use Rattle.model.specs.Runs.{bodyRefusal}
 use Rattle.archive.proofs.Numbers.{two, four}

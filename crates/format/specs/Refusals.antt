@@ -11,7 +11,8 @@ use Rattle.model.specs.Network.{sizesOk}
 use Rattle.model.specs.Runs.{bodyRefusal, storedRefusal}
 use Rattle.format.specs.declared.Decoded.{Decoded}
 use Rattle.format.specs.declared.Written.{Written}
-use Rattle.format.specs.Format.{at, word, lengthPlace, versionPlace, sitesPlace, countPlace, headLength, version, lengthWith, lengthOf, encode, networkOf, runOf, noRun}
+use Rattle.format.specs.Format.{at, word, lengthPlace, versionPlace, sitesPlace, countPlace, headLength, version, lengthWith}
+use Rattle.format.specs.Format.{lengthOf, encode, networkOf, runOf, noRun}
 
 -- ---- the reader, "1 to 8"
 

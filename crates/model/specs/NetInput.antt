@@ -20,8 +20,9 @@ pub data Turn (A B : Type 0) : Type 0 where
   Stay : Turn A B
   To : A → B → Turn A B
 
--- "An output is ready when it is in use, its head is taken, and either it is output 0 or its channel's input is open or abort. Outputs 1 to 4
--- without a channel are never ready": output j of os; there j tells whether output j + 1 has a channel, far j is the input at its end
+-- "An output is ready when it is in use, its head is taken, and either it is output 0 or its channel's input is open or abort.
+-- Outputs 1 to 4 without a channel are never ready": output j of os; there j tells whether output j + 1 has a channel, far j is
+-- the input at its end
 unfoldable pub hears : (ℕ → Bool) → (ℕ → Input) → ℕ → Bool
 hears there far zero = true
 hears there far (suc j) = there j && listening (far j .phase)
@@ -33,8 +34,8 @@ ready there far os j = outOf os j .used && outOf os j .head && hears there far j
 abbrev pub allReady : (ℕ → Bool) → List Bool → Bool
 allReady isReady bs = all (λ j. implies (mark bs j) (isReady j)) outputCount
 
--- the table, by what was received, the connection and the output: abort gives abort; end gives the remote outputs end, and output 0 end, but
--- abort for all-remote and keep-local for some-local
+-- the table, by what was received, the connection and the output: abort gives abort; end gives the remote outputs end, and output 0
+-- end, but abort for all-remote and keep-local for some-local
 abbrev pub atZero : ℕ → Terminator → Terminator → Terminator
 atZero j zeroth remote = cond (eqb j 0) zeroth remote
 
@@ -63,7 +64,8 @@ marksOf sets = over (isChosen sets) outputCount noMarks
 
 abbrev pub opened : ℕ → Input → List Output → Connection → List ℕ → Turn Input (List Output)
 opened i y os c sets =
-    To (record { set = y .set; phase = Open c; outputs = marksOf sets; packet = y .packet; tries = y .tries }) (occupy (y .packet) i sets os)
+    To (record { set = y .set; phase = Open c; outputs = marksOf sets; packet = y .packet; tries = y .tries })
+    (occupy (y .packet) i sets os)
 
 -- "None of these: below T, one more try. At T, if output 0 is empty, the whole X goes to it, handed. Else nothing changes."
 abbrev pub triedAgain : Input → Input

@@ -40,7 +40,10 @@ module _ (s p t : ℕ) where
 
 abbrev pub owesSite : ℕ → ℕ → ℕ → Site → ℕ
 owesSite p t s x =
-    sum (owesInput s p t) (x .inputs) + sum (owesOutput s p t) (x .outputs) + owesOutQueue s p t (x .outgoing) + owesInQueue s p t (x .incoming)
+    sum (owesInput s p t) (x .inputs)
+    + sum (owesOutput s p t) (x .outputs)
+    + owesOutQueue s p t (x .outgoing)
+    + owesInQueue s p t (x .incoming)
 
 -- the places of all sites that owe packet p to site t
 unfoldable pub owed : List Site → ℕ → ℕ → ℕ

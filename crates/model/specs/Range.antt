@@ -1,6 +1,6 @@
 -- Document 01, "In range means: ..", clause by clause, and no more than it says. Tests are joined without a branch, place by place.
--- What a type already says is no clause: packets, tries, feeders and the counter are bytes; a connection exists exactly in the states 2 to 7,
--- a received terminator exactly in 4, 5 and 7; arrays have their lengths.
+-- What a type already says is no clause: packets, tries, feeders and the counter are bytes; a connection exists exactly in the
+-- states 2 to 7, a received terminator exactly in 4, 5 and 7; arrays have their lengths.
 use Prim.Native.Nat.{ℕ, suc}
 use mathlib.Core.List.{List}
 use mathlib.Core.Bool.{Bool, not, _&&_}

@@ -1,5 +1,6 @@
--- Document 01, RUN and SEND on the sites, nothing refused: what an event sees (its own site, the inputs at the ends of its channels), what the
--- rule decides, what is written. Two sites may be one: the own site is written first, the far input into the changed sites.
+-- Document 01, RUN and SEND on the sites, nothing refused: what an event sees (its own site, the inputs at the ends of its
+-- channels), what the rule decides, what is written. Two sites may be one: the own site is written first, the far input into the
+-- changed sites.
 use Prim.Native.Nat.{ℕ, zero, suc, _-_}
 use mathlib.Core.List.{List}
 use mathlib.Core.Bool.{false, cond, _&&_}

@@ -8,7 +8,8 @@ use native.Mathlib.Omega.{arith}
 use Rattle.base.specs.Sizes.{sitesMost, portCount}
 use Rattle.base.specs.Bools.{clash, cond-ok, both}
 use Rattle.base.specs.Lists.{proj-set, modify-swap}
-use Rattle.theorems.specs.Names.{Received, gotEnd, gotAbort, Terminator, tNone, tEnd, tAbort, tKeep, Free, Input, Output, Site, Network}
+use Rattle.theorems.specs.Names.{Received, gotEnd, gotAbort, Terminator, tNone, tEnd, tAbort, tKeep, Free, Input, Output}
+use Rattle.theorems.specs.Names.{Site, Network}
 use Rattle.model.specs.Types.{siteD, noOutput, siteAt, inAt, outAt, outHead, setSite, setIn, setOut}
 use Rattle.model.specs.Network.{channel, joined, endSite, endPort}
 use Rattle.model.specs.Phases.{isFree, listening, isNone, asTerminator, received}

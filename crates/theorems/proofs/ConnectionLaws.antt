@@ -10,13 +10,15 @@ use Rattle.base.specs.Sizes.{inputCount, outputCount}
 use Rattle.base.specs.Bools.{clash}
 use Rattle.base.specs.Lists.{all-but, rel-set}
 use Rattle.base.specs.Sums.{sum, sum-set, upto-ext}
-use Rattle.theorems.specs.Names.{Connection, Received, gotEnd, Terminator, tNone, tEnd, tAbort, tKeep, Phase, Free, Seek, Open, Wait, Done, Last, Aborted, FinAbort, Input, Output, OutQueue, InQueue, Site}
+use Rattle.theorems.specs.Names.{Connection, Received, gotEnd, Terminator, tNone, tEnd, tAbort, tKeep, Phase, Free, Seek}
+use Rattle.theorems.specs.Names.{Open, Wait, Done, Last, Aborted, FinAbort, Input, Output, OutQueue, InQueue, Site}
 use Rattle.model.specs.Types.{inputD, inAt, outOf, outAt, mark, setIn}
 use Rattle.model.specs.Phases.{isFree, listening, isNone, asTerminator, held, receive, received}
 use Rattle.model.specs.NetInput.{table}
 use Rattle.model.specs.Steps.{setBoth}
 use Rattle.model.specs.Owing.{owesAs, owesInput, owesOutput}
-use Rattle.theorems.proofs.Invariant.{tag, tagOut, claimOf, claim, idle, Quiet, Fed, Whole, Joined, ConnAt, Conn, Leaving, Landing, SiteOk, Persist, SameHead, Good}
+use Rattle.theorems.proofs.Invariant.{tag, tagOut, claimOf, claim, idle, Quiet, Fed, Whole, Joined, ConnAt, Conn, Leaving}
+use Rattle.theorems.proofs.Invariant.{Landing, SiteOk, Persist, SameHead, Good}
 
 -- ---- what an input's state tells
 

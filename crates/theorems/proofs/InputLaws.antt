@@ -11,7 +11,8 @@ use Rattle.base.specs.Sizes.{sitesMost, inputCount, outputCount}
 use Rattle.base.specs.Bools.{cond-ok}
 use Rattle.base.specs.Lists.{rel-set}
 use Rattle.base.specs.Sums.{sum, sum-set, sum-upto, upto-ext, upto-add, upto-zero}
-use Rattle.theorems.specs.Names.{Connection, Received, gotEnd, gotAbort, Terminator, tAbort, Phase, Free, Seek, Open, Wait, Done, Last, Aborted, FinAbort, Input, Output, Site, Network}
+use Rattle.theorems.specs.Names.{Connection, Received, gotEnd, gotAbort, Terminator, tAbort, Phase, Free, Seek, Open, Wait}
+use Rattle.theorems.specs.Names.{Done, Last, Aborted, FinAbort, Input, Output, Site, Network}
 use Rattle.model.specs.Types.{noInput, inputD, noOutput, inAt, outOf, outAt, mark, inPhase, outTerm}
 use Rattle.model.specs.Phases.{splits, asTerminator, held}
 use Rattle.model.specs.NetInput.{Turn, allReady, table, give, inState}
@@ -21,7 +22,8 @@ use Rattle.model.specs.Owing.{owesAs, owesInput, owesOutput}
 use Rattle.theorems.proofs.RouterLaws.{route-ok}
 use Rattle.theorems.proofs.OutputReads.{length-give, give-at, give-ok, remote-mark, remote-zero}
 use Rattle.theorems.proofs.Invariant.{claimOf, would, Fed, Whole, Joined, ConnAt, Conn, SiteOk, Persist, Good, OwnOk}
-use Rattle.theorems.proofs.ConnectionLaws.{tag-owes, Renewed, renewed-refl, not-idle, fed-owes, phase-owes, phase-claim, phase-conn, no-claim, both-good, in-good}
+use Rattle.theorems.proofs.ConnectionLaws.{tag-owes, Renewed, renewed-refl, not-idle, fed-owes, phase-owes, phase-claim}
+use Rattle.theorems.proofs.ConnectionLaws.{phase-conn, no-claim, both-good, in-good}
 use Rattle.theorems.proofs.SeekLaws.{seek-ok}
 
 -- ---- outputs that are given terminators

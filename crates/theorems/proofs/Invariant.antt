@@ -10,7 +10,8 @@ use lib.ListN.{getD, length, length-set}
 use Rattle.base.specs.Sizes.{sitesMost, inputCount, outputCount, portCount, queueRoom}
 use Rattle.base.specs.Lists.{all-set, rel-set}
 use Rattle.base.specs.Sums.{upto, isum-set}
-use Rattle.theorems.specs.Names.{Connection, gotEnd, Terminator, tNone, tEnd, Phase, Free, Seek, Open, Wait, Done, Last, Aborted, FinAbort, Input, Output, OutQueue, InQueue, Site, Network, Serviced}
+use Rattle.theorems.specs.Names.{Connection, gotEnd, Terminator, tNone, tEnd, Phase, Free, Seek, Open, Wait, Done, Last}
+use Rattle.theorems.specs.Names.{Aborted, FinAbort, Input, Output, OutQueue, InQueue, Site, Network, Serviced}
 use Rattle.model.specs.Types.{inputD, siteD, noOutput, siteAt, inAt, outAt, mark, outEntry, setSite}
 use Rattle.model.specs.Network.{channel, joined, endSite, endPort}
 use Rattle.model.specs.Phases.{splits}

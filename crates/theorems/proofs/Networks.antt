@@ -21,7 +21,8 @@ pub record Valid (n : Network) : Type 0 where
   pub room : 1 ≤ n .depth
   -- a channel ends at an input of the network, and no two end at the same one
   pub ends : (s j : ℕ) → s < n .sites → j < portCount → joined n s j ≡ true → channel n s j < portCount * n .sites
-  pub apart : (s j s′ j′ : ℕ) → s < n .sites → j < portCount → s′ < n .sites → j′ < portCount → joined n s j ≡ true → channel n s j ≡ channel n s′ j′ → (s ≡ s′) × (j ≡ j′)
+  pub apart : (s j s′ j′ : ℕ) → s < n .sites → j < portCount → s′ < n .sites → j′ < portCount → joined n s j ≡ true
+      → channel n s j ≡ channel n s′ j′ → (s ≡ s′) × (j ≡ j′)
 
 -- the three tests of a network that is not refused
 pub passed : (n : Network) → networkRefusal n ≡ 0 → (sizesOk n ≡ true) × (channelsOk n ≡ true) × (routesOk n ≡ true)
@@ -41,7 +42,8 @@ module _ (n : Network) (h : networkRefusal n ≡ 0) where
       (ltb-true _ _ (w .0), λ d k. eqb-false _ _ (not-true _ (all-at (λ d. not (eqb (channelByte n d) (channelByte n c))) d c k (w .1)))))
       (either (eqb (channelByte n c) noChannel) _ (all-at (channelOk n) c (portCount * n .sites) l (passed n h .1)))
 
-  same-channel : (c d : ℕ) → c < portCount * n .sites → d < portCount * n .sites → (channelByte n c ≡ noChannel → ⊥) → channelByte n c ≡ channelByte n d → c ≡ d
+  same-channel : (c d : ℕ) → c < portCount * n .sites → d < portCount * n .sites → (channelByte n c ≡ noChannel → ⊥)
+      → channelByte n c ≡ channelByte n d → c ≡ d
   same-channel c d hc hd ne e = go (decLt c d) (decLt d c)
     where
       go : Dec (c < d) → Dec (d < c) → c ≡ d

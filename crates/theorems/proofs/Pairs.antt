@@ -14,7 +14,8 @@ use Rattle.sets.proofs.LawsBit.{count-has, size-upto}
 use Rattle.theorems.specs.Names.{Terminator, tNone, tEnd, tAbort, tKeep, Site}
 use Rattle.model.specs.Types.{inputD, noOutput, noOutEntry, noInEntry, siteD, siteAt, inAt, outAt, outEntry, inEntry}
 use Rattle.model.specs.Phases.{held}
-use Rattle.model.specs.Owing.{owesAs, owesInput, owesOutput, owesOutEntry, owesInEntry, owesOutQueue, owesInQueue, owesSite, owed, pairsAs, pairsInput, pairsOutput, pairsOutEntry, pairsInEntry, pairsSite, owedPairs}
+use Rattle.model.specs.Owing.{owesAs, owesInput, owesOutput, owesOutEntry, owesInEntry, owesOutQueue, owesInQueue, owesSite, owed}
+use Rattle.model.specs.Owing.{pairsAs, pairsInput, pairsOutput, pairsOutEntry, pairsInEntry, pairsSite, owedPairs}
 
 -- sums of what is the same at each place; what holds of each entry holds of each of the first ones
 sum-same : {A : Type 0} (f g : A → ℕ) (l : List A) (d : A) → ((i : ℕ) → f (getD l i d) ≡ g (getD l i d)) → sum f l ≡ sum g l
@@ -22,7 +23,8 @@ unfolding sum
 sum-same f g [] d h = refl
 sum-same f g (x ∷ xs) d h = ap₂ (λ (a b : ℕ). a + b) (h 0) (sum-same f g xs d (λ i. h (suc i)))
 
-isum-same : {A : Type 0} (f g : ℕ → A → ℕ) (k : ℕ) (l : List A) (d : A) → ((i : ℕ) → i < length l → f (k + i) (getD l i d) ≡ g (k + i) (getD l i d)) → isum f k l ≡ isum g k l
+isum-same : {A : Type 0} (f g : ℕ → A → ℕ) (k : ℕ) (l : List A) (d : A)
+    → ((i : ℕ) → i < length l → f (k + i) (getD l i d) ≡ g (k + i) (getD l i d)) → isum f k l ≡ isum g k l
 unfolding isum
 isum-same f g k [] d h = refl
 isum-same f g k (x ∷ xs) d h =
@@ -52,7 +54,8 @@ module _ (P : ℕ) where
   pub grand-sum : {A : Type 0} (f : ℕ → ℕ → A → ℕ) (l : List A) → grand P (λ p t. sum (f p t) l) ≡ sum (λ a. grand P (λ p t. f p t a)) l
   grand-sum f l = upto-ext P _ _ (λ p a. upto-sum setBits (f p) l) ∙ upto-sum P (λ p a. upto setBits (λ t. f p t a)) l
 
-  pub grand-isum : {A : Type 0} (f : ℕ → ℕ → ℕ → A → ℕ) (l : List A) → grand P (λ p t. isum (f p t) 0 l) ≡ isum (λ i a. grand P (λ p t. f p t i a)) 0 l
+  pub grand-isum : {A : Type 0} (f : ℕ → ℕ → ℕ → A → ℕ) (l : List A)
+      → grand P (λ p t. isum (f p t) 0 l) ≡ isum (λ i a. grand P (λ p t. f p t i a)) 0 l
   grand-isum f l = upto-ext P _ _ (λ p a. upto-isum setBits (f p) 0 l) ∙ upto-isum P (λ p i a. upto setBits (λ t. f p t i a)) 0 l
 
   -- what is asked of one packet alone
@@ -72,7 +75,10 @@ module _ (P : ℕ) where
   place-pairs tNone s q X h l = grand-zero
   place-pairs tAbort s q X h l = grand-zero
   place-pairs tEnd s q X h l = grand-packet q (λ t. bit t X) h ∙ sym (size-upto setBits X)
-  place-pairs tKeep s q X h l = grand-ext _ (λ p t. cond (eqb p q) (cond (eqb t s) (bit s X) 0) 0) (λ p t. go t (eqb p q) (eqb t s) refl) ∙ grand-pair q s (bit s X) h l ∙ sym (count-has s X)
+  place-pairs tKeep s q X h l =
+      grand-ext _ (λ p t. cond (eqb p q) (cond (eqb t s) (bit s X) 0) 0) (λ p t. go t (eqb p q) (eqb t s) refl)
+      ∙ grand-pair q s (bit s X) h l
+      ∙ sym (count-has s X)
     where
       go : (t : ℕ) (b c : Bool) → eqb t s ≡ c → cond c (cond b (bit t X) 0) 0 ≡ cond b (cond c (bit s X) 0) 0
       go t true true e = ap (λ (w : ℕ). bit w X) (eqb-true t s e)
@@ -89,21 +95,33 @@ module _ (P : ℕ) where
 
   pub site-pairs : (s : ℕ) (x : Site) → 0 < P → s < setBits → SmallSite x → grand P (λ p t. owesSite p t s x) ≡ pairsSite s x
   site-pairs s x z l ok =
-      grand-add (λ p t. sum (owesInput s p t) (x .inputs) + sum (owesOutput s p t) (x .outputs) + owesOutQueue s p t (x .outgoing)) (λ p t. owesInQueue s p t (x .incoming))
+      grand-add
+      (λ p t. sum (owesInput s p t) (x .inputs) + sum (owesOutput s p t) (x .outputs) + owesOutQueue s p t (x .outgoing))
+      (λ p t. owesInQueue s p t (x .incoming))
       ∙ ap₂ (λ (a b : ℕ). a + b)
       (grand-add (λ p t. sum (owesInput s p t) (x .inputs) + sum (owesOutput s p t) (x .outputs)) (λ p t. owesOutQueue s p t (x .outgoing))
       ∙ ap₂ (λ (a b : ℕ). a + b)
       (grand-add (λ p t. sum (owesInput s p t) (x .inputs)) (λ p t. sum (owesOutput s p t) (x .outputs))
       ∙ ap₂ (λ (a b : ℕ). a + b)
-      (grand-sum (owesInput s) (x .inputs) ∙ sum-same _ (pairsInput s) (x .inputs) inputD (λ i. place-pairs (held (inAt x i .phase)) s _ _ (ok .ins i) l))
-      (grand-sum (owesOutput s) (x .outputs) ∙ sum-same _ (pairsOutput s) (x .outputs) noOutput (λ j. place-pairs (outAt x j .terminator) s _ _ (ok .outs j) l)))
-      (grand-sum (owesOutEntry s) (take (x .outgoing .count) (x .outgoing .entries)) ∙ sum-same _ (pairsOutEntry s) _ noOutEntry (λ m. place-pairs tEnd s _ _ (take-all (λ d. d .packet < P) _ noOutEntry z (ok .out-entries) (x .outgoing .count) m) l)))
+      (grand-sum (owesInput s) (x .inputs)
+      ∙ sum-same _ (pairsInput s) (x .inputs) inputD (λ i. place-pairs (held (inAt x i .phase)) s _ _ (ok .ins i) l))
+      (grand-sum (owesOutput s) (x .outputs)
+      ∙ sum-same _ (pairsOutput s) (x .outputs) noOutput (λ j. place-pairs (outAt x j .terminator) s _ _ (ok .outs j) l)))
+      (grand-sum (owesOutEntry s) (take (x .outgoing .count) (x .outgoing .entries))
+      ∙ sum-same _ (pairsOutEntry s) _ noOutEntry
+      (λ m.
+      place-pairs tEnd s _ _ (take-all (λ d. d .packet < P) _ noOutEntry z (ok .out-entries) (x .outgoing .count) m) l)))
       (grand-sum (owesInEntry s) (take (x .incoming .count) (x .incoming .entries))
       ∙ sum-same _ (pairsInEntry s) _ noInEntry
-      (λ m. place-pairs (getD (take (x .incoming .count) (x .incoming .entries)) m noInEntry .terminator) s _ _ (take-all (λ a. a .packet < P) _ noInEntry z (ok .in-entries) (x .incoming .count) m) l))
+      (λ m.
+      place-pairs (getD (take (x .incoming .count) (x .incoming .entries)) m noInEntry .terminator) s _ _
+      (take-all (λ a. a .packet < P) _ noInEntry z (ok .in-entries) (x .incoming .count) m) l))
 
   -- all sites
-  pub state-pairs : (st : List Site) → 0 < P → length st ≤ setBits → ((s : ℕ) → s < length st → SmallSite (siteAt st s)) → grand P (owed st) ≡ owedPairs st
+  pub state-pairs : (st : List Site) → 0 < P → length st ≤ setBits → ((s : ℕ) → s < length st → SmallSite (siteAt st s))
+      → grand P (owed st) ≡ owedPairs st
   unfolding owed owedPairs
   state-pairs st z l ok =
-      grand-isum owesSite st ∙ isum-same _ pairsSite 0 st siteD (λ s h. let e : 0 + s ≡ s = omega arith in rw e (site-pairs s (siteAt st s) z (omega arith) (ok s h)))
+      grand-isum owesSite st
+      ∙ isum-same _ pairsSite 0 st siteD
+      (λ s h. let e : 0 + s ≡ s = omega arith in rw e (site-pairs s (siteAt st s) z (omega arith) (ok s h)))

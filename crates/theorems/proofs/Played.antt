@@ -38,13 +38,15 @@ module _ (n : Network) where
   step-state p d (Run s code) = refl
 
   -- the packets accepted and their pairs, with those of the events to come
-  step-accepted : (p : Played) (d : ℕ) (e : Event) (l : List ℕ) → advanceSingly n p d e .accepted + length l ≡ p .accepted + length (acceptedBy n (p .state) e l)
+  step-accepted : (p : Played) (d : ℕ) (e : Event) (l : List ℕ)
+      → advanceSingly n p d e .accepted + length l ≡ p .accepted + length (acceptedBy n (p .state) e l)
   step-accepted p d (Send s X) l =
       sent-ways (λ w. sendPlayed p X w (w .answer) .accepted + length l ≡ p .accepted + length (ifAccepted (w .answer) X l)) n (p .state)
       s X (λ h. omega arith) (λ f e. rw e refl)
   step-accepted p d (Run s code) l = refl
 
-  step-pairs : (p : Played) (d : ℕ) (e : Event) (l : List ℕ) → advanceSingly n p d e .pairs + sum size l ≡ p .pairs + sum size (acceptedBy n (p .state) e l)
+  step-pairs : (p : Played) (d : ℕ) (e : Event) (l : List ℕ)
+      → advanceSingly n p d e .pairs + sum size l ≡ p .pairs + sum size (acceptedBy n (p .state) e l)
   unfolding sum
   step-pairs p d (Send s X) l =
       sent-ways (λ w. sendPlayed p X w (w .answer) .pairs + sum size l ≡ p .pairs + sum size (ifAccepted (w .answer) X l)) n (p .state) s
@@ -55,9 +57,11 @@ module _ (n : Network) where
   unfolding playedSingly final
   singly-state p [] = refl
   singly-state p (e ∷ es) =
-      singly-state (advanceSingly n p (e .draw) (e .event)) es ∙ ap (λ (st : State). final n st (events es)) (step-state p (e .draw) (e .event))
+      singly-state (advanceSingly n p (e .draw) (e .event)) es
+      ∙ ap (λ (st : State). final n st (events es)) (step-state p (e .draw) (e .event))
 
-  pub singly-accepted : (p : Played) (es : List Timed) → playedSingly n p es .accepted ≡ p .accepted + length (accepted n (p .state) (events es))
+  pub singly-accepted : (p : Played) (es : List Timed)
+      → playedSingly n p es .accepted ≡ p .accepted + length (accepted n (p .state) (events es))
   unfolding playedSingly accepted
   singly-accepted p [] = omega arith
   singly-accepted p (e ∷ es) =
@@ -87,13 +91,15 @@ entered-hits p t d (Serviced q s) l =
 entered-hits p t d (RunRefused k) l = omega arith
 
 module _ (n : Network) (a t : ℕ) where
-  step-book : (p : Played) (d : ℕ) (e : Event) → inBook a t (advanceSingly n p d e .book) ≡ inBook a t (p .book) + servicedBy n (p .state) e a t
+  step-book : (p : Played) (d : ℕ) (e : Event)
+      → inBook a t (advanceSingly n p d e .book) ≡ inBook a t (p .book) + servicedBy n (p .state) e a t
   step-book p d (Send s X) =
       sent-ways (λ w. inBook a t (sendPlayed p X w (w .answer) .book) ≡ inBook a t (p .book) + 0) n (p .state) s X (λ h. omega arith)
       (λ f e. omega arith)
   step-book p d (Run s code) = entered-hits a t d (ran n (p .state) s code .answer) (p .book)
 
-  pub singly-book : (p : Played) (es : List Timed) → inBook a t (playedSingly n p es .book) ≡ inBook a t (p .book) + serviced n (p .state) (events es) a t
+  pub singly-book : (p : Played) (es : List Timed)
+      → inBook a t (playedSingly n p es .book) ≡ inBook a t (p .book) + serviced n (p .state) (events es) a t
   unfolding playedSingly serviced
   singly-book p [] = omega arith
   singly-book p (e ∷ es) =
@@ -122,7 +128,9 @@ named-append S (e ∷ k) l a b = (a .0, named-append S k l (a .1) b)
 marked-named : (S d c : ℕ) (l : List StoredSend) → AllNamed S (atDraw c (marked d l))
 unfolding marked
 marked-named S d c [] = tt
-marked-named S d c (e ∷ l) = cond-ok (λ (m : List Event). AllNamed S (atDraw c m)) (eqb (e .draw) d) _ _ (λ h. (tt, marked-named S d c l)) (λ h. marked-named S d c l)
+marked-named S d c (e ∷ l) =
+    cond-ok (λ (m : List Event). AllNamed S (atDraw c m)) (eqb (e .draw) d) _ _ (λ h. (tt, marked-named S d c l))
+    (λ h. marked-named S d c l)
 
 at-append : (c : ℕ) (k l : List Event) → atDraw c (k ++ l) ≡ atDraw c k ++ atDraw c l
 at-append c [] l = refl
@@ -163,7 +171,8 @@ module _ (n : Network) (v : networkRefusal n ≡ 0) where
   same-step p d (Run s code) h m = ap (runPlayed p d) (same-run (p .state) s code h (m .0) (m .1))
 
   -- from a state in range on, step by step
-  pub same-played : (p : Played) (es : List Timed) → Shaped (p .state) → inRange n (p .state) ≡ true → AllNamed (n .sites) es → played n p es ≡ playedSingly n p es
+  pub same-played : (p : Played) (es : List Timed) → Shaped (p .state) → inRange n (p .state) ≡ true → AllNamed (n .sites) es
+      → played n p es ≡ playedSingly n p es
   unfolding played playedSingly
   same-played p [] sh h m = refl
   same-played p (e ∷ es) sh h m =
@@ -190,7 +199,8 @@ pub played-singly : (r : StoredRun) → storedRefusal r ≡ 0 → playedRun r �
 unfolding playedRun
 played-singly r h =
     let v = stored-network r h in
-    same-played (r .network) v unplayed (script r) empty-shaped (empty-in-range (r .network)) (script-named r (valid-ok (r .network) v .some))
+    same-played (r .network) v unplayed (script r) empty-shaped (empty-in-range (r .network))
+    (script-named r (valid-ok (r .network) v .some))
 
 -- its state is the one that demand 3 and range kept speak of
 pub played-final : (r : StoredRun) → storedRefusal r ≡ 0 → playedRun r .state ≡ final (r .network) noState (events (script r))

@@ -14,13 +14,16 @@ use Rattle.base.specs.Sums.{sum, upto, upto-ext, upto-zero, sum-upto}
 use Rattle.sets.specs.Sets.{size, bit}
 use Rattle.sets.proofs.LawsBit.{size-upto}
 use Rattle.sets.proofs.LawsSize.{size-empty}
-use Rattle.theorems.specs.Names.{Site, State, Network, Run as StoredRun, Ran, Nothing, Changed, Serviced, RunRefused, AfterSend, AfterRun}
+use Rattle.theorems.specs.Names.{Site, State, Network, Run as StoredRun, Ran, Nothing, Changed, Serviced, RunRefused}
+use Rattle.theorems.specs.Names.{AfterSend, AfterRun}
 use Rattle.model.specs.Types.{noState, siteAt}
 use Rattle.model.specs.Network.{networkRefusal}
 use Rattle.model.specs.Steps.{run}
-use Rattle.model.specs.Events.{Event, Send, Run, sendRefusal, runRefusal, ran, sent, after, final, accepted, acceptedBy, ifAccepted, hits, servicedBy, serviced}
+use Rattle.model.specs.Events.{Event, Send, Run, sendRefusal, runRefusal, ran, sent, after, final, accepted, acceptedBy, ifAccepted}
+use Rattle.model.specs.Events.{hits, servicedBy, serviced}
 use Rattle.model.specs.Owing.{owed, owedPairs}
-use Rattle.model.specs.Runs.{Timed, Service, Played, unplayed, script, storedRefusal, entered, sendPlayed, advanceSingly, playedSingly, playedRun, countsOf}
+use Rattle.model.specs.Runs.{Timed, Service, Played, unplayed, script, storedRefusal, entered, sendPlayed, advanceSingly}
+use Rattle.model.specs.Runs.{playedSingly, playedRun, countsOf}
 use Rattle.theorems.proofs.Networks.{valid-ok}
 use Rattle.theorems.proofs.Refusals.{RunPasses, run-passes, send-passes, sent-ways, ran-counter}
 use Rattle.theorems.proofs.Numbered.{placed-once}
@@ -39,7 +42,8 @@ P = packetsMost + 1
 
 -- ---- the accepted packets are numbered by the counter, which does not pass 255
 
-next-counter : (n : Network) (st : State) (e : Event) (l : List ℕ) → after n st e .counter + length l ≡ st .counter + length (acceptedBy n st e l)
+next-counter : (n : Network) (st : State) (e : Event) (l : List ℕ)
+    → after n st e .counter + length l ≡ st .counter + length (acceptedBy n st e l)
 unfolding ran
 next-counter n st (Send s X) l =
     sent-ways (λ w. w .state .counter + length l ≡ st .counter + length (ifAccepted (w .answer) X l)) n st s X (λ h. omega arith)
@@ -57,7 +61,8 @@ unfolding ran sent
 at-most n st (Send s X) h =
     cond-ok (λ (a : AfterSend). a .state .counter ≤ packetsMost) (eqb (sendRefusal n st s X) 0) _ _
     (λ e. omega (arith, send-passes n st s X (eqb-true (sendRefusal n st s X) 0 e) .number)) (λ e. h)
-at-most n st (Run s code) h = cond-ok (λ (a : AfterRun). a .state .counter ≤ packetsMost) (eqb (runRefusal n st s code) 0) _ _ (λ e. h) (λ e. h)
+at-most n st (Run s code) h =
+    cond-ok (λ (a : AfterRun). a .state .counter ≤ packetsMost) (eqb (runRefusal n st s code) 0) _ _ (λ e. h) (λ e. h)
 
 pub at-most-255 : (n : Network) (es : List Event) (st : State) → st .counter ≤ packetsMost → final n st es .counter ≤ packetsMost
 unfolding final
@@ -125,7 +130,9 @@ upto-beyond : (n m : ℕ) (f : ℕ → ℕ) → m ≤ n → ((j : ℕ) → m ≤
 unfolding upto
 upto-beyond n zero f h z = upto-ext n f (λ j. 0) (λ j l. z j (omega arith)) ∙ upto-zero n
 upto-beyond zero (suc m) f h z = absurd (not-suc-le-zero h)
-upto-beyond (suc n) (suc m) f h z = ap (λ (k : ℕ). f 0 + k) (upto-beyond n m (λ j. f (suc j)) (le-of-suc-le-suc h) (λ j l. z (suc j) (omega arith)))
+upto-beyond (suc n) (suc m) f h z =
+    ap (λ (k : ℕ). f 0 + k)
+    (upto-beyond n m (λ j. f (suc j)) (le-of-suc-le-suc h) (λ j l. z (suc j) (omega arith)))
 
 sets-sum : (l : List ℕ) → length l ≤ P → grand P (λ p t. bit t (getD l p 0)) ≡ sum size l
 sets-sum l h =
@@ -161,12 +168,14 @@ singly-counts n v es =
       ap (λ (w : State). owedPairs (w .sites)) (singly-state n unplayed es),
       state-pairs P (st .sites) (omega arith) (omega (arith, sh .sixteen)) small,
       grand-add P (serviced n noState (events es)) (owed (st .sites)),
-      grand-ext P (λ p t. serviced n noState (events es) p t + owed (st .sites) p t) (λ p t. bit t (getD (accepted n noState (events es)) p 0))
+      grand-ext P (λ p t. serviced n noState (events es) p t + owed (st .sites) p t)
+          (λ p t. bit t (getD (accepted n noState (events es)) p 0))
           (λ p t. once n (events es) p t ∙ ap (λ (X : ℕ). bit t X) (placed-once n (events es) p)),
       sets-sum (accepted n noState (events es)) (omega (arith, counted n noState (events es))),
       singly-pairs n unplayed es,
     )
 
 -- over a run: services + owed pairs = pairs
-pub counts : (r : StoredRun) → storedRefusal r ≡ 0 → countsOf (playedRun r) .serviced + countsOf (playedRun r) .owed ≡ countsOf (playedRun r) .pairs
+pub counts : (r : StoredRun) → storedRefusal r ≡ 0
+    → countsOf (playedRun r) .serviced + countsOf (playedRun r) .owed ≡ countsOf (playedRun r) .pairs
 counts r h = rw (played-singly r h) (singly-counts (r .network) (stored-network r h) (script r))

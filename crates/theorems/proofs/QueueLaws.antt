@@ -15,14 +15,16 @@ use Rattle.base.specs.Bools.{clash, cond-ok, both}
 use Rattle.base.specs.Lists.{all-set, rel-set, pop-at, length-pop}
 use Rattle.base.specs.Sums.{sum, sum-set, sum-pop, sum-push, sum-set-take}
 use Rattle.theorems.specs.Names.{gotEnd, Terminator, tNone, tEnd, Free, Input, OutEntry, InEntry, OutQueue, InQueue, Site}
-use Rattle.model.specs.Types.{inputD, noOutEntry, noInEntry, inAt, outAt, outEntry, inEntry, entryStarted, entryTerm, setIn, withOutQueue, pushOut, popOut, pushIn, popIn}
+use Rattle.model.specs.Types.{inputD, noOutEntry, noInEntry, inAt, outAt, outEntry, inEntry, entryStarted, entryTerm, setIn}
+use Rattle.model.specs.Types.{withOutQueue, pushOut, popOut, pushIn, popIn}
 use Rattle.model.specs.Phases.{isFree, listening, isNone, received}
 use Rattle.model.specs.NetInput.{Turn}
 use Rattle.model.specs.Places.{seeking, lastOf, lastLacks, endLast, startFront, outQueue}
 use Rattle.model.specs.Steps.{ownTurn}
 use Rattle.model.specs.Owing.{owesAs, owesInput, owesOutEntry, owesInEntry, owesOutQueue, owesInQueue}
 use Rattle.theorems.proofs.Invariant.{tag, waiting, Fits, Leaving, Conn, SiteOk, Good, OwnOk}
-use Rattle.theorems.proofs.ConnectionLaws.{tag-owes, phase-owes, listening-claim, listening-owes, received-owes, received-conn, none-is, free-is}
+use Rattle.theorems.proofs.ConnectionLaws.{tag-owes, phase-owes, listening-claim, listening-owes, received-owes}
+use Rattle.theorems.proofs.ConnectionLaws.{received-conn, none-is, free-is}
 
 -- ---- an array and its count
 

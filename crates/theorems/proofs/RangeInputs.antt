@@ -13,7 +13,9 @@ use Rattle.base.specs.Sizes.{sitesMost, inputCount, outputCount}
 use Rattle.base.specs.Bools.{clash, cond-ok}
 use Rattle.base.specs.All.{any, any-by}
 use Rattle.base.specs.Lists.{all-set, same-at}
-use Rattle.theorems.specs.Names.{Connection, Unicast, Passthru, AllRemote, SomeLocal, Handed, Received, gotEnd, gotAbort, Terminator, tEnd, tAbort, tKeep, Phase, Free, Seek, Open, Wait, Done, Last, Aborted, FinAbort, Input, Output, Network}
+use Rattle.theorems.specs.Names.{Connection, Unicast, Passthru, AllRemote, SomeLocal, Handed, Received, gotEnd, gotAbort}
+use Rattle.theorems.specs.Names.{Terminator, tEnd, tAbort, tKeep, Phase, Free, Seek, Open, Wait, Done, Last, Aborted}
+use Rattle.theorems.specs.Names.{FinAbort, Input, Output, Network}
 use Rattle.model.specs.Types.{noMarks, noInput, noOutput, outOf, mark, inPhase, outTerm}
 use Rattle.model.specs.Numbers.{stateNumber}
 use Rattle.model.specs.Phases.{splits, isKeep, asTerminator}
@@ -22,7 +24,8 @@ use Rattle.model.specs.NetInput.{Turn, To, allReady, table, give, taken, marksO
 use Rattle.model.specs.Places.{remote, cutOff, cutAt}
 use Rattle.theorems.proofs.RouterGather.{zeros, chosen-at}
 use Rattle.theorems.proofs.RouterLaws.{Routed, ChoiceOk, ChoiceWithin, only-ok, route-ok, route-within}
-use Rattle.theorems.proofs.OutputReads.{length-give, give-ok, length-occupy, occupy-at, occupy-ok, length-marks, mark-at, remote-mark, remote-zero}
+use Rattle.theorems.proofs.OutputReads.{length-give, give-ok, length-occupy, occupy-at, occupy-ok, length-marks, mark-at}
+use Rattle.theorems.proofs.OutputReads.{remote-mark, remote-zero}
 use Rattle.theorems.proofs.Invariant.{Fed}
 use Rattle.theorems.proofs.RangeTests.{Tagged, InputAt, InputBy, InputIn, OutputIn, no-marks}
 use Rattle.theorems.proofs.RangeSites.{blank-in, seek-in}

@@ -19,7 +19,8 @@ use Rattle.model.specs.Types.{noInput, noSite, noState, inputD, siteD, siteAt, 
 use Rattle.model.specs.Network.{sizesOk, channelsOk, routesOk, networkRefusal}
 use Rattle.model.specs.Range.{siteOk, zeroSite, placeOk, inRange}
 use Rattle.model.specs.Steps.{run}
-use Rattle.model.specs.Events.{refusalThen, runFault, sendFault, runRefusal, sendRefusal, runs, sends, ran, sent, Event, Send, Run, after, final}
+use Rattle.model.specs.Events.{refusalThen, runFault, sendFault, runRefusal, sendRefusal, runs, sends, ran, sent, Event, Send, Run}
+use Rattle.model.specs.Events.{after, final}
 use Rattle.theorems.proofs.Networks.{Valid, valid-ok}
 use Rattle.theorems.proofs.Refusals.{run-passes, send-passes}
 use Rattle.theorems.proofs.RangeSites.{SitesIn, sites-at, sites-by, sites-shaped}

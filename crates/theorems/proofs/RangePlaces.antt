@@ -11,14 +11,17 @@ use Rattle.base.specs.Sizes.{inputCount, queueRoom}
 use Rattle.base.specs.Bools.{clash, cond-ok, both}
 use Rattle.sets.specs.Sets.{has, minus}
 use Rattle.sets.proofs.Laws.{minus-le}
-use Rattle.theorems.specs.Names.{Received, gotEnd, gotAbort, Terminator, tNone, tEnd, tAbort, tKeep, Phase, Free, Seek, Open, Wait, Done, Last, Aborted, FinAbort, Input, Output, OutQueue, InQueue, Network}
+use Rattle.theorems.specs.Names.{Received, gotEnd, gotAbort, Terminator, tNone, tEnd, tAbort, tKeep, Phase, Free, Seek, Open}
+use Rattle.theorems.specs.Names.{Wait, Done, Last, Aborted, FinAbort, Input, Output, OutQueue, InQueue, Network}
 use Rattle.model.specs.Types.{noMarks, noOutput, noOutEntry, noInEntry, outEntry, inEntry, outHead, entryStarted, entryTerm, popIn}
 use Rattle.model.specs.Phases.{isFree, listening, isNone, isKeep, receive, received}
 use Rattle.model.specs.Range.{zeroOutEntry, zeroInEntry}
 use Rattle.model.specs.NetInput.{Turn, Stay, To}
-use Rattle.model.specs.Places.{seeking, lastOf, lastLacks, localOutput, deliver, channelOutput, outQueue, Work, Rest, Cleared, Service, serviceIf, operate, operator}
+use Rattle.model.specs.Places.{seeking, lastOf, lastLacks, localOutput, deliver, channelOutput, outQueue, Work, Rest, Cleared}
+use Rattle.model.specs.Places.{Service, serviceIf, operate, operator}
 use Rattle.theorems.proofs.Invariant.{Fed}
-use Rattle.theorems.proofs.RangeTests.{Tagged, InputBy, InputIn, OutputIn, OutEntryIn, InEntryIn, OutQueueIn, InQueueIn, no-marks, output-at}
+use Rattle.theorems.proofs.RangeTests.{Tagged, InputBy, InputIn, OutputIn, OutEntryIn, InEntryIn, OutQueueIn, InQueueIn}
+use Rattle.theorems.proofs.RangeTests.{no-marks, output-at}
 use Rattle.theorems.proofs.RangeSites.{queue-push, queue-pop, queue-set, seek-in}
 
 -- P of what becomes of a rule's two places

@@ -14,17 +14,22 @@ use Rattle.base.specs.Sizes.{inputCount, outputCount, portCount, queueRoom}
 use Rattle.base.specs.Bools.{cond-ok, clash, both, both3}
 use Rattle.base.specs.Lists.{all-but, proj-set}
 use Rattle.theorems.specs.Names.{Input, Output, OutQueue, InQueue, Site, Network, Ran, Nothing, Changed, Serviced, RunRefused}
-use Rattle.model.specs.Types.{inputD, noOutput, noOutEntry, siteD, siteAt, inAt, outOf, outAt, withOutQueue, withInQueue, setIn, setOut, setSite}
+use Rattle.model.specs.Types.{inputD, noOutput, noOutEntry, siteD, siteAt, inAt, outOf, outAt, withOutQueue, withInQueue, setIn}
+use Rattle.model.specs.Types.{setOut, setSite}
 use Rattle.model.specs.Network.{channel, joined, endSite, endPort}
 use Rattle.model.specs.Phases.{isNone}
 use Rattle.model.specs.Range.{zeroOutEntry}
 use Rattle.model.specs.NetInput.{Turn, Stay, To, ready, netInput}
-use Rattle.model.specs.Places.{lastLacks, localOutput, channelOutput, outQueue, Work, Rest, Cleared, Service, operator, cutAt, stalled, timeout}
-use Rattle.model.specs.Steps.{setFar, Act, Idle, Own, Serve, Pass, ownTurn, passTurn, workDone, setBoth, netOutput, act, ends, Stepped, patch, run, enqueue}
+use Rattle.model.specs.Places.{lastLacks, localOutput, channelOutput, outQueue, Work, Rest, Cleared, Service, operator, cutAt}
+use Rattle.model.specs.Places.{stalled, timeout}
+use Rattle.model.specs.Steps.{setFar, Act, Idle, Own, Serve, Pass, ownTurn, passTurn, workDone, setBoth, netOutput, act, ends}
+use Rattle.model.specs.Steps.{Stepped, patch, run, enqueue}
 use Rattle.theorems.proofs.Networks.{Valid}
 use Rattle.theorems.proofs.RangeTests.{Tagged, InputIn, OutEntryIn, InEntryIn, OutQueueIn, InQueueIn}
-use Rattle.theorems.proofs.RangeSites.{queue-push, queue-map, frame, SiteIn, SitesIn, in-set, out-set, outgoing-set, incoming-set, sites-set}
-use Rattle.theorems.proofs.RangePlaces.{TurnIn, OutputTo, InputTo, QueuesTo, WorkIn, channelOutput-in, localOutput-in, outQueue-in, operator-in}
+use Rattle.theorems.proofs.RangeSites.{queue-push, queue-map, frame, SiteIn, SitesIn, in-set, out-set, outgoing-set}
+use Rattle.theorems.proofs.RangeSites.{incoming-set, sites-set}
+use Rattle.theorems.proofs.RangePlaces.{TurnIn, OutputTo, InputTo, QueuesTo, WorkIn, channelOutput-in, localOutput-in}
+use Rattle.theorems.proofs.RangePlaces.{outQueue-in, operator-in}
 use Rattle.theorems.proofs.RangeInputs.{InputOutputsTo, inState-in, cutAt-in}
 
 -- ---- what RUN decides

@@ -18,7 +18,8 @@ use Rattle.model.specs.Shapes.{SiteShaped}
 use Rattle.model.specs.Types.{noOutput, inputD, siteD, siteAt, inAt, outAt, withOutQueue, withInQueue, setIn, setOut, setSite}
 use Rattle.model.specs.Range.{anyMark, inputOk, outputOk, outQueueOk, inQueueOk, siteOk, zeroSite, placeOk}
 use Rattle.theorems.proofs.Invariant.{Fed}
-use Rattle.theorems.proofs.RangeTests.{Tagged, InputAt, InputIn, OutputIn, Queued, OutQueueIn, InQueueIn, unmarked, input-at, input-by, output-at, output-by, out-queue-at, out-queue-by, in-queue-at, in-queue-by}
+use Rattle.theorems.proofs.RangeTests.{Tagged, InputAt, InputIn, OutputIn, Queued, OutQueueIn, InQueueIn, unmarked, input-at}
+use Rattle.theorems.proofs.RangeTests.{input-by, output-at, output-by, out-queue-at, out-queue-by, in-queue-at, in-queue-by}
 
 -- ---- queues in arrays
 

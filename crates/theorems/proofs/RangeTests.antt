@@ -9,15 +9,18 @@ use borrow.Author.Tests.{lt-ltb, le-ltb, le-leb, eq-eqb, ltb-true, ltb-false, le
 use lib.Dec.{eqb, ltb, leb}
 use lib.ListN.{getD, length}
 use Rattle.base.specs.Sizes.{inputCount, outputCount, queueRoom}
-use Rattle.base.specs.Bools.{implies, pick, alike, clash, and, both, and3, both3, implies-at, implies-by, pick-at, pick-by, alike-at, alike-by}
+use Rattle.base.specs.Bools.{implies, pick, alike, clash, and, both, and3, both3, implies-at, implies-by, pick-at, pick-by}
+use Rattle.base.specs.Bools.{alike-at, alike-by}
 use Rattle.base.specs.All.{all, any, all-at, all-by, any-at}
 use Rattle.base.specs.Lists.{beyond}
 use Rattle.sets.specs.Sets.{targets}
 use Rattle.sets.proofs.Laws.{targets-at, targets-by}
-use Rattle.theorems.specs.Names.{Terminator, tNone, tEnd, tAbort, tKeep, Phase, Input, Output, OutEntry, InEntry, OutQueue, InQueue, Network}
+use Rattle.theorems.specs.Names.{Terminator, tNone, tEnd, tAbort, tKeep, Phase, Input, Output, OutEntry, InEntry, OutQueue}
+use Rattle.theorems.specs.Names.{InQueue, Network}
 use Rattle.model.specs.Types.{noMarks, noOutEntry, noInEntry, outOf, mark}
 use Rattle.model.specs.Phases.{isFree, connected, splitting, aborting, isNone, isKeep}
-use Rattle.model.specs.Range.{tagOk, anyMark, anyRemote, zeroInput, zeroOutput, zeroOutEntry, zeroInEntry, fedBy, inputOk, outputOk, outQueueOk, inQueueOk}
+use Rattle.model.specs.Range.{tagOk, anyMark, anyRemote, zeroInput, zeroOutput, zeroOutEntry, zeroInEntry, fedBy, inputOk, outputOk}
+use Rattle.model.specs.Range.{outQueueOk, inQueueOk}
 use Rattle.theorems.proofs.Invariant.{Fed}
 use Rattle.theorems.proofs.ConnectionLaws.{free-is}
 

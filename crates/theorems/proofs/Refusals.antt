@@ -15,10 +15,12 @@ use Rattle.model.specs.Network.{networkRefusal}
 use Rattle.model.specs.Range.{inRange}
 use Rattle.model.specs.Events.{refusalThen, runFault, sendFault, runRefusal, sendRefusal, runs, sends, ran, sent}
 
-pub not-refused : (n : Network) (st : State) (own : ℕ) → refusalThen n st own ≡ 0 → (networkRefusal n ≡ 0) × (inRange n st ≡ true) × (own ≡ 0)
+pub not-refused : (n : Network) (st : State) (own : ℕ) → refusalThen n st own ≡ 0
+    → (networkRefusal n ≡ 0) × (inRange n st ≡ true) × (own ≡ 0)
 not-refused n st own h = go (eqb (networkRefusal n) 0) refl h
   where
-    go : (b : Bool) → eqb (networkRefusal n) 0 ≡ b → cond b (cond (inRange n st) own 13) (networkRefusal n) ≡ 0 → (networkRefusal n ≡ 0) × (inRange n st ≡ true) × (own ≡ 0)
+    go : (b : Bool) → eqb (networkRefusal n) 0 ≡ b → cond b (cond (inRange n st) own 13) (networkRefusal n) ≡ 0
+        → (networkRefusal n ≡ 0) × (inRange n st ≡ true) × (own ≡ 0)
     go true e k = let f = first-of (inRange n st) own 13 0 (λ z. omega arith) k in (eqb-true (networkRefusal n) 0 e, f .0, f .1)
     go false e k = absurd (eqb-false (networkRefusal n) 0 e k)
 
@@ -33,7 +35,9 @@ pub run-passes : (n : Network) (st : State) (s code : ℕ) → runRefusal n st s
 unfolding runRefusal
 run-passes n st s code h =
     let a = not-refused n st (runFault n s code) h in
-    let b = both (ltb s (n .sites)) (ltb code codeCount) (first-of (ltb s (n .sites) && ltb code codeCount) 0 9 0 (λ z. omega arith) (a .2) .0) in
+    let b =
+    both (ltb s (n .sites)) (ltb code codeCount)
+    (first-of (ltb s (n .sites) && ltb code codeCount) 0 9 0 (λ z. omega arith) (a .2) .0) in
     record { network = a .0; range = a .1; site = ltb-true _ _ (b .0); code = ltb-true _ _ (b .1) }
 
 -- a SEND that is not refused
@@ -53,7 +57,14 @@ send-passes n st s X h =
     let c = first-of (targets (n .sites) X) _ 10 0 (λ z. omega arith) (b .1) in
     let d = first-of (ltb (st .counter) packetsMost) _ 12 0 (λ z. omega arith) (c .1) in
     let e = first-of (ltb (siteAt (st .sites) s .outgoing .count) (n .depth)) 0 11 0 (λ z. omega arith) (d .1) in
-    record { network = a .0; range = a .1; site = ltb-true _ _ (b .0); set = c .0; number = ltb-true _ _ (d .0); room = ltb-true _ _ (e .0) }
+    record {
+      network = a .0;
+      range = a .1;
+      site = ltb-true _ _ (b .0);
+      set = c .0;
+      number = ltb-true _ _ (d .0);
+      room = ltb-true _ _ (e .0);
+    }
 
 -- ---- the two ways of an event: what holds of both holds of what it leaves
 

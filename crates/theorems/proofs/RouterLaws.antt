@@ -19,10 +19,12 @@ use Rattle.base.specs.Sums.{sum, sum-set, upto, upto-ext, sum-upto}
 use Rattle.sets.specs.Sets.{has, bit, only, minus, size, lowest}
 use Rattle.sets.proofs.Laws.{minus-le, minus-out}
 use Rattle.sets.proofs.LawsBit.{bit-none, bit-minus}
-use Rattle.theorems.specs.Names.{Connection, Unicast, Passthru, AllRemote, SomeLocal, gotEnd, Terminator, tNone, tEnd, tAbort, tKeep, Output, Network}
+use Rattle.theorems.specs.Names.{Connection, Unicast, Passthru, AllRemote, SomeLocal, gotEnd, Terminator, tNone, tEnd, tAbort}
+use Rattle.theorems.specs.Names.{tKeep, Output, Network}
 use Rattle.model.specs.Phases.{splits}
 use Rattle.model.specs.Network.{listOf}
-use Rattle.model.specs.Router.{Choice, Chosen, Unserved, unchosen, isChosen, isEmpty, serves, firstPort, oneOutput, toOther, Gathered, Every, Missing, chosenCount, firstChosen, spread, orElse, route}
+use Rattle.model.specs.Router.{Choice, Chosen, Unserved, unchosen, isChosen, isEmpty, serves, firstPort, oneOutput, toOther}
+use Rattle.model.specs.Router.{Gathered, Every, Missing, chosenCount, firstChosen, spread, orElse, route}
 use Rattle.model.specs.NetInput.{table}
 use Rattle.model.specs.Owing.{owesAs}
 use Rattle.theorems.proofs.RouterGather.{first-ok, zeros, chosen-at, served, IfEvery, Shared, gather-shares, share-sum}

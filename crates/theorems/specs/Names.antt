@@ -2,7 +2,8 @@
 -- above it.
 pub use Rattle.model.specs.declared.Connection.the-variants.{the-data as Connection, Unicast, Passthru, AllRemote, SomeLocal, Handed}
 pub use Rattle.model.specs.declared.Received.the-variants.{the-data as Received, End as gotEnd, Abort as gotAbort}
-pub use Rattle.model.specs.declared.Terminator.the-variants.{the-data as Terminator, None as tNone, End as tEnd, Abort as tAbort, KeepLocal as tKeep}
+pub use Rattle.model.specs.declared.Terminator.the-variants.{the-data as Terminator, None as tNone, End as tEnd, Abort as tAbort}
+pub use Rattle.model.specs.declared.Terminator.the-variants.{KeepLocal as tKeep}
 pub use Rattle.model.specs.declared.Phase.the-variants.{the-data as Phase, Free, Seek, Open, Wait, Done, Last, Abort as Aborted, FinAbort}
 pub use Rattle.model.specs.declared.Input.{Input}
 pub use Rattle.model.specs.declared.Output.{Output}
