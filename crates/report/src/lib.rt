@@ -1,23 +1,84 @@
-// What `play`, `batch` and `rewrite` share: the bytes of an archive, read as far as they are seen, and the lines printed of a
-// played archive. No contract can say what is read or written, so these functions are proved safe and ending, and the
-// corpus holds down what they print. Assumes nothing.
+// What `play`, `batch` and `rewrite` share: the bytes of an archive, read as far as they are seen, and the lines printed
+// of a played archive. `answer_line` and `service_lines` compose the lines in lent bytes; their contracts settle each
+// byte. What is read and written no contract can say: the functions that do it are proved safe and ending.
 mod text;
 
+ghost use Prim.Native.Nat.{min};
+ghost use mathlib.Core.Path.{_≡_};
+ghost use lib.ListN.{length};
 ghost use Rattle.io.specs.Counts.{Counts as Front};
+ghost use Rattle.report.specs.Text.{answerLine, atFront, linesAnswer, linesAfter};
 use libc::STDOUT_FILENO;
 use model::Counts;
-use text::put;
 use text::put_all;
-use text::put_number;
+use text::put_counts;
+use text::put_entry;
+use text::put_field;
 
 // Room for the book of every archive: 4 bytes a service, every send to every site.
 pub const BOOK: usize = 4 * base::SENDS * base::SITES;
+// Room for the line of every answer: four numbers of 20 digits, their words and the newline.
+pub const ANSWER: usize = 113;
+// Room for the line of every service: `65535 255 255` and its newline.
+const SERVICE: usize = 14;
 
 // A reading: how many bytes stand at the front of the lent room; none if it failed.
 pub struct Seen {
     pub failed: bool,
     pub count: usize,
 }
+
+// Lines of services: how many there are, and how many bytes they take.
+pub struct Lines {
+    pub services: usize,
+    pub bytes: usize,
+}
+
+// ---- composing
+
+// Puts `refused N`, or the counts of an archive that was not refused, and a newline at the front of the lent bytes.
+// Answers how many they are.
+pub fn answer_line(refusal: u8, counts: Counts, text: &mut [u8; ANSWER]) -> usize
+    ensures { λ r. ⌜
+        (r ≡ length (answerLine refusal counts))
+        × (now (text .exit) ≡ atFront (answerLine refusal counts) (now (text .entry)))
+        ⌝ }
+{
+    if refusal == 0 {
+        return put_counts(text, counts);
+    }
+    let number = put_all(text, 0, b"refused ");
+    put_field(text, number, base::wide(refusal), b"\n")
+}
+
+// Puts the services of a book, from its first on, each as a line `draw packet site`, at the front of the lent bytes: all,
+// or as many as surely fit. Answers how many services and how many bytes they are.
+pub fn service_lines(book: &[u8], text: &mut [u8]) -> Lines
+    ensures { λ r. ⌜
+        (r ≡ linesAnswer (now (book .entry)) (length (now (text .entry))))
+        × (now (text .exit) ≡ linesAfter (now (book .entry)) (now (text .entry)))
+        ⌝ }
+{
+    let n = least(book.len() / 4, text.len() / SERVICE);
+    let mut at = 0usize;
+    let mut k = 0usize;
+    while k < n {
+        at = put_entry(text, at, book, k);
+        k += 1;
+    }
+    Lines {
+        services: n,
+        bytes: at,
+    }
+}
+
+fn least(a: usize, b: usize) -> usize
+    ensures { λ r. ⌜ r ≡ min a b ⌝ }
+{
+    if a < b { a } else { b }
+}
+
+// ---- reading and writing
 
 // Reads until the room is full or the input ends. A read that fails makes the whole reading fail.
 pub fn read_seen(fd: i32, room: &mut [u8]) -> Seen
@@ -44,76 +105,26 @@ pub fn read_seen(fd: i32, room: &mut [u8]) -> Seen
     }
 }
 
-// A line of services is at most this long: `65535 255 255` and its newline.
-const LINE: usize = 14;
-
-// Prints the first `count` services of a book, each as a line `draw packet site`, as far as the book has them. Answers
-// whether all was written.
+// Prints the lines of the first `count` services of a book, as far as the book has them, many in one write and no line
+// in two. Answers whether all was written.
 pub fn print_services(book: &[u8], count: usize) -> bool {
+    let n = least(count, book.len() / 4);
     let mut text = io::buffer();
-    let mut at = 0usize;
-    let mut from = 0usize;
     let mut whole = true;
-    for _ in 0..count {
-        if book.len() - from < 4 {
-            break;
-        }
-        at = put_service(&mut text, at, &book[from..from + 4]);
-        from += 4;
-        if at > 4096 - LINE {
-            whole = flush(&text, at) && whole;
-            at = 0;
-        }
+    let mut k = 0usize;
+    while k < n {
+        let lines = service_lines(&book[4 * k..4 * n], &mut text);
+        let bytes = lines.bytes;
+        let done = io::write_all(STDOUT_FILENO, &text[..bytes]);
+        whole = whole & done;
+        k += lines.services;
     }
-    flush(&text, at) && whole
+    whole
 }
 
-// Prints `refused N`, or the counts of an archive that was not refused, and a newline. Answers whether all was written.
+// Prints the line of an answer in one write. Answers whether all was written.
 pub fn print_line(refusal: u8, counts: Counts) -> bool {
-    let mut text = [0u8; 160];
-    let room: &mut [u8] = &mut text;
-    let end = if refusal == 0 {
-        put_counts(room, counts)
-    } else {
-        put_count(room, 0, b"refused ", base::wide(refusal))
-    };
-    let at = put(room, end, b'\n');
-    flush(room, at)
-}
-
-fn put_service(text: &mut [u8], at: usize, entry: &[u8]) -> usize {
-    if entry.len() < 4 {
-        return at;
-    }
-    let draw = 256 * base::wide(entry[0]) + base::wide(entry[1]);
-    let packet = put_field(text, at, draw, b' ');
-    let site = put_field(text, packet, base::wide(entry[2]), b' ');
-    put_field(text, site, base::wide(entry[3]), b'\n')
-}
-
-// A number and the byte behind it.
-fn put_field(text: &mut [u8], at: usize, n: usize, end: u8) -> usize {
-    let here = put_number(text, at, n);
-    put(text, here, end)
-}
-
-fn put_counts(text: &mut [u8], counts: Counts) -> usize {
-    let a = put_count(text, 0, b"accepted ", counts.accepted);
-    let p = put_count(text, a, b" pairs ", counts.pairs);
-    let v = put_count(text, p, b" serviced ", counts.serviced);
-    put_count(text, v, b" owed ", counts.owed)
-}
-
-fn put_count(text: &mut [u8], at: usize, label: &[u8], n: usize) -> usize {
-    let here = put_all(text, at, label);
-    put_number(text, here, n)
-}
-
-// Writes the first `count` bytes.
-fn flush(text: &[u8], count: usize) -> bool {
-    if count <= text.len() {
-        io::write_all(STDOUT_FILENO, &text[..count])
-    } else {
-        false
-    }
+    let mut text = [0u8; ANSWER];
+    let n = answer_line(refusal, counts, &mut text);
+    io::write_all(STDOUT_FILENO, &text[..n])
 }
