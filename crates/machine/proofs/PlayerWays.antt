@@ -27,7 +27,7 @@ use Rattle.model.specs.declared.AfterRun.{AfterRun}
 use Rattle.model.specs.Types.{sendAt, siteAt, inAt, mark, setSite, setIn, withOutQueue, pushOut}
 use Rattle.model.specs.Network.{networkRefusal, endSite, endPort, joined, channel}
 use Rattle.model.specs.Steps.{Act, Idle, act, ends, run, patch, enqueue}
-use Rattle.model.specs.Events.{sendFault, runs, sends}
+use Rattle.model.specs.Events.{sendFaultBy, sendFault, runs, sends}
 use Rattle.model.specs.Owing.{owedPairs}
 use Rattle.model.specs.Runs.{sendOk, storedRefusal, trySend, bookRoom, playedRun, countsOf}
 use Rattle.model.proofs.Networks.{Valid}
@@ -35,7 +35,7 @@ use Rattle.machine.specs.declared.step.Act.the-variants.{the-data as Did
 use Rattle.machine.specs.declared.step.Change.{Change}
 use Rattle.machine.specs.Step.{ofAct, stored, storedBy, farAt}
 use Rattle.machine.specs.Idle.{nothingToDo, hasToWait}
-use Rattle.machine.specs.Play.{sendFaultBy, sendAnswer, bookIn}
+use Rattle.machine.specs.Play.{sendAnswer, bookIn}
 use Rattle.machine.specs.Progress.{Progress, due, went, enteredAt, drawnRun, turned, progress}
 use Rattle.machine.proofs.ProgressLaws.{is-due, stored-sends}
 use Rattle.machine.proofs.ProgressLawsArms.{accepted-turn, refused-turn, named-run, nothing-turn, changed-turn, serviced-turn, unentered-turn}

@@ -87,10 +87,3 @@ isPass didPass = true
 
 abbrev pub Passable : Change → Type 0
 Passable c = isPass (c .act) ≡ true → c .byte < 64
-
--- the refusal of a SEND's own, from the numbers that it looks at
-abbrev pub sendNumber : ℕ → ℕ → State → ℕ → ℕ → ℕ
-sendNumber S D st s X =
-    cond (ltb s S)
-    (cond (targets S X) (cond (ltb (st .counter) packetsMost) (cond (ltb (siteAt (st .sites) s .outgoing .count) D) 0 11) 12) 10)
-    9
