@@ -1,7 +1,7 @@
 -- What a rule decides, as the struct that the code returns: the places as they were where it stays.
 use Prim.Native.Nat.{ℕ}
 use mathlib.Core.List.{List, [], _∷_}
-use mathlib.Core.Bool.{Bool, true, false, _&&_}
+use mathlib.Core.Bool.{Bool, true, false}
 use lib.ListN.{getD, replicate}
 use Rattle.base.specs.Sizes.{outputCount}
 use Rattle.model.specs.declared.Input.{Input}
@@ -12,7 +12,6 @@ use Rattle.model.specs.declared.Received.{Received}
 use Rattle.model.specs.declared.Connection.{Connection}
 use Rattle.model.specs.declared.Terminator.the-variants.{the-data as Terminator, None as tNone}
 use Rattle.model.specs.declared.Phase.the-variants.{the-data as Phase, Free, Seek, Open, Wait, Done, Last, Abort as Aborted, FinAbort}
-use Rattle.model.specs.Types.{outOf, mark}
 use Rattle.model.specs.Phases.{splits}
 use Rattle.model.specs.Router.{Choice as ModelChoice, Chosen, Unserved}
 use Rattle.model.specs.NetInput.{Turn, Stay, To, table, seek}
@@ -48,10 +47,6 @@ ofInputTurn y os (To z ps) = record { outputs = ps; input = z; changed = true }
 -- the table's terminators for the outputs 0 to 4
 abbrev pub tableRow : Received → Connection → List Terminator
 tableRow r c = table r c 0 ∷ table r c 1 ∷ table r c 2 ∷ table r c 3 ∷ table r c 4 ∷ []
-
--- an output is ready where it is in use, its head is taken, and it is heard
-abbrev pub readyBy : List Bool → List Output → ℕ → Bool
-readyBy heard os j = outOf os j .used && outOf os j .head && mark heard j
 
 -- what a net-input's state gives the outputs 0 to 4, as an array of the code
 abbrev pub givenAt : List Terminator → ℕ → Terminator

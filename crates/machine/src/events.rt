@@ -1,7 +1,7 @@
 // Single SEND and RUN, with their refusals 3, 6, 7, 13, 9, 10, 12, 11, and the empty state.
 ghost use mathlib.Core.Path.{_≡_};
 ghost use mathlib.Core.Bool.{true};
-ghost use Prim.Native.Nat.{_<_, _≤_};
+ghost use Prim.Native.Nat.{_<_};
 ghost use Rattle.model.specs.Types.{noSite, noState, siteAt};
 ghost use Rattle.model.specs.Network.{networkRefusal};
 ghost use Rattle.model.specs.Range.{inRange};

@@ -1,4 +1,3 @@
-use mathlib.Core.Path.{_≡_, refl}
 use Rattle.machine.proofs.Table.{received-below, connection-below, right}
 use borrow.Author.Needs.{needs}
 use Rattle.machine.proofs.terminators.remote_terminator.Statement.{statement}

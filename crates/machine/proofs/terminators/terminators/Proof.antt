@@ -1,4 +1,4 @@
-use mathlib.Core.Path.{_≡_, refl, sym}
+use mathlib.Core.Path.{sym}
 use Rattle.machine.proofs.Table.{remotes}
 use borrow.Author.Needs.{needs}
 use Rattle.machine.proofs.terminators.terminators.Statement.{statement}
