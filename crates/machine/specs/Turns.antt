@@ -17,6 +17,7 @@ use Rattle.model.specs.Router.{Choice as ModelChoice, Chosen, Unserved}
 use Rattle.model.specs.NetInput.{Turn, Stay, To, table, seek}
 use Rattle.model.specs.Places.{Work, Rest, Cleared, Service}
 use Rattle.machine.specs.declared.router.Choice.{Choice}
+use Rattle.machine.specs.declared.terminators.Cell.{Cell}
 use Rattle.machine.specs.declared.inputs.InputTurn.{InputTurn}
 use Rattle.machine.specs.declared.places.LocalTurn.{LocalTurn}
 use Rattle.machine.specs.declared.places.ChannelTurn.{ChannelTurn}
@@ -43,6 +44,10 @@ ofWork a b (Service c d q) = record { incoming = c; outgoing = d; changed = true
 abbrev pub ofInputTurn : Input → List Output → Turn Input (List Output) → InputTurn
 ofInputTurn y os Stay = record { outputs = os; input = y; changed = false }
 ofInputTurn y os (To z ps) = record { outputs = ps; input = z; changed = true }
+
+-- the table's cell: the terminator for the remote outputs, and for output 0
+abbrev pub tableCell : Received → Connection → Cell
+tableCell r c = record { remote = table r c 1; local = table r c 0 }
 
 -- the table's terminators for the outputs 0 to 4
 abbrev pub tableRow : Received → Connection → List Terminator
