@@ -1,7 +1,9 @@
 // Tests of values that a caller hands over, against the model's definitions. Every public function takes anything.
 mod network;
 mod range;
+mod send;
 
 pub use network::network_refusal;
 pub use range::event_refusal;
 pub use range::is_in_range;
+pub use send::send_fault;

@@ -1,14 +1,13 @@
 -- A net-input's rule by its state number, as the code decides. Assumes nothing.
-use mathlib.Core.Path.{_≡_, refl, sym, ap, _∙_}
-use mathlib.Core.List.{List, [], _∷_}
-use mathlib.Core.Bool.{Bool, true, false, cond}
+use mathlib.Core.Path.{_≡_, refl, sym, ap}
+use mathlib.Core.List.{List}
+use mathlib.Core.Bool.{Bool, cond}
 use Prim.Native.Nat.{ℕ, zero, suc, _<_}
 use native.Mathlib.Omega.{arith}
-use lib.ListN.{getD, set}
-use Rattle.base.specs.Over.{over, over-same}
+use lib.ListN.{set}
+use Rattle.base.specs.Over.{over-same}
 use Rattle.model.specs.declared.Connection.{Connection}
 use Rattle.model.specs.declared.Received.{Received}
-use Rattle.model.specs.declared.Terminator.the-variants.{the-data as Terminator}
 use Rattle.model.specs.declared.Phase.the-variants.{the-data as Phase, Free, Seek, Open, Wait, Done, Last, Abort as Aborted, FinAbort}
 use Rattle.model.specs.declared.Input.{Input}
 use Rattle.model.specs.declared.Output.{Output}
@@ -17,7 +16,7 @@ use Rattle.model.specs.Types.{noInput, inPhase, outOf, outTerm, mark}
 use Rattle.model.specs.Numbers.{stateNumber}
 use Rattle.model.specs.Phases.{held}
 use Rattle.model.specs.Router.{Choice, Chosen, Unserved, route}
-use Rattle.model.specs.NetInput.{Turn, Stay, To, table, give, allReady, seek, inState}
+use Rattle.model.specs.NetInput.{Stay, To, table, give, allReady, seek, inState}
 use Rattle.machine.specs.Turns.{tableRow, givenAt, givenRow, turned, toChoice}
 use Rattle.machine.specs.Router.{ofChoice}
 

@@ -1,17 +1,17 @@
 -- The timeout by its tests, as the code makes them. Assumes nothing.
 use mathlib.Core.Path.{_≡_, refl, ap}
-use mathlib.Core.List.{List, [], _∷_}
-use mathlib.Core.Bool.{Bool, true, false, cond}
+use mathlib.Core.List.{List}
+use mathlib.Core.Bool.{Bool, cond}
 use Prim.Native.Nat.{ℕ, zero, suc, _<_}
 use native.Mathlib.Omega.{arith}
-use lib.ListN.{getD, replicate}
+use lib.ListN.{replicate}
 use Rattle.base.specs.Over.{over-same}
-use Rattle.model.specs.declared.Terminator.the-variants.{None as tNone, Abort as tAbort}
+use Rattle.model.specs.declared.Terminator.the-variants.{Abort as tAbort}
 use Rattle.model.specs.declared.Phase.the-variants.{the-data as Phase, Free, Seek, Open, Wait, Done, Last, Abort as Aborted, FinAbort}
 use Rattle.model.specs.declared.Input.{Input}
 use Rattle.model.specs.declared.Output.{Output}
 use Rattle.model.specs.Types.{outOf, outTerm, mark}
-use Rattle.model.specs.NetInput.{Turn, Stay, To, give}
+use Rattle.model.specs.NetInput.{Stay, give}
 use Rattle.model.specs.Places.{cutOff, cutAt}
 use Rattle.machine.specs.Turns.{givenAt, cuts, cutPhase}
 

@@ -1,8 +1,8 @@
 -- What a turn that the code took, or did not take, says of RUN's act. Assumes nothing.
 use Prim.Native.Nat.{ℕ, suc}
-use mathlib.Core.Path.{_≡_, refl, sym, ap, ap₂, _∙_}
+use mathlib.Core.Path.{_≡_, refl, sym, ap, _∙_}
 use mathlib.Core.List.{List}
-use mathlib.Core.Bool.{Bool, true, false}
+use mathlib.Core.Bool.{true, false}
 use Rattle.base.specs.Bools.{clash}
 use Rattle.model.specs.declared.Input.{Input}
 use Rattle.model.specs.declared.Output.{Output}
@@ -12,7 +12,7 @@ use Rattle.model.specs.declared.Site.{Site}
 use Rattle.model.specs.Types.{setOut, withInQueue, withOutQueue}
 use Rattle.model.specs.NetInput.{Turn, Stay, To}
 use Rattle.model.specs.Places.{Work, Rest, Cleared, Service}
-use Rattle.model.specs.Steps.{Act, Idle, Own, Serve, Pass, ownTurn, passTurn, workDone}
+use Rattle.model.specs.Steps.{Idle, Own, Serve, Pass, ownTurn, passTurn, workDone}
 use Rattle.machine.specs.declared.inputs.InputTurn.{InputTurn}
 use Rattle.machine.specs.declared.places.LocalTurn.{LocalTurn}
 use Rattle.machine.specs.declared.places.ChannelTurn.{ChannelTurn}

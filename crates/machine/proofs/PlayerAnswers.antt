@@ -5,13 +5,12 @@ use mathlib.Core.List.{List}
 use mathlib.Core.Bool.{Bool, true, false, cond}
 use native.Mathlib.Omega.{arith}
 use borrow.Author.Tests.{lt-ltb, le-ltb, eqb-true, ne-eqb}
-use lib.Dec.{eqb, ltb}
+use lib.Dec.{eqb}
 use lib.ListN.{length, length-replicate}
 use Rattle.base.specs.Sizes.{sendsMost}
 use Rattle.base.specs.Over.{length-over}
 use Rattle.model.specs.declared.Counts.{Counts}
 use Rattle.model.specs.declared.Run.{Run}
-use Rattle.model.specs.declared.StoredSend.{StoredSend}
 use Rattle.model.specs.Types.{sendD}
 use Rattle.model.specs.Runs.{storedRefusal, bookRoom, playedRun, countsOf}
 use Rattle.format.specs.declared.Decoded.{Decoded}

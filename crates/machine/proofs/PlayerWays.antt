@@ -26,8 +26,8 @@ use Rattle.model.specs.declared.Ran.the-variants.{Nothing}
 use Rattle.model.specs.declared.AfterRun.{AfterRun}
 use Rattle.model.specs.Types.{sendAt, siteAt, inAt, mark, setSite, setIn, withOutQueue, pushOut}
 use Rattle.model.specs.Network.{networkRefusal, endSite, endPort, joined, channel}
-use Rattle.model.specs.Steps.{Act, Idle, act, ends, run, patch, enqueue}
-use Rattle.model.specs.Events.{sendFault, runs, sends}
+use Rattle.model.specs.Steps.{act, ends, run, enqueue}
+use Rattle.model.specs.Events.{sendFaultBy, sendFault, runs, sends}
 use Rattle.model.specs.Owing.{owedPairs}
 use Rattle.model.specs.Runs.{sendOk, storedRefusal, trySend, bookRoom, playedRun, countsOf}
 use Rattle.theorems.proofs.Networks.{Valid}
@@ -35,7 +35,7 @@ use Rattle.machine.specs.declared.step.Act.the-variants.{the-data as Did
 use Rattle.machine.specs.declared.step.Change.{Change}
 use Rattle.machine.specs.Step.{ofAct, stored, storedBy, farAt}
 use Rattle.machine.specs.Idle.{nothingToDo, hasToWait}
-use Rattle.machine.specs.Play.{sendFaultBy, sendAnswer, bookIn}
+use Rattle.machine.specs.Play.{sendAnswer, bookIn}
 use Rattle.machine.specs.Progress.{Progress, due, went, enteredAt, drawnRun, turned, progress}
 use Rattle.machine.proofs.ProgressLaws.{is-due, stored-sends}
 use Rattle.machine.proofs.ProgressLawsArms.{accepted-turn, refused-turn, named-run, nothing-turn, changed-turn, serviced-turn, unentered-turn}
@@ -51,6 +51,11 @@ abbrev isAccepted : Sent → Bool
 isAccepted (Accepted q) = true
 isAccepted (SendRefused k) = false
 
+-- the number in SEND's answer
+abbrev told : Sent → ℕ
+told (Accepted q) = q
+told (SendRefused k) = k
+
 module _ (S D c entries s X : ℕ) where
   abbrev fault : ℕ
   fault = sendFaultBy S D c entries s X
@@ -63,6 +68,11 @@ module _ (S D c entries s X : ℕ) where
       go true e h = eqb-true fault 0 e
       go false e h = absurd (clash (sym (ap isAccepted h)))
 
+  -- the packet number is the counter
+  pub answer-number : (q : ℕ) → sendAnswer S D c entries s X ≡ Accepted q → q ≡ c
+  unfolding sendAnswer
+  answer-number q h = sym (ap told (rw (answer-accepted q h) at h))
+
   pub answer-refused : (k : ℕ) → sendAnswer S D c entries s X ≡ SendRefused k → eqb fault 0 ≡ false
   unfolding sendAnswer
   answer-refused k = go (eqb fault 0) refl
@@ -72,13 +82,13 @@ module _ (S D c entries s X : ℕ) where
       go false e h = e
 
   -- what an accepted send is known by
-  pub answer-room : (q : ℕ) → sendAnswer S D c entries s X ≡ Accepted q → (s < S) × (c < packetsMost) × (entries < D)
+  pub answer-room : (q : ℕ) → sendAnswer S D c entries s X ≡ Accepted q → (s < S) × (q < packetsMost) × (entries < D)
   answer-room q h =
       let a = first-of (ltb s S) _ 9 0 (λ e. omega arith) (answer-accepted q h) in
       let b = first-of (targets S X) _ 10 0 (λ e. omega arith) (a .1) in
       let d = first-of (ltb c packetsMost) _ 12 0 (λ e. omega arith) (b .1) in
       let f = first-of (ltb entries D) 0 11 0 (λ e. omega arith) (d .1) in
-      (ltb-true _ _ (a .0), ltb-true _ _ (d .0), ltb-true _ _ (f .0))
+      (ltb-true _ _ (a .0), rw (answer-number q h) (ltb-true _ _ (d .0)), ltb-true _ _ (f .0))
 
 -- ---- a send that is due: o is the next one
 
@@ -125,8 +135,8 @@ module _ (r : Run) (p : Progress) where
                 sites =
                     setSite (p .state .sites) (o .site)
                     (withOutQueue at
-                    (pushOut (at .outgoing) (record { set = o .set; packet = p .state .counter; started = false })));
-                counter = p .state .counter + 1;
+                    (pushOut (at .outgoing) (record { set = o .set; packet = q; started = false })));
+                counter = q + 1;
               };
           value = p .value;
           next = p .next + 1;
@@ -140,7 +150,9 @@ module _ (r : Run) (p : Progress) where
     unfolding enqueue
     taken-up q h =
         let f = answer-accepted (r .network .sites) (r .network .depth) (p .state .counter) (at .outgoing .count) (o .site) (o .set) q h in
-        accepted-turn r p o (sends (p .state) (o .site) (o .set)) (p .state .counter) t i (rw f refl) refl
+        let e = answer-number (r .network .sites) (r .network .depth) (p .state .counter) (at .outgoing .count) (o .site) (o .set) q h in
+        rw e
+        (accepted-turn r p o (sends (p .state) (o .site) (o .set)) (p .state .counter) t i (rw f refl) refl)
 
 -- ---- the inputs at the ends of the four channels, as the loop reads them
 

@@ -1,25 +1,25 @@
 -- Readiness as the code computes it, for the net-input's rule, and the two kinds of net-output. Assumes nothing.
 use Prim.Native.Nat.{ℕ, zero, suc, _+_, _-_, _*_, _<_}
-use mathlib.Core.Path.{_≡_, refl, ap, ap₂, _∙_}
+use mathlib.Core.Path.{_≡_, refl, ap, _∙_}
 use mathlib.Core.List.{List, [], _∷_}
-use mathlib.Core.Bool.{Bool, true, false, cond, _&&_}
+use mathlib.Core.Bool.{Bool, true, _&&_}
 use native.Mathlib.Omega.{arith}
 use native.Mathlib.Numerals.{add-one}
 use lib.ListN.{getD}
 use Rattle.base.specs.Bools.{implies}
-use Rattle.base.specs.All.{all, all-same}
+use Rattle.base.specs.All.{all-same}
 use Rattle.model.specs.declared.Phase.the-variants.{the-data as Phase, Free, Seek, Open, Wait, Done, Last, Abort as Aborted, FinAbort}
 use Rattle.model.specs.declared.Input.{Input}
 use Rattle.model.specs.declared.Output.{Output}
 use Rattle.model.specs.declared.Network.{Network}
 use Rattle.model.specs.declared.Site.{Site}
 use Rattle.model.specs.Types.{mark, outOf, outAt, setOut, withInQueue}
-use Rattle.model.specs.Network.{joined}
+use Rattle.model.specs.Network.{isChannel, joined}
 use Rattle.model.specs.Phases.{listening}
 use Rattle.model.specs.NetInput.{allReady, hears, ready, inState}
 use Rattle.model.specs.Places.{localOutput, channelOutput}
 use Rattle.model.specs.Steps.{ownTurn, passTurn, netOutput}
-use Rattle.machine.specs.Step.{flags, fourFlags, isEnd}
+use Rattle.machine.specs.Step.{flags, fourFlags}
 
 pub flag-at : (f : ℕ → Bool) (j : ℕ) → j < 5 → mark (flags f) j ≡ f j
 flag-at f zero h = refl
@@ -74,12 +74,12 @@ flags-there f g far os same =
 -- by the channels' bytes
 pub ends-read : (n : Network) (s a b c d : ℕ) → a ≡ getD (n .channels) (4 * s) 0 → b ≡ getD (n .channels) (4 * s + 1) 0
     → c ≡ getD (n .channels) (4 * s + 2) 0 → d ≡ getD (n .channels) (4 * s + 3) 0 → (j : ℕ) → j < 4
-    → mark (fourFlags (λ k. isEnd (getD (a ∷ b ∷ c ∷ d ∷ []) k 0))) j ≡ joined n s j
+    → mark (fourFlags (λ k. isChannel (getD (a ∷ b ∷ c ∷ d ∷ []) k 0))) j ≡ joined n s j
 ends-read n s a b c d ha hb hc hd zero h =
-    let k : 4 * s ≡ 4 * s + 0 = omega arith in ap isEnd (ha ∙ ap (λ (i : ℕ). getD (n .channels) i 0) k)
-ends-read n s a b c d ha hb hc hd (suc zero) h = ap isEnd hb
-ends-read n s a b c d ha hb hc hd (suc (suc zero)) h = ap isEnd hc
-ends-read n s a b c d ha hb hc hd (suc (suc (suc zero))) h = ap isEnd hd
+    let k : 4 * s ≡ 4 * s + 0 = omega arith in ap isChannel (ha ∙ ap (λ (i : ℕ). getD (n .channels) i 0) k)
+ends-read n s a b c d ha hb hc hd (suc zero) h = ap isChannel hb
+ends-read n s a b c d ha hb hc hd (suc (suc zero)) h = ap isChannel hc
+ends-read n s a b c d ha hb hc hd (suc (suc (suc zero))) h = ap isChannel hd
 ends-read n s a b c d ha hb hc hd (suc (suc (suc (suc j)))) h = absurd (omega arith)
 
 -- ---- net-output 0, and j for any other

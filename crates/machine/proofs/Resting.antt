@@ -1,6 +1,6 @@
 -- Where the place that a code names has nothing to do, RUN does nothing. Assumes nothing.
 use Prim.Native.Nat.{ℕ, zero, suc, _-_}
-use mathlib.Core.Path.{_≡_, refl, sym, ap, _∙_}
+use mathlib.Core.Path.{_≡_, refl, sym, ap}
 use mathlib.Core.List.{List}
 use mathlib.Core.Logic.{⊎-elim}
 use mathlib.Core.Bool.{Bool, true, false, cond, not, _&&_, _||_}
@@ -19,9 +19,9 @@ use Rattle.model.specs.declared.Network.{Network}
 use Rattle.model.specs.Types.{inAt, outAt, outOf, inEntry, setIn, setOut, withInQueue, withOutQueue}
 use Rattle.model.specs.Network.{joined}
 use Rattle.model.specs.Phases.{isNone}
-use Rattle.model.specs.NetInput.{Turn, Stay, To, ready, inState, netInput}
+use Rattle.model.specs.NetInput.{Stay, ready, inState, netInput}
 use Rattle.model.specs.Places.{Work, Rest, localOutput, termIn, headIn, deliver, headOn, channelOutput, outQueue, operate, operator, lastLacks, stalled, cutAt, timeout}
-use Rattle.model.specs.Steps.{Act, Idle, ownTurn, passTurn, workDone, setBoth, netOutput, act}
+use Rattle.model.specs.Steps.{Idle, ownTurn, passTurn, workDone, setBoth, netOutput, act}
 use Rattle.machine.specs.Idle.{quiet, atRest, nothingToDo}
 
 quiet-stays : (n : Network) (s i : ℕ) (y : Input) (os : List Output) (f : ℕ → Bool) (ph : Phase) → quiet ph ≡ true

@@ -1,15 +1,14 @@
 -- RUN looks at the inputs at the ends of its own channels alone, and what it passes on goes to one of them; what a site of a state in range has.
 -- Assumes nothing.
-use Prim.Native.Nat.{ℕ, zero, suc, _+_, _-_, _*_, _^_, _≤_, _<_}
+use Prim.Native.Nat.{ℕ, zero, suc, _-_, _<_}
 use mathlib.Core.Path.{_≡_, refl, sym, ap, ap₂, _∙_}
-use mathlib.Core.List.{List, [], _∷_}
-use mathlib.Core.Bool.{Bool, true, false, cond, not, _&&_, _||_}
+use mathlib.Core.List.{List}
+use mathlib.Core.Bool.{Bool, true, false, cond, not, _&&_}
 use native.Mathlib.Omega.{arith}
-use borrow.Author.Tests.{ltb-true, ltb-false, leb-true, eqb-true, eqb-false, lt-ltb}
+use borrow.Author.Tests.{ltb-true, leb-true, eqb-true, lt-ltb}
 use lib.Dec.{eqb, ltb, leb}
 use Rattle.base.specs.Bools.{cond-ok, both, both3, both6, clash, implies, pick, alike, pick-at, either-way}
 use Rattle.base.specs.All.{all, all-at, all-same}
-use Rattle.sets.specs.Sets.{targets}
 use Rattle.sets.proofs.Laws.{targets-at}
 use Rattle.model.specs.declared.Phase.the-variants.{the-data as Phase, Free, Seek, Open, Wait, Done, Last, Abort as Aborted, FinAbort}
 use Rattle.model.specs.declared.Terminator.the-variants.{the-data as Terminator, None as tNone, End as tEnd, Abort as tAbort, KeepLocal as tKeep}
@@ -20,15 +19,14 @@ use Rattle.model.specs.declared.State.{State}
 use Rattle.model.specs.declared.Network.{Network}
 use Rattle.model.specs.Types.{inAt, outAt, siteAt, mark, outOf, setIn, setOut, withInQueue, withOutQueue}
 use Rattle.model.specs.Numbers.{stateNumber}
-use Rattle.model.specs.Network.{joined, channel, networkRefusal}
+use Rattle.model.specs.Network.{joined, channel}
 use Rattle.model.specs.Phases.{isFree, listening, connected, splitting, aborting, isNone}
 use Rattle.model.specs.Range.{inputOk, outputOk, outQueueOk, inQueueOk, siteOk, placeOk, inRange, tagOk, zeroInput, zeroOutput, anyMark, anyRemote, fedBy}
 use Rattle.model.specs.NetInput.{Turn, Stay, To, allReady, hears, ready, inState, netInput}
 use Rattle.model.specs.Places.{Work, Rest, Cleared, Service, localOutput, deliver, channelOutput, outQueue, operator, timeout}
-use Rattle.model.specs.Steps.{Act, Idle, Own, Serve, Pass, ownTurn, passTurn, workDone, setBoth, netOutput, act, ends}
-use Rattle.theorems.proofs.Networks.{Valid, valid-ok}
-use Rattle.machine.specs.declared.step.Act.the-variants.{Idle as didNothing, Own as didOwn, Serve as didServe, Pass as didPass}
-use Rattle.machine.specs.Step.{ofAct, Runnable, Bytes, Passable, isPass, farAt, fourEnds}
+use Rattle.model.specs.Steps.{Act, ownTurn, passTurn, workDone, setBoth, netOutput, act, ends}
+use Rattle.theorems.proofs.Networks.{Valid}
+use Rattle.machine.specs.Step.{ofAct, Runnable, Bytes, Passable, farAt, fourEnds}
 
 -- ---- an output without a channel does nothing
 

@@ -1,17 +1,15 @@
 -- The single events by their refusals, as the code tests them, and RUN by the change that it stores. Assumes nothing.
-use Prim.Native.Nat.{ℕ, _≤_, _<_}
-use mathlib.Core.Path.{_≡_, refl, sym, ap, _∙_}
+use Prim.Native.Nat.{ℕ, _<_}
+use mathlib.Core.Path.{_≡_, refl, ap, _∙_}
 use mathlib.Core.List.{List}
 use mathlib.Core.Bool.{Bool, true, false, cond, _&&_}
 use native.Mathlib.Omega.{arith}
-use borrow.Author.Tests.{eq-eqb, ne-eqb, eqb-true}
+use borrow.Author.Tests.{ne-eqb}
 use lib.Dec.{eqb, ltb}
 use Rattle.base.specs.Sizes.{codeCount}
 use Rattle.model.specs.declared.Input.{Input}
 use Rattle.model.specs.declared.Network.{Network}
 use Rattle.model.specs.declared.State.{State}
-use Rattle.model.specs.declared.AfterRun.{AfterRun}
-use Rattle.model.specs.declared.AfterSend.{AfterSend}
 use Rattle.model.specs.declared.Sent.the-variants.{Refused as SendRefused}
 use Rattle.model.specs.declared.Ran.the-variants.{Refused as RunRefused}
 use Rattle.model.specs.Types.{siteAt}

@@ -1,7 +1,7 @@
 -- The terminator table by received kind and connection, as the code holds it, is the document's. Assumes nothing.
 use mathlib.Core.Path.{_≡_, refl}
 use mathlib.Core.List.{List, [], _∷_}
-use Prim.Native.Nat.{ℕ, _<_}
+use Prim.Native.Nat.{_<_}
 use lib.Dec.{lit<}
 use lib.ListN.{getD}
 use Rattle.model.specs.declared.Connection.the-variants.{the-data as Connection, Unicast, Passthru, AllRemote, SomeLocal, Handed}
@@ -9,7 +9,8 @@ use Rattle.model.specs.declared.Received.the-variants.{the-data as Received, En
 use Rattle.model.specs.declared.Terminator.the-variants.{the-data as Terminator, None as tNone, End as tEnd, Abort as tAbort, KeepLocal as tKeep}
 use Rattle.model.specs.Numbers.{connectionNumber, receivedNumber}
 use Rattle.model.specs.NetInput.{table}
-use Rattle.machine.specs.Turns.{tableRow}
+use Rattle.machine.specs.declared.terminators.Cell.{Cell}
+use Rattle.machine.specs.Turns.{tableCell, tableRow}
 
 pub received-below : (r : Received) → receivedNumber r < 3
 received-below gotEnd = lit< tt
@@ -22,36 +23,32 @@ connection-below AllRemote = lit< tt
 connection-below SomeLocal = lit< tt
 connection-below Handed = lit< tt
 
--- the column of the remote outputs, and that of output 0
-abbrev pub remote : List (List Terminator)
-remote =
-    (tNone ∷ tNone ∷ tNone ∷ tNone ∷ tNone ∷ tNone ∷ [])
-    ∷ (tNone ∷ tEnd ∷ tEnd ∷ tEnd ∷ tEnd ∷ tEnd ∷ [])
-    ∷ (tNone ∷ tAbort ∷ tAbort ∷ tAbort ∷ tAbort ∷ tAbort ∷ [])
+-- a cell, and the cells by row and place
+abbrev pub cell : Terminator → Terminator → Cell
+cell remote local = record { remote = remote; local = local }
+
+abbrev pub cells : List (List Cell)
+cells =
+    let none = cell tNone tNone in
+    let end = cell tEnd tEnd in
+    let abort = cell tAbort tAbort in
+    (none ∷ none ∷ none ∷ none ∷ none ∷ none ∷ [])
+    ∷ (none ∷ end ∷ end ∷ cell tEnd tAbort ∷ cell tEnd tKeep ∷ end ∷ [])
+    ∷ (none ∷ abort ∷ abort ∷ abort ∷ abort ∷ abort ∷ [])
     ∷ []
 
-abbrev pub local : List (List Terminator)
-local =
-    (tNone ∷ tNone ∷ tNone ∷ tNone ∷ tNone ∷ tNone ∷ [])
-    ∷ (tNone ∷ tEnd ∷ tEnd ∷ tAbort ∷ tKeep ∷ tEnd ∷ [])
-    ∷ (tNone ∷ tAbort ∷ tAbort ∷ tAbort ∷ tAbort ∷ tAbort ∷ [])
-    ∷ []
-
--- both are the table's, at each of the ten places
-abbrev place : List (List Terminator) → Received → Connection → Terminator
-place l r c = getD (getD l (receivedNumber r) []) (connectionNumber c) tNone
-
-pub right : (r : Received) (c : Connection) → (place remote r c ≡ table r c 1) × (place local r c ≡ table r c 0)
-right gotEnd Unicast = (refl, refl)
-right gotEnd Passthru = (refl, refl)
-right gotEnd AllRemote = (refl, refl)
-right gotEnd SomeLocal = (refl, refl)
-right gotEnd Handed = (refl, refl)
-right gotAbort Unicast = (refl, refl)
-right gotAbort Passthru = (refl, refl)
-right gotAbort AllRemote = (refl, refl)
-right gotAbort SomeLocal = (refl, refl)
-right gotAbort Handed = (refl, refl)
+pub right : (r : Received) (c : Connection)
+    → getD (getD cells (receivedNumber r) []) (connectionNumber c) (cell tNone tNone) ≡ tableCell r c
+right gotEnd Unicast = refl
+right gotEnd Passthru = refl
+right gotEnd AllRemote = refl
+right gotEnd SomeLocal = refl
+right gotEnd Handed = refl
+right gotAbort Unicast = refl
+right gotAbort Passthru = refl
+right gotAbort AllRemote = refl
+right gotAbort SomeLocal = refl
+right gotAbort Handed = refl
 
 -- every remote output gets the same
 pub remotes : (r : Received) (c : Connection) → tableRow r c ≡ table r c 0 ∷ table r c 1 ∷ table r c 1 ∷ table r c 1 ∷ table r c 1 ∷ []

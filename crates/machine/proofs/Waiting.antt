@@ -1,5 +1,5 @@
 -- Where a net-input or an output 1 to 4 has to wait, RUN does nothing. Assumes only what each law names.
-use Prim.Native.Nat.{ℕ, zero, suc, _-_, _<_}
+use Prim.Native.Nat.{ℕ, suc, _<_}
 use mathlib.Core.Path.{_≡_, refl, sym, ap, ap₂, subst, _∙_}
 use mathlib.Core.List.{List}
 use mathlib.Core.Bool.{Bool, true, false, cond, not, _&&_, _||_}
@@ -7,7 +7,7 @@ use native.Mathlib.Omega.{arith}
 use borrow.Author.Tests.{eqb-true, not-true}
 use lib.Dec.{eqb, ltb}
 use Rattle.base.specs.Bools.{clash, cond-ok, implies}
-use Rattle.base.specs.All.{all, all-same}
+use Rattle.base.specs.All.{all-same}
 use Rattle.model.specs.declared.Phase.the-variants.{the-data as Phase, Free, Seek, Open, Wait, Done, Last, Abort as Aborted, FinAbort}
 use Rattle.model.specs.declared.Terminator.the-variants.{the-data as Terminator, None as tNone, End as tEnd, Abort as tAbort, KeepLocal as tKeep}
 use Rattle.model.specs.declared.Input.{Input}
@@ -17,9 +17,9 @@ use Rattle.model.specs.declared.Network.{Network}
 use Rattle.model.specs.Types.{inAt, outAt, mark}
 use Rattle.model.specs.Network.{joined}
 use Rattle.model.specs.Phases.{isFree, listening}
-use Rattle.model.specs.NetInput.{Turn, Stay, To, allReady, ready, inState, netInput}
-use Rattle.model.specs.Places.{deliver, headOn, channelOutput}
-use Rattle.model.specs.Steps.{Act, Idle, ownTurn, passTurn, setBoth, netOutput, act}
+use Rattle.model.specs.NetInput.{Turn, Stay, allReady, ready, inState, netInput}
+use Rattle.model.specs.Places.{deliver, channelOutput}
+use Rattle.model.specs.Steps.{Idle, ownTurn, passTurn, setBoth, netOutput, act}
 use Rattle.machine.specs.Step.{farAt}
 use Rattle.machine.specs.Idle.{stands, inputWaits, outputWaits, hasToWait}
 use Rattle.machine.proofs.Ready.{ready-there}

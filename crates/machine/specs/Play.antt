@@ -5,16 +5,16 @@ use mathlib.Core.List.{List}
 use mathlib.Core.Bool.{cond}
 use lib.Dec.{eqb, ltb}
 use lib.ListN.{length, getD}
-use Rattle.base.specs.Sizes.{packetsMost}
 use Rattle.base.specs.Answers.{orNext, atFront}
 use Rattle.base.specs.Sums.{upto}
-use Rattle.sets.specs.Sets.{targets, size}
+use Rattle.sets.specs.Sets.{size}
 use Rattle.model.specs.declared.Counts.{Counts}
 use Rattle.model.specs.declared.Network.{Network}
 use Rattle.model.specs.declared.Run.{Run}
 use Rattle.model.specs.declared.StoredSend.{StoredSend}
 use Rattle.model.specs.declared.Sent.the-variants.{the-data as Sent, Accepted, Refused as SendRefused}
 use Rattle.model.specs.Types.{sendD}
+use Rattle.model.specs.Events.{sendFaultBy}
 use Rattle.model.specs.Runs.{bookBytes, bookRoom, playedRun, countsOf}
 use Rattle.format.specs.Format.{runOf}
 use Rattle.format.specs.Refusals.{readRefusal}
@@ -54,11 +54,7 @@ runWith n sends count seed draws =
 abbrev pub roomOf : List StoredSend → ℕ → ℕ
 roomOf sends count = 4 * upto count (λ k. size (getD sends k sendD .set))
 
--- SEND's own answer, from the numbers that it looks at: the counter c and the entries of the out-queue
-abbrev pub sendFaultBy : ℕ → ℕ → ℕ → ℕ → ℕ → ℕ → ℕ
-sendFaultBy S D c entries s X =
-    cond (ltb s S) (cond (targets S X) (cond (ltb c packetsMost) (cond (ltb entries D) 0 11) 12) 10) 9
-
+-- SEND's answer, from the same numbers as its refusal: "The answer is the packet number."
 unfoldable pub sendAnswer : ℕ → ℕ → ℕ → ℕ → ℕ → ℕ → Sent
 sendAnswer S D c entries s X =
     cond (eqb (sendFaultBy S D c entries s X) 0) (Accepted c) (SendRefused (sendFaultBy S D c entries s X))

@@ -2,18 +2,15 @@
 use Prim.Native.Nat.{ℕ, _^_, _≤_, _<_}
 use mathlib.Core.Path.{_≡_}
 use mathlib.Core.List.{List, [], _∷_}
-use mathlib.Core.Bool.{Bool, true, false, cond, not}
-use lib.Dec.{eqb, ltb}
+use mathlib.Core.Bool.{Bool, true, false}
 use lib.ListN.{getD}
-use Rattle.base.specs.Sizes.{noChannel, packetsMost}
-use Rattle.sets.specs.Sets.{targets}
 use Rattle.model.specs.declared.Input.{Input}
 use Rattle.model.specs.declared.Site.{Site}
 use Rattle.model.specs.declared.Network.{Network}
 use Rattle.model.specs.declared.State.{State}
 use Rattle.model.specs.declared.AfterRun.{AfterRun}
 use Rattle.model.specs.declared.Ran.the-variants.{Nothing, Changed, Serviced}
-use Rattle.model.specs.Types.{noInput, inputD, siteAt, inAt, outAt, setSite}
+use Rattle.model.specs.Types.{noInput, inputD, inAt, outAt, setSite}
 use Rattle.model.specs.Network.{channel, joined}
 use Rattle.model.specs.Numbers.{stateNumber}
 use Rattle.model.specs.Steps.{Act, Idle, Own, Serve, Pass, setFar}
@@ -51,12 +48,9 @@ farAt l j = getD l j inputD
 abbrev pub flags : (ℕ → Bool) → List Bool
 flags f = f 0 ∷ f 1 ∷ f 2 ∷ f 3 ∷ f 4 ∷ []
 
--- which outputs 1 to 4 have a channel, as an array; by the channels' bytes
+-- which outputs 1 to 4 have a channel, as an array
 abbrev pub fourFlags : (ℕ → Bool) → List Bool
 fourFlags f = f 0 ∷ f 1 ∷ f 2 ∷ f 3 ∷ []
-
-abbrev pub isEnd : ℕ → Bool
-isEnd b = not (eqb b noChannel)
 
 -- what a site of a state in range has
 pub record Runnable (n : Network) (s : ℕ) (x : Site) : Type 0 where
@@ -87,10 +81,3 @@ isPass didPass = true
 
 abbrev pub Passable : Change → Type 0
 Passable c = isPass (c .act) ≡ true → c .byte < 64
-
--- the refusal of a SEND's own, from the numbers that it looks at
-abbrev pub sendNumber : ℕ → ℕ → State → ℕ → ℕ → ℕ
-sendNumber S D st s X =
-    cond (ltb s S)
-    (cond (targets S X) (cond (ltb (st .counter) packetsMost) (cond (ltb (siteAt (st .sites) s .outgoing .count) D) 0 11) 12) 10)
-    9

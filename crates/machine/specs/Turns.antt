@@ -1,7 +1,7 @@
 -- What a rule decides, as the struct that the code returns: the places as they were where it stays.
 use Prim.Native.Nat.{ℕ}
 use mathlib.Core.List.{List, [], _∷_}
-use mathlib.Core.Bool.{Bool, true, false, _&&_}
+use mathlib.Core.Bool.{Bool, true, false}
 use lib.ListN.{getD, replicate}
 use Rattle.base.specs.Sizes.{outputCount}
 use Rattle.model.specs.declared.Input.{Input}
@@ -12,12 +12,12 @@ use Rattle.model.specs.declared.Received.{Received}
 use Rattle.model.specs.declared.Connection.{Connection}
 use Rattle.model.specs.declared.Terminator.the-variants.{the-data as Terminator, None as tNone}
 use Rattle.model.specs.declared.Phase.the-variants.{the-data as Phase, Free, Seek, Open, Wait, Done, Last, Abort as Aborted, FinAbort}
-use Rattle.model.specs.Types.{outOf, mark}
 use Rattle.model.specs.Phases.{splits}
 use Rattle.model.specs.Router.{Choice as ModelChoice, Chosen, Unserved}
 use Rattle.model.specs.NetInput.{Turn, Stay, To, table, seek}
 use Rattle.model.specs.Places.{Work, Rest, Cleared, Service}
 use Rattle.machine.specs.declared.router.Choice.{Choice}
+use Rattle.machine.specs.declared.terminators.Cell.{Cell}
 use Rattle.machine.specs.declared.inputs.InputTurn.{InputTurn}
 use Rattle.machine.specs.declared.places.LocalTurn.{LocalTurn}
 use Rattle.machine.specs.declared.places.ChannelTurn.{ChannelTurn}
@@ -45,13 +45,13 @@ abbrev pub ofInputTurn : Input → List Output → Turn Input (List Output) → 
 ofInputTurn y os Stay = record { outputs = os; input = y; changed = false }
 ofInputTurn y os (To z ps) = record { outputs = ps; input = z; changed = true }
 
+-- the table's cell: the terminator for the remote outputs, and for output 0
+abbrev pub tableCell : Received → Connection → Cell
+tableCell r c = record { remote = table r c 1; local = table r c 0 }
+
 -- the table's terminators for the outputs 0 to 4
 abbrev pub tableRow : Received → Connection → List Terminator
 tableRow r c = table r c 0 ∷ table r c 1 ∷ table r c 2 ∷ table r c 3 ∷ table r c 4 ∷ []
-
--- an output is ready where it is in use, its head is taken, and it is heard
-abbrev pub readyBy : List Bool → List Output → ℕ → Bool
-readyBy heard os j = outOf os j .used && outOf os j .head && mark heard j
 
 -- what a net-input's state gives the outputs 0 to 4, as an array of the code
 abbrev pub givenAt : List Terminator → ℕ → Terminator

@@ -1,12 +1,11 @@
 // Single SEND and RUN, with their refusals 3, 6, 7, 13, 9, 10, 12, 11, and the empty state.
 ghost use mathlib.Core.Path.{_≡_};
 ghost use mathlib.Core.Bool.{true};
-ghost use Prim.Native.Nat.{_<_, _≤_};
+ghost use Prim.Native.Nat.{_<_};
 ghost use Rattle.model.specs.Types.{noSite, noState, siteAt};
 ghost use Rattle.model.specs.Network.{networkRefusal};
 ghost use Rattle.model.specs.Range.{inRange};
 ghost use Rattle.model.specs.Events as spec;
-ghost use Rattle.machine.specs.Step.{sendNumber};
 use crate::phases::empty_output;
 use crate::phases::free_input;
 use crate::queues::push_out;
@@ -98,27 +97,16 @@ pub fn run(network: Network, state: State, site: usize, code: usize) -> AfterRun
     }
 }
 
-// The refusal of a SEND's own: 9, 10, 12, 11 or 0.
-pub(crate) fn send_fault(sites: usize, depth: usize, state: State, s: usize, set: u64) -> u8
-    requires { ⌜ sites ≤ 16 ⌝ }
-    ensures { λ r. ⌜ r ≡ sendNumber sites depth state s set ⌝ }
+// The entries of site s's out-queue; none where there is no such site.
+fn out_entries(sites: [Site; base::SITES], s: usize) -> usize
+    ensures { λ r. ⌜ r ≡ siteAt sites s .outgoing .count ⌝ }
 {
-    let counter = state.counter;
-    if s < sites {
-        if sets::is_targets(set, sites) {
-            if counter < base::PACKETS {
-                let site = state.sites[s];
-                let queue = site.outgoing;
-                if queue.count < depth {
-                    return 0;
-                }
-                return 11;
-            }
-            return 12;
-        }
-        return 10;
+    if s < base::SITES {
+        let site = sites[s];
+        let queue = site.outgoing;
+        return queue.count;
     }
-    9
+    0
 }
 
 // The state with a packet more, at the back of site s's out-queue under the counter's number.
@@ -153,6 +141,8 @@ pub fn send(network: Network, state: State, site: usize, set: u64) -> AfterSend
 {
     let sites = network.sites;
     let depth = network.depth;
+    let counter = state.counter;
+    let all = state.sites;
     let refusal = checks::event_refusal(network, state);
     if refusal != 0 {
         return AfterSend {
@@ -160,7 +150,8 @@ pub fn send(network: Network, state: State, site: usize, set: u64) -> AfterSend
             state,
         };
     }
-    let own = send_fault(sites, depth, state, site, set);
+    let entries = out_entries(all, site);
+    let own = checks::send_fault(sites, depth, counter, entries, site, set);
     if own != 0 {
         return AfterSend {
             answer: Sent::Refused(own),

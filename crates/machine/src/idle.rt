@@ -6,9 +6,7 @@ ghost use lib.ListN.{getD};
 ghost use Rattle.model.specs.Types.{inputD, outOf};
 ghost use Rattle.machine.specs.Idle.{quiet, atRest, nothingToDo, stands, inputWaits, outputWaits, hasToWait};
 use crate::inputs::all_ready;
-use crate::phases::is_free;
 use crate::phases::is_listening;
-use crate::phases::is_none;
 use crate::step::ready_outputs;
 use model::Input;
 use model::Output;
@@ -36,7 +34,7 @@ fn is_at_rest(output: Output) -> bool
     ensures { λ r. ⌜ r ≡ atRest output ⌝ }
 {
     let terminator = output.terminator;
-    let none = is_none(terminator);
+    let none = model::is_none(terminator);
     !output.used | (output.head & none)
 }
 
@@ -91,13 +89,13 @@ pub(crate) fn nothing_to_do(site: Site, code: usize) -> bool
         let queue = site.incoming;
         let front = queue.entries[0];
         let terminator = front.terminator;
-        let none = is_none(terminator);
+        let none = model::is_none(terminator);
         return (queue.count == 0) | none;
     }
     if code == 12 {
         let own = site.outputs[0];
         let terminator = own.terminator;
-        let none = is_none(terminator);
+        let none = model::is_none(terminator);
         return !(own.used & own.head & none);
     }
     true
@@ -141,7 +139,7 @@ fn output_waits(there: bool, output: Output, input: Input) -> bool
     ensures { λ r. ⌜ r ≡ outputWaits there output input ⌝ }
 {
     let phase = input.phase;
-    let free = is_free(phase);
+    let free = model::is_free(phase);
     let open = is_listening(phase);
     !there | ((!output.head & !free) | (output.head & !open))
 }

@@ -3,27 +3,11 @@ ghost use mathlib.Core.Path.{_≡_};
 ghost use Rattle.model.specs.Types.{noInput, noOutput, inPhase, outTerm, outHead};
 ghost use Rattle.model.specs.Phases as spec;
 ghost use Rattle.model.specs.Places as places;
-use model::Connection;
 use model::Input;
 use model::Output;
 use model::Phase;
 use model::Received;
 use model::Terminator;
-
-pub(crate) fn is_free(phase: Phase) -> bool
-    ensures { λ r. ⌜ r ≡ spec.isFree phase ⌝ }
-{
-    match phase {
-        Phase::Free => true,
-        Phase::Seek => false,
-        Phase::Open(_) => false,
-        Phase::Wait(_) => false,
-        Phase::Done(_, _) => false,
-        Phase::Last(_, _) => false,
-        Phase::Abort(_) => false,
-        Phase::FinAbort(_, _) => false,
-    }
-}
 
 // Whether a net-input can receive a terminator: it is open or abort.
 pub(crate) fn is_listening(phase: Phase) -> bool
@@ -38,30 +22,6 @@ pub(crate) fn is_listening(phase: Phase) -> bool
         Phase::Last(_, _) => false,
         Phase::Abort(_) => true,
         Phase::FinAbort(_, _) => false,
-    }
-}
-
-// Whether a connection is all-remote or some-local.
-pub(crate) fn does_split(connection: Connection) -> bool
-    ensures { λ r. ⌜ r ≡ spec.splits connection ⌝ }
-{
-    match connection {
-        Connection::Unicast => false,
-        Connection::Passthru => false,
-        Connection::AllRemote => true,
-        Connection::SomeLocal => true,
-        Connection::Handed => false,
-    }
-}
-
-pub(crate) fn is_none(terminator: Terminator) -> bool
-    ensures { λ r. ⌜ r ≡ spec.isNone terminator ⌝ }
-{
-    match terminator {
-        Terminator::None => true,
-        Terminator::End => false,
-        Terminator::Abort => false,
-        Terminator::KeepLocal => false,
     }
 }
 

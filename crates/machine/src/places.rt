@@ -4,9 +4,7 @@ ghost use Prim.Native.Nat.{_<_, _≤_};
 ghost use Rattle.model.specs.Places as spec;
 ghost use Rattle.machine.specs.Turns.{ofLocalTurn, ofChannelTurn, ofQueueTurn, ofWork};
 use crate::phases::empty_output;
-use crate::phases::is_free;
 use crate::phases::is_listening;
-use crate::phases::is_none;
 use crate::phases::seeking_input;
 use crate::phases::with_head;
 use crate::phases::with_received;
@@ -23,7 +21,6 @@ use model::Input;
 use model::OutEntry;
 use model::OutQueue;
 use model::Output;
-use model::Ran;
 use model::Received;
 use model::Terminator;
 
@@ -66,7 +63,7 @@ pub(crate) fn local_output(depth: usize, output: Output, queue: InQueue) -> Loca
     let n = queue.count;
     if output.used {
         if output.head {
-            if is_none(terminator) {
+            if model::is_none(terminator) {
                 return LocalTurn {
                     queue,
                     output,
@@ -154,7 +151,7 @@ pub(crate) fn channel_output(there: bool, output: Output, input: Input) -> Chann
                 },
             };
         }
-        let free = is_free(phase);
+        let free = model::is_free(phase);
         if there & free {
             return ChannelTurn {
                 output: with_head(output),
@@ -203,7 +200,7 @@ pub(crate) fn out_queue(queue: OutQueue, input: Input) -> QueueTurn
             changed: false,
         };
     }
-    if is_free(phase) {
+    if model::is_free(phase) {
         return QueueTurn {
             queue: start_front(queue),
             input: seeking_input(front.packet, front.set),

@@ -87,9 +87,9 @@ fn play_run(
             let s = base::wide(order.site);
             let mut site = state.sites[s];
             let queue = site.outgoing;
-            let packet = state.counter;
-            let answer = send_answer(sites, depth, packet, queue.count, s, set);
-            let Sent::Accepted(_) = answer else {
+            let counter = state.counter;
+            let answer = send_answer(sites, depth, counter, queue.count, s, set);
+            let Sent::Accepted(packet) = answer else {
                 continue;
             };
             let longer = push_out(

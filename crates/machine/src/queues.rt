@@ -5,7 +5,6 @@ ghost use mathlib.Core.List.{[], _∷_, _++_};
 ghost use lib.ListN.{drop};
 ghost use Rattle.model.specs.Types as spec;
 ghost use Rattle.model.specs.Places.{lastLacks, endLast, startFront};
-use crate::phases::is_none;
 use model::InEntry;
 use model::InQueue;
 use model::OutEntry;
@@ -109,7 +108,7 @@ pub(crate) fn last_lacks(queue: InQueue) -> bool
     }
     let last = queue.entries[n - 1];
     let terminator = last.terminator;
-    is_none(terminator)
+    model::is_none(terminator)
 }
 
 // The in-queue's last entry gets a terminator.

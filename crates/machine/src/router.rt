@@ -1,9 +1,8 @@
 // The router of a site (document 01, "Router"): which outputs serve a packet, and with which sets.
 ghost use mathlib.Core.Path.{_≡_};
 ghost use Prim.Native.Nat.{_≤_, _<_, _^_};
-ghost use lib.ListN.{length};
-ghost use Rattle.model.specs.Network.{choices, routeOf, listOf};
-ghost use Rattle.model.specs.Router.{serves, firstPort, unchosen, gather, chosenCount, firstChosen, oneOutput, Every, Unserved, spread, toOther, route};
+ghost use Rattle.model.specs.Network.{choices};
+ghost use Rattle.model.specs.Router.{serves, firstPort, gather, chosenCount, firstChosen, oneOutput, Every, Unserved, spread, toOther, route};
 ghost use Rattle.machine.specs.Router.{ofGathered, ofChoice};
 use model::Connection;
 use model::Network;

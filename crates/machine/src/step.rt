@@ -10,7 +10,7 @@ ghost use Rattle.model.specs.Network as net;
 ghost use Rattle.model.specs.NetInput as rule;
 ghost use Rattle.model.specs.Places as places;
 ghost use Rattle.model.specs.Steps as steps;
-ghost use Rattle.machine.specs.Step.{ofAct, unchanged, changed, farAt, flags, fourFlags, isEnd, Runnable};
+ghost use Rattle.machine.specs.Step.{ofAct, unchanged, changed, farAt, flags, fourFlags, Runnable};
 use crate::inputs::net_input;
 use crate::phases::free_input;
 use crate::phases::is_listening;
@@ -62,12 +62,10 @@ fn owns(site: Site) -> Change
     }
 }
 
-// Whether output j + 1 of site s has a channel.
-pub(crate) fn has_channel(network: Network, s: usize, j: usize) -> bool
-    requires { ⌜ (s < 16) × (j < 4) ⌝ }
-    ensures { λ r. ⌜ r ≡ net.joined network s j ⌝ }
+// Whether a channel byte stands for a channel.
+pub(crate) fn is_channel(byte: u8) -> bool
+    ensures { λ r. ⌜ r ≡ net.isChannel byte ⌝ }
 {
-    let byte = network.channels[4 * s + j];
     byte != base::NO_CHANNEL
 }
 
@@ -80,13 +78,13 @@ fn is_ready(output: Output) -> bool
 
 // Which of four channels there are, by their bytes.
 pub(crate) fn are_ends(bytes: [u8; base::PORTS]) -> [bool; base::PORTS]
-    ensures { λ r. ⌜ r ≡ fourFlags (λ j. isEnd (getD bytes j 0)) ⌝ }
+    ensures { λ r. ⌜ r ≡ fourFlags (λ j. net.isChannel (getD bytes j 0)) ⌝ }
 {
     [
-        bytes[0] != base::NO_CHANNEL,
-        bytes[1] != base::NO_CHANNEL,
-        bytes[2] != base::NO_CHANNEL,
-        bytes[3] != base::NO_CHANNEL,
+        is_channel(bytes[0]),
+        is_channel(bytes[1]),
+        is_channel(bytes[2]),
+        is_channel(bytes[3]),
     ]
 }
 
@@ -176,7 +174,8 @@ fn channel_step(
     let output = site.outputs[j + 1];
     let input = far[j];
     let byte = network.channels[4 * s + j];
-    let turn = channel_output(byte != base::NO_CHANNEL, output, input);
+    let there = is_channel(byte);
+    let turn = channel_output(there, output, input);
     let now = turn.output;
     let after = turn.input;
     if turn.changed {

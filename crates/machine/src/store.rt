@@ -1,13 +1,12 @@
 // What RUN sees of a state, and what it leaves of it: the site, then the far input into the changed sites.
 ghost use mathlib.Core.Path.{_≡_};
-ghost use Prim.Native.Nat.{_<_, _≤_};
-ghost use Rattle.model.specs.Network as net;
+ghost use Prim.Native.Nat.{_<_};
 ghost use Rattle.model.specs.Steps as steps;
 ghost use Rattle.machine.specs.Step.{stored, passed, fourEnds, Bytes, Passable};
 use crate::phases::free_input;
 use crate::step::Act;
 use crate::step::Change;
-use crate::step::has_channel;
+use crate::step::is_channel;
 use model::AfterRun;
 use model::Input;
 use model::Network;
@@ -32,7 +31,7 @@ pub(crate) fn far_input(network: Network, state: State, s: usize, j: usize) -> I
     ensures { λ r. ⌜ r ≡ steps.ends network (state .sites) s j ⌝ }
 {
     let byte = network.channels[4 * s + j];
-    if has_channel(network, s, j) {
+    if is_channel(byte) {
         return end_of(state, byte);
     }
     free_input()

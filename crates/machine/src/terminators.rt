@@ -3,7 +3,7 @@ ghost use mathlib.Core.Path.{_≡_};
 ghost use mathlib.Core.Bool.{cond};
 ghost use Rattle.model.specs.Types as spec;
 ghost use Rattle.model.specs.NetInput as rule;
-ghost use Rattle.machine.specs.Turns.{tableRow, givenAt, givenRow};
+ghost use Rattle.machine.specs.Turns.{tableCell, tableRow, givenAt, givenRow};
 use crate::phases::with_terminator;
 use model::Connection;
 use model::Output;
@@ -11,86 +11,64 @@ use model::Phase;
 use model::Received;
 use model::Terminator;
 
-// The terminator table, its column for the remote outputs and its column for output 0: a row for each received kind (1 end, 2 abort), in it
-// a terminator for each connection (1 to 5). Row 0 and place 0 are not used.
-const REMOTE: [[Terminator; 6]; 3] = [
-    [
-        Terminator::None,
-        Terminator::None,
-        Terminator::None,
-        Terminator::None,
-        Terminator::None,
-        Terminator::None,
-    ],
-    [
-        Terminator::None,
-        Terminator::End,
-        Terminator::End,
-        Terminator::End,
-        Terminator::End,
-        Terminator::End,
-    ],
-    [
-        Terminator::None,
-        Terminator::Abort,
-        Terminator::Abort,
-        Terminator::Abort,
-        Terminator::Abort,
-        Terminator::Abort,
-    ],
-];
-
-const LOCAL: [[Terminator; 6]; 3] = [
-    [
-        Terminator::None,
-        Terminator::None,
-        Terminator::None,
-        Terminator::None,
-        Terminator::None,
-        Terminator::None,
-    ],
-    [
-        Terminator::None,
-        Terminator::End,
-        Terminator::End,
-        Terminator::Abort,
-        Terminator::KeepLocal,
-        Terminator::End,
-    ],
-    [
-        Terminator::None,
-        Terminator::Abort,
-        Terminator::Abort,
-        Terminator::Abort,
-        Terminator::Abort,
-        Terminator::Abort,
-    ],
-];
-
-// The terminator that the table gives a remote output.
-fn remote_terminator(received: Received, connection: Connection) -> Terminator
-    ensures { λ r. ⌜ r ≡ rule.table received connection 1 ⌝ }
-{
-    let row = model::received_number(received) as usize;
-    let column = model::connection_number(connection) as usize;
-    REMOTE[row][column]
+// What the table gives: to the remote outputs, and to output 0.
+struct Cell {
+    remote: Terminator,
+    local: Terminator,
 }
 
-// The terminator that the table gives output 0.
-fn local_terminator(received: Received, connection: Connection) -> Terminator
-    ensures { λ r. ⌜ r ≡ rule.table received connection 0 ⌝ }
+const NONES: Cell = Cell {
+    remote: Terminator::None,
+    local: Terminator::None,
+};
+
+const ENDS: Cell = Cell {
+    remote: Terminator::End,
+    local: Terminator::End,
+};
+
+const ABORTS: Cell = Cell {
+    remote: Terminator::Abort,
+    local: Terminator::Abort,
+};
+
+// The terminator table: a row for each received kind (1 end, 2 abort), in it a cell for each connection (1 unicast,
+// 2 passthru, 3 all-remote, 4 some-local, 5 handed). Row 0 and place 0 are not used.
+const TABLE: [[Cell; 6]; 3] = [
+    [NONES, NONES, NONES, NONES, NONES, NONES],
+    [
+        NONES,
+        ENDS,
+        ENDS,
+        Cell {
+            remote: Terminator::End,
+            local: Terminator::Abort,
+        },
+        Cell {
+            remote: Terminator::End,
+            local: Terminator::KeepLocal,
+        },
+        ENDS,
+    ],
+    [NONES, ABORTS, ABORTS, ABORTS, ABORTS, ABORTS],
+];
+
+// The table's cell for a received kind and a connection.
+fn cell_of(received: Received, connection: Connection) -> Cell
+    ensures { λ r. ⌜ r ≡ tableCell received connection ⌝ }
 {
     let row = model::received_number(received) as usize;
     let column = model::connection_number(connection) as usize;
-    LOCAL[row][column]
+    TABLE[row][column]
 }
 
 // The terminators that the table gives the outputs 0 to 4.
 fn terminators(received: Received, connection: Connection) -> [Terminator; base::OUTPUTS]
     ensures { λ r. ⌜ r ≡ tableRow received connection ⌝ }
 {
-    let local = local_terminator(received, connection);
-    let remote = remote_terminator(received, connection);
+    let cell = cell_of(received, connection);
+    let local = cell.local;
+    let remote = cell.remote;
     [local, remote, remote, remote, remote]
 }
 

@@ -4,8 +4,6 @@ ghost use Prim.Native.Nat.{_≤_};
 ghost use Rattle.model.specs.Places as spec;
 ghost use Rattle.machine.specs.Turns.{ofInputTurn, cuts, cutPhase};
 use crate::inputs::InputTurn;
-use crate::phases::does_split;
-use crate::phases::is_none;
 use crate::queues::last_lacks;
 use crate::terminators::give_terminators;
 use model::InQueue;
@@ -21,10 +19,10 @@ fn can_cut(phase: Phase) -> bool
     match phase {
         Phase::Free => false,
         Phase::Seek => false,
-        Phase::Open(c) => does_split(c),
-        Phase::Wait(c) => does_split(c),
-        Phase::Done(c, _) => does_split(c),
-        Phase::Last(c, _) => does_split(c),
+        Phase::Open(c) => model::is_split(c),
+        Phase::Wait(c) => model::is_split(c),
+        Phase::Done(c, _) => model::is_split(c),
+        Phase::Last(c, _) => model::is_split(c),
         Phase::Abort(_) => false,
         Phase::FinAbort(_, _) => false,
     }
@@ -80,7 +78,7 @@ pub(crate) fn time_out(queue: InQueue, outputs: [Output; base::OUTPUTS], input: 
     let terminator = own.terminator;
     let phase = input.phase;
     let lacks = last_lacks(queue);
-    let bare = is_none(terminator);
+    let bare = model::is_none(terminator);
     if lacks & (own.used & own.head & bare) {
         if can_cut(phase) {
             return cut_off(input, outputs);

@@ -56,19 +56,11 @@ pub(crate) fn send_answer(
 ) -> Sent
     ensures { λ r. ⌜ r ≡ sendAnswer sites depth counter entries s set ⌝ }
 {
-    if s < sites {
-        if sets::is_targets(set, sites) {
-            if counter < base::PACKETS {
-                if entries < depth {
-                    return Sent::Accepted(counter);
-                }
-                return Sent::Refused(11);
-            }
-            return Sent::Refused(12);
-        }
-        return Sent::Refused(10);
+    let refusal = checks::send_fault(sites, depth, counter, entries, s, set);
+    if refusal == 0 {
+        return Sent::Accepted(counter);
     }
-    Sent::Refused(9)
+    Sent::Refused(refusal)
 }
 
 // Four bytes of the book: the draw, the packet, the site of a service.

@@ -22,16 +22,20 @@ refusalThen n st own = orNext (networkRefusal n) (cond (inRange n st) own 13)
 abbrev pub runFault : Network → ℕ → ℕ → ℕ
 runFault n s code = cond (ltb s (n .sites) && ltb code codeCount) 0 9
 
--- "9 .. no such site"; "10: SEND: set empty or outside S"; "12: 255 packets already accepted"; "11: out-queue full"
-abbrev pub sendFault : Network → State → ℕ → ℕ → ℕ
-sendFault n st s X =
-    cond (ltb s (n .sites))
-    (cond (targets (n .sites) X)
-    (cond (ltb (st .counter) packetsMost)
-    (cond (ltb (siteAt (st .sites) s .outgoing .count) (n .depth)) 0 11)
+-- "9 .. no such site"; "10: SEND: set empty or outside S"; "12: 255 packets already accepted"; "11: out-queue full": of SEND (s, X), from
+-- the numbers that it looks at: S, D, the counter and the entries of the site's out-queue
+abbrev pub sendFaultBy : ℕ → ℕ → ℕ → ℕ → ℕ → ℕ → ℕ
+sendFaultBy S D counter entries s X =
+    cond (ltb s S)
+    (cond (targets S X)
+    (cond (ltb counter packetsMost)
+    (cond (ltb entries D) 0 11)
     12)
     10)
     9
+
+abbrev pub sendFault : Network → State → ℕ → ℕ → ℕ
+sendFault n st s X = sendFaultBy (n .sites) (n .depth) (st .counter) (siteAt (st .sites) s .outgoing .count) s X
 
 unfoldable pub runRefusal : Network → State → ℕ → ℕ → ℕ
 runRefusal n st s code = refusalThen n st (runFault n s code)

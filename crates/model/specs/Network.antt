@@ -17,8 +17,12 @@ channelByte n m = getD (n .channels) m 0
 abbrev pub channel : Network → ℕ → ℕ → ℕ
 channel n s j = channelByte n (portCount * s + j)
 
+-- whether such a byte stands for a channel, and output j + 1 of site s has one
+abbrev pub isChannel : ℕ → Bool
+isChannel b = not (eqb b noChannel)
+
 abbrev pub joined : Network → ℕ → ℕ → Bool
-joined n s j = not (eqb (channel n s j) noChannel)
+joined n s j = isChannel (channel n s j)
 
 -- the site at a channel's end, and one less than the input's port there
 abbrev pub endSite : ℕ → ℕ

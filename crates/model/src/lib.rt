@@ -1,7 +1,12 @@
 // The types of edition 1 (document 01, "Network and state"), and the document's number for each case of an enum.
 // First variants are the zero ones. The definitions over these types are in specs/, the theorems in proofs/.
+mod phases;
+
 ghost use mathlib.Core.Path.{_≡_};
 ghost use Rattle.model.specs.Numbers.{stateNumber, connectionNumber, receivedNumber, terminatorNumber};
+pub use phases::is_free;
+pub use phases::is_none;
+pub use phases::is_split;
 
 // How a net-input is connected to its outputs; 0 is none, which is no variant: free and seek have no connection.
 pub enum Connection {

@@ -1,24 +1,8 @@
 // What a net-input's state and a terminator tell: the model's case functions, each as one full match.
 ghost use mathlib.Core.Path.{_≡_};
-ghost use Rattle.model.specs.Phases.{isFree, connected, splits, splitting, aborting, isNone, isKeep};
-use model::Connection;
+ghost use Rattle.model.specs.Phases.{connected, splitting, aborting, isKeep};
 use model::Phase;
 use model::Terminator;
-
-pub(crate) fn is_free(phase: Phase) -> bool
-    ensures { λ r. ⌜ r ≡ isFree phase ⌝ }
-{
-    match phase {
-        Phase::Free => true,
-        Phase::Seek => false,
-        Phase::Open(_) => false,
-        Phase::Wait(_) => false,
-        Phase::Done(_, _) => false,
-        Phase::Last(_, _) => false,
-        Phase::Abort(_) => false,
-        Phase::FinAbort(_, _) => false,
-    }
-}
 
 // All but free and seek: the states with a connection.
 pub(crate) fn is_connected(phase: Phase) -> bool
@@ -36,19 +20,6 @@ pub(crate) fn is_connected(phase: Phase) -> bool
     }
 }
 
-// All-remote and some-local: connections 3 and 4.
-fn is_split(connection: Connection) -> bool
-    ensures { λ r. ⌜ r ≡ splits connection ⌝ }
-{
-    match connection {
-        Connection::Unicast => false,
-        Connection::Passthru => false,
-        Connection::AllRemote => true,
-        Connection::SomeLocal => true,
-        Connection::Handed => false,
-    }
-}
-
 // The states with such a connection.
 pub(crate) fn is_splitting(phase: Phase) -> bool
     ensures { λ r. ⌜ r ≡ splitting phase ⌝ }
@@ -56,12 +27,12 @@ pub(crate) fn is_splitting(phase: Phase) -> bool
     match phase {
         Phase::Free => false,
         Phase::Seek => false,
-        Phase::Open(c) => is_split(c),
-        Phase::Wait(c) => is_split(c),
-        Phase::Done(c, _) => is_split(c),
-        Phase::Last(c, _) => is_split(c),
-        Phase::Abort(c) => is_split(c),
-        Phase::FinAbort(c, _) => is_split(c),
+        Phase::Open(c) => model::is_split(c),
+        Phase::Wait(c) => model::is_split(c),
+        Phase::Done(c, _) => model::is_split(c),
+        Phase::Last(c, _) => model::is_split(c),
+        Phase::Abort(c) => model::is_split(c),
+        Phase::FinAbort(c, _) => model::is_split(c),
     }
 }
 
@@ -78,17 +49,6 @@ pub(crate) fn is_aborting(phase: Phase) -> bool
         Phase::Last(_, _) => false,
         Phase::Abort(_) => true,
         Phase::FinAbort(_, _) => true,
-    }
-}
-
-pub(crate) fn is_none(terminator: Terminator) -> bool
-    ensures { λ r. ⌜ r ≡ isNone terminator ⌝ }
-{
-    match terminator {
-        Terminator::None => true,
-        Terminator::End => false,
-        Terminator::Abort => false,
-        Terminator::KeepLocal => false,
     }
 }
 

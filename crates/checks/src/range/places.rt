@@ -8,9 +8,7 @@ ghost use Rattle.model.specs.Types.{mark, outOf};
 ghost use Rattle.model.specs.Range as spec;
 use crate::range::phases::is_aborting;
 use crate::range::phases::is_connected;
-use crate::range::phases::is_free;
 use crate::range::phases::is_keep;
-use crate::range::phases::is_none;
 use crate::range::phases::is_splitting;
 use model::InEntry;
 use model::Input;
@@ -53,7 +51,11 @@ pub(crate) fn zero_input(input: Input) -> bool
 {
     let phase = input.phase;
     let marks = input.outputs;
-    is_free(phase) & (input.packet == 0) & (input.set == 0) & !any_mark(marks) & (input.tries == 0)
+    model::is_free(phase)
+        & (input.packet == 0)
+        & (input.set == 0)
+        & !any_mark(marks)
+        & (input.tries == 0)
 }
 
 pub(crate) fn zero_output(output: Output) -> bool
@@ -65,7 +67,7 @@ pub(crate) fn zero_output(output: Output) -> bool
         & (output.set == 0)
         & (output.input == 0)
         & !output.head
-        & is_none(terminator)
+        & model::is_none(terminator)
 }
 
 pub(crate) fn zero_out_entry(entry: OutEntry) -> bool
@@ -78,7 +80,7 @@ pub(crate) fn zero_in_entry(entry: InEntry) -> bool
     ensures { λ r. ⌜ r ≡ spec.zeroInEntry entry ⌝ }
 {
     let terminator = entry.terminator;
-    (entry.packet == 0) & (entry.set == 0) & is_none(terminator)
+    (entry.packet == 0) & (entry.set == 0) & model::is_none(terminator)
 }
 
 // In use, fed by net-input i and without a terminator.
@@ -86,7 +88,7 @@ fn fed_by(i: usize, output: Output) -> bool
     ensures { λ r. ⌜ r ≡ spec.fedBy i output ⌝ }
 {
     let terminator = output.terminator;
-    output.used & (base::wide(output.input) == i) & is_none(terminator)
+    output.used & (base::wide(output.input) == i) & model::is_none(terminator)
 }
 
 // Each output that net-input i marks is fed by it.
@@ -116,7 +118,7 @@ pub(crate) fn input_ok(
 {
     let phase = input.phase;
     let marks = input.outputs;
-    let free = is_free(phase);
+    let free = model::is_free(phase);
     let any = any_mark(marks);
     let connected = is_connected(phase);
     let splitting = is_splitting(phase);

@@ -7,10 +7,7 @@ use Prim.Native.Nat.{_≤_, _-_, _*_}
 use lib.ListN.{length, length-set}
 use native.Mathlib.Omega.{arith}
 use borrow.Author.Needs.{needs}
-use Rattle.base.specs.All.{all, all-none}
 use Rattle.checks.proofs.NetworkLaws.{channelIn, Fed, fed-none, fed-skip}
-use native.Mathlib.Omega.{arith}
-use borrow.Author.Needs.{needs}
 use Rattle.checks.proofs.network.channels_ok.Statement.{statement}
 use Rattle.checks.proofs.network.channels_ok.Tie as tie
 use Rattle.checks.proofs.network.channels_ok.Reads as reads

@@ -5,7 +5,6 @@ use Prim.Native.Nat.{_≤_, _-_}
 use native.Mathlib.Omega.{arith}
 use Rattle.base.specs.All.{all, all-none, all-more, all-fails}
 use Rattle.model.specs.Network.{routeOk}
-use native.Mathlib.Omega.{arith}
 use Rattle.checks.proofs.network.routes_ok.Statement.{statement}
 use Rattle.checks.proofs.network.routes_ok.Tie as tie
 use Rattle.checks.proofs.network.routes_ok.Reads as reads

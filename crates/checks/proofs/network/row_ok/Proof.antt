@@ -8,8 +8,6 @@ use lib.ListN.{getD}
 use Rattle.base.specs.All.{all, all-none, all-more, all-fails}
 use Rattle.checks.specs.Network.{routeBy}
 use Rattle.checks.proofs.NetworkLaws.{place-below, row-by}
-use native.Mathlib.Omega.{arith}
-use borrow.Author.Needs.{needs}
 use Rattle.checks.proofs.network.row_ok.Statement.{statement}
 use Rattle.checks.proofs.network.row_ok.Tie as tie
 use Rattle.checks.proofs.network.row_ok.Reads as reads

@@ -1,4 +1,4 @@
-use mathlib.Core.Path.{_≡_, refl}
+use mathlib.Core.Path.{refl}
 use borrow.Author.Needs.{needs}
 use Rattle.checks.proofs.range.site_ok.Statement.{statement}
 use Rattle.checks.proofs.range.site_ok.Tie as tie

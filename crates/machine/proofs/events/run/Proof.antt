@@ -1,5 +1,5 @@
-use mathlib.Core.Path.{_≡_, refl, sym, ap, _∙_}
-use borrow.Author.Tests.{lt-ltb, le-ltb, ltb-true}
+use mathlib.Core.Path.{sym, _∙_}
+use borrow.Author.Tests.{ltb-true}
 use Rattle.base.specs.Bools.{both}
 use Rattle.theorems.proofs.Refusals.{not-refused}
 use Rattle.machine.proofs.Single.{run-shared, run-none, run-passes-on}

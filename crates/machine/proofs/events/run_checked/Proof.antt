@@ -1,10 +1,8 @@
-use mathlib.Core.Path.{_≡_, refl, sym, ap, _∙_}
-use borrow.Author.Tests.{lt-ltb, le-ltb, ltb-true}
+use mathlib.Core.Path.{_∙_}
 use native.Mathlib.Omega.{arith}
 use Rattle.model.specs.Types.{siteAt}
-use Rattle.model.specs.Steps.{act, ends}
 use Rattle.theorems.proofs.Networks.{valid-ok}
-use Rattle.machine.specs.Step.{stored, ofAct, farAt, fourEnds, Passable}
+use Rattle.machine.specs.Step.{farAt}
 use Rattle.machine.proofs.Seen.{range-runnable, valid-bytes, act-passable}
 use Rattle.machine.proofs.Single.{run-stored}
 use Rattle.machine.proofs.events.run_checked.Statement.{statement}

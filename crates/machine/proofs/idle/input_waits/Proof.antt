@@ -1,4 +1,4 @@
-use mathlib.Core.Path.{_≡_, refl, _∙_}
+use mathlib.Core.Path.{refl}
 use Rattle.model.specs.Types.{mark}
 use Rattle.model.specs.NetInput.{ready}
 use Rattle.machine.specs.Step.{farAt}

@@ -1,10 +1,10 @@
-use mathlib.Core.Path.{_≡_, refl, sym, ap, _∙_}
+use mathlib.Core.Path.{refl}
 use borrow.Author.Needs.{needs}
 use Rattle.machine.proofs.idle.is_at_rest.Statement.{statement}
 use Rattle.machine.proofs.idle.is_at_rest.Tie as tie
 use Rattle.machine.proofs.idle.is_at_rest.Reads as reads
 use Rattle.machine.proofs.idle.is_at_rest.Lts as lts
-use Rattle.machine.proofs.phases.is_none.Reads as is-none-reads
+use Rattle.model.proofs.is_none.Reads as is-none-reads
 
 is-none-requires : tie.Need-is-none-requires
 is-none-requires c κs = search needs

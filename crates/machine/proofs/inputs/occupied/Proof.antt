@@ -1,10 +1,8 @@
-use mathlib.Core.Path.{_≡_, refl, sym, ap, _∙_}
+use mathlib.Core.Path.{_≡_, sym, ap, _∙_}
 use native.Mathlib.Omega.{arith}
 use borrow.Author.Needs.{needs}
-use borrow.Author.Tests.{eq-eqb, ne-eqb, lt-ltb, le-ltb, ltb-true}
-use mathlib.Core.Bool.{cond, not}
+use mathlib.Core.Bool.{cond}
 use Prim.Native.Nat.{ℕ, _-_, _≤_}
-use lib.Dec.{eqb}
 use lib.ListN.{length, getD}
 use Rattle.base.specs.Over.{over, over-none, over-step, length-over}
 use Rattle.model.specs.Types.{outOf}

@@ -1,12 +1,11 @@
-use mathlib.Core.Path.{_≡_, refl, sym, ap, _∙_}
+use mathlib.Core.Path.{_≡_, refl, ap, _∙_}
 use native.Mathlib.Omega.{arith}
-use Prim.Native.Nat.{ℕ, _+_, _*_, _-_, _≤_}
-use lib.ListN.{length, take, getD}
-use lib.Seq.{take-all}
+use Prim.Native.Nat.{ℕ, _*_, _-_, _≤_}
+use lib.ListN.{length, take}
 use borrow.Author.Needs.{needs}
 use Rattle.base.specs.Sums.{sum, sum-next}
-use Rattle.model.specs.Types.{inputD, noOutput, noOutEntry, noInEntry}
-use Rattle.model.specs.Owing.{pairsAs, pairsInput, pairsOutput, pairsOutEntry, pairsInEntry}
+use Rattle.model.specs.Types.{noInEntry}
+use Rattle.model.specs.Owing.{pairsInEntry}
 use Rattle.machine.proofs.owing.in_entry_pairs.Statement.{statement}
 use Rattle.machine.proofs.owing.in_entry_pairs.Tie as tie
 use Rattle.machine.proofs.owing.in_entry_pairs.Reads as reads

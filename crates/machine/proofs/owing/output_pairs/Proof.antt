@@ -1,12 +1,12 @@
-use mathlib.Core.Path.{_≡_, refl, sym, ap, _∙_}
+use mathlib.Core.Path.{_≡_, refl, ap, _∙_}
 use native.Mathlib.Omega.{arith}
-use Prim.Native.Nat.{ℕ, _+_, _*_, _-_, _≤_}
-use lib.ListN.{length, take, getD}
+use Prim.Native.Nat.{_*_, _-_, _≤_}
+use lib.ListN.{length, take}
 use lib.Seq.{take-all}
 use borrow.Author.Needs.{needs}
 use Rattle.base.specs.Sums.{sum, sum-next}
-use Rattle.model.specs.Types.{inputD, noOutput, noOutEntry, noInEntry}
-use Rattle.model.specs.Owing.{pairsAs, pairsInput, pairsOutput, pairsOutEntry, pairsInEntry}
+use Rattle.model.specs.Types.{noOutput}
+use Rattle.model.specs.Owing.{pairsOutput}
 use Rattle.machine.proofs.owing.output_pairs.Statement.{statement}
 use Rattle.machine.proofs.owing.output_pairs.Tie as tie
 use Rattle.machine.proofs.owing.output_pairs.Reads as reads

@@ -1,13 +1,11 @@
-use mathlib.Core.Path.{_≡_, refl, sym, ap, _∙_}
-use native.Mathlib.Omega.{arith}
-use borrow.Author.Tests.{eq-eqb, ne-eqb, lt-ltb, le-ltb, ltb-true}
+use mathlib.Core.Path.{refl}
 use Rattle.model.specs.Places.{channelOutput, deliver}
 use borrow.Author.Needs.{needs}
 use Rattle.machine.proofs.places.channel_output.Statement.{statement}
 use Rattle.machine.proofs.places.channel_output.Tie as tie
 use Rattle.machine.proofs.places.channel_output.Reads as reads
 use Rattle.machine.proofs.places.channel_output.Lts as lts
-use Rattle.machine.proofs.phases.is_free.Reads as is-free-reads
+use Rattle.model.proofs.is_free.Reads as is-free-reads
 use Rattle.machine.proofs.phases.seeking_input.Reads as seeking-input-reads
 use Rattle.machine.proofs.phases.with_head.Reads as with-head-reads
 use Rattle.machine.proofs.places.deliver_terminator.Reads as deliver-terminator-reads

@@ -1,6 +1,6 @@
-use mathlib.Core.Path.{_≡_, refl, sym, ap, _∙_}
+use mathlib.Core.Path.{refl, sym, _∙_}
 use native.Mathlib.Omega.{arith}
-use borrow.Author.Tests.{eq-eqb, ne-eqb, lt-ltb, le-ltb, ltb-true}
+use borrow.Author.Tests.{lt-ltb, le-ltb, ltb-true}
 use lib.Dec.{ltb}
 use Rattle.base.specs.Bools.{both}
 use Rattle.model.specs.Places.{localOutput}
@@ -10,7 +10,7 @@ use Rattle.machine.proofs.places.local_output.Tie as tie
 use Rattle.machine.proofs.places.local_output.Reads as reads
 use Rattle.machine.proofs.places.local_output.Lts as lts
 use Rattle.machine.proofs.phases.empty_output.Reads as empty-output-reads
-use Rattle.machine.proofs.phases.is_none.Reads as is-none-reads
+use Rattle.model.proofs.is_none.Reads as is-none-reads
 use Rattle.machine.proofs.phases.with_head.Reads as with-head-reads
 use Rattle.machine.proofs.queues.end_last.Reads as end-last-reads
 use Rattle.machine.proofs.queues.last_lacks.Reads as last-lacks-reads

@@ -1,7 +1,7 @@
-use mathlib.Core.Path.{_≡_, refl, sym, ap, _∙_}
+use mathlib.Core.Path.{refl}
 use native.Mathlib.Omega.{arith}
 use borrow.Author.Tests.{eq-eqb, ne-eqb, lt-ltb, le-ltb}
-use Rattle.model.specs.Places.{operate, serviceIf}
+use Rattle.model.specs.Places.{operate}
 use Rattle.machine.proofs.Work.{same-work}
 use borrow.Author.Needs.{needs}
 use Rattle.machine.proofs.places.operator.Statement.{statement}

@@ -1,13 +1,13 @@
-use mathlib.Core.Path.{_≡_, refl, sym, ap, _∙_}
+use mathlib.Core.Path.{refl}
 use native.Mathlib.Omega.{arith}
-use borrow.Author.Tests.{eq-eqb, ne-eqb, lt-ltb, le-ltb, ltb-true}
+use borrow.Author.Tests.{lt-ltb, le-ltb}
 use Rattle.model.specs.Places.{outQueue}
 use borrow.Author.Needs.{needs}
 use Rattle.machine.proofs.places.out_queue.Statement.{statement}
 use Rattle.machine.proofs.places.out_queue.Tie as tie
 use Rattle.machine.proofs.places.out_queue.Reads as reads
 use Rattle.machine.proofs.places.out_queue.Lts as lts
-use Rattle.machine.proofs.phases.is_free.Reads as is-free-reads
+use Rattle.model.proofs.is_free.Reads as is-free-reads
 use Rattle.machine.proofs.phases.is_listening.Reads as is-listening-reads
 use Rattle.machine.proofs.phases.seeking_input.Reads as seeking-input-reads
 use Rattle.machine.proofs.phases.with_received.Reads as with-received-reads

@@ -1,12 +1,11 @@
-use mathlib.Core.Path.{_≡_, refl, sym, ap, _∙_}
-use Prim.Native.Nat.{ℕ, _+_, _*_, _-_, _≤_, _<_}
+use mathlib.Core.Path.{_≡_, refl, sym}
+use Prim.Native.Nat.{_+_, _-_, _≤_}
 use native.Mathlib.Omega.{arith}
 use lib.ListN.{getD}
 use Rattle.base.specs.Sums.{upto}
 use Rattle.sets.specs.Sets.{size}
 use Rattle.model.specs.Types.{sendD}
 use Rattle.machine.proofs.PlayerRoom.{sizes-none, sizes-next, sizes-fit}
-use native.Mathlib.Omega.{arith}
 use borrow.Author.Needs.{needs}
 use Rattle.machine.proofs.player.book_room.Statement.{statement}
 use Rattle.machine.proofs.player.book_room.Tie as tie

@@ -1,11 +1,10 @@
 use Rattle.model.specs.Runs.{bookRoom}
 use Rattle.machine.proofs.PlayerAnswers.{read-long, read-count, read-stored, play-refused, play-short, play-done}
-use mathlib.Core.Path.{_≡_, refl, sym, ap, _∙_}
 use native.Mathlib.Omega.{arith}
 use denote.Ref.{now}
-use lib.ListN.{length, getD}
-use Prim.Native.Nat.{ℕ, _≤_, _<_}
-use Rattle.machine.proofs.PlayerAnswers.{read-run, read-long, read-stored, play-refused, play-short, play-done}
+use lib.ListN.{length}
+use Prim.Native.Nat.{_≤_, _<_}
+use Rattle.machine.proofs.PlayerAnswers.{read-long, read-stored, play-refused, play-short, play-done}
 use Rattle.machine.proofs.PlayerRoom.{room-is}
 use borrow.Author.Needs.{needs}
 use Rattle.machine.proofs.player.play.Statement.{statement}

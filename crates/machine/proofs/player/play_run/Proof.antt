@@ -5,8 +5,6 @@ use mathlib.Core.Path.{_≡_, refl, sym, ap, _∙_}
 use Prim.Native.Nat.{ℕ, _+_, _≤_, _-_, _<_}
 use native.Mathlib.Omega.{arith}
 use borrow.Author.Needs.{needs}
-use lib.ListN.{length}
-use Rattle.base.specs.Sizes.{sendsMost}
 use Rattle.sets.proofs.LawsBit.{size-most}
 use Rattle.model.specs.Types.{sendAt, siteAt, mark}
 use Rattle.theorems.proofs.Networks.{valid-ok}
@@ -118,11 +116,11 @@ element-copy-out-site c =
 send-answer-requires : tie.Need-send-answer-requires Inv-loop μ-loop
 send-answer-requires c κs = search needs
 
+enum-known-answer : tie.Need-enum-known-answer Inv-loop μ-loop
+enum-known-answer c = search needs
+
 enum-told : tie.Need-enum-told Inv-loop μ-loop
 enum-told c = search needs
-
-enum-told-2 : tie.Need-enum-told-2 Inv-loop μ-loop
-enum-told-2 c = search needs
 
 loop-less : tie.Need-loop-less Inv-loop μ-loop
 loop-less c = omega arith
@@ -134,83 +132,83 @@ loop-again c =
     let h : c .before .before .before .before .before .before .before .before .before .before .before .loop .next < c .before .before .before .before .before .before .before .before .before .before .before .before .before .before .before .args .count → c .before .before .before .before .before .before .before .before .before .capped .result ≡ c .before .before .before .before .before .before .before .before .before .before .before .loop .next = λ l. c .before .before .before .before .before .before .before .before .before .capped .ensures .0 (omega (arith, l, stored-sends r (c .before .before .before .before .before .before .before .before .before .before .before .before .before .before .before .pre .0) .0)) in
     let o = sendAt r (c .before .before .before .before .before .before .before .before .before .capped .result) in
     let d = due-here r p o (c .before .before .before .before .before .before .before .before .before .capped .result) h refl (sym (c .before .before .before .before .before .before .before .is-due .ensures) ∙ c .before .before .before .before .before .before .if1 .taken) in
-    let g = sym (rw (c .before .before .before .before .before .wide .ensures .0) at (c .before .before .send-answer .ensures)) ∙ c .enum-told2 .given .1 in
+    let g = sym (rw (c .before .before .before .before .before .wide .ensures .0) at (c .before .before .send-answer .ensures)) ∙ c .enum-told .given .1 in
     (omega arith, c .before .before .before .before .before .before .before .before .before .before .before .loop .inv .1, one-turn r _ (c .before .before .before .before .before .before .before .before .before .before .before .loop .turn) p _ (c .before .before .before .before .before .before .before .before .before .before .before .loop .inv .2) (passed-over r p o (d .0) (d .1) _ g))
 
 push-out-requires : tie.Need-push-out-requires Inv-loop μ-loop
 push-out-requires c κs =
-    let r = runWith (c .before .before .before .before .before .before .before .before .before .before .before .before .before .before .before .args .network) (c .before .before .before .before .before .before .before .before .before .before .before .before .before .before .before .args .t2) (c .before .before .before .before .before .before .before .before .before .before .before .before .before .before .before .args .count) (c .before .before .before .before .before .before .before .before .before .before .before .before .before .before .before .args .seed) (c .before .before .before .before .before .before .before .before .before .before .before .before .before .before .before .args .draws) in
-    let p : Progress = record { state = c .before .before .before .before .before .before .before .before .before .before .before .loop .state; value = c .before .before .before .before .before .before .before .before .before .before .before .loop .clock .value; next = c .before .before .before .before .before .before .before .before .before .before .before .loop .next; draw = c .before .before .before .before .before .before .before .before .before .before .before .loop .clock .draw; accepted = c .before .before .before .before .before .before .before .before .before .before .before .loop .accepted; pairs = c .before .before .before .before .before .before .before .before .before .before .before .loop .pairs; serviced = c .before .before .before .before .before .before .before .before .before .before .before .loop .serviced; book = c .before .before .before .before .before .before .before .before .before .before .before .loop .book } in
-    let h : c .before .before .before .before .before .before .before .before .before .before .before .loop .next < c .before .before .before .before .before .before .before .before .before .before .before .before .before .before .before .args .count → c .before .before .before .before .before .before .before .before .before .capped .result ≡ c .before .before .before .before .before .before .before .before .before .before .before .loop .next = λ l. c .before .before .before .before .before .before .before .before .before .capped .ensures .0 (omega (arith, l, stored-sends r (c .before .before .before .before .before .before .before .before .before .before .before .before .before .before .before .pre .0) .0)) in
-    let o = sendAt r (c .before .before .before .before .before .before .before .before .before .capped .result) in
-    let ok = stored-network r (c .before .before .before .before .before .before .before .before .before .before .before .before .before .before .before .pre .0) in
-    let val = valid-ok (c .before .before .before .before .before .before .before .before .before .before .before .before .before .before .before .args .network) ok in
-    let w = answer-room (r .network .sites) (r .network .depth) (p .state .counter) (siteAt (p .state .sites) (c .before .before .before .before .before .wide .result) .outgoing .count) (c .before .before .before .before .before .wide .result) (o .set) _ (sym (c .before .before .send-answer .ensures) ∙ c .enum-told .given .1) in
+    let r = runWith (c .before .before .before .before .before .before .before .before .before .before .before .before .before .before .before .before .args .network) (c .before .before .before .before .before .before .before .before .before .before .before .before .before .before .before .before .args .t2) (c .before .before .before .before .before .before .before .before .before .before .before .before .before .before .before .before .args .count) (c .before .before .before .before .before .before .before .before .before .before .before .before .before .before .before .before .args .seed) (c .before .before .before .before .before .before .before .before .before .before .before .before .before .before .before .before .args .draws) in
+    let p : Progress = record { state = c .before .before .before .before .before .before .before .before .before .before .before .before .loop .state; value = c .before .before .before .before .before .before .before .before .before .before .before .before .loop .clock .value; next = c .before .before .before .before .before .before .before .before .before .before .before .before .loop .next; draw = c .before .before .before .before .before .before .before .before .before .before .before .before .loop .clock .draw; accepted = c .before .before .before .before .before .before .before .before .before .before .before .before .loop .accepted; pairs = c .before .before .before .before .before .before .before .before .before .before .before .before .loop .pairs; serviced = c .before .before .before .before .before .before .before .before .before .before .before .before .loop .serviced; book = c .before .before .before .before .before .before .before .before .before .before .before .before .loop .book } in
+    let h : c .before .before .before .before .before .before .before .before .before .before .before .before .loop .next < c .before .before .before .before .before .before .before .before .before .before .before .before .before .before .before .before .args .count → c .before .before .before .before .before .before .before .before .before .before .capped .result ≡ c .before .before .before .before .before .before .before .before .before .before .before .before .loop .next = λ l. c .before .before .before .before .before .before .before .before .before .before .capped .ensures .0 (omega (arith, l, stored-sends r (c .before .before .before .before .before .before .before .before .before .before .before .before .before .before .before .before .pre .0) .0)) in
+    let o = sendAt r (c .before .before .before .before .before .before .before .before .before .before .capped .result) in
+    let ok = stored-network r (c .before .before .before .before .before .before .before .before .before .before .before .before .before .before .before .before .pre .0) in
+    let val = valid-ok (c .before .before .before .before .before .before .before .before .before .before .before .before .before .before .before .before .args .network) ok in
+    let w = answer-room (r .network .sites) (r .network .depth) (p .state .counter) (siteAt (p .state .sites) (c .before .before .before .before .before .before .wide .result) .outgoing .count) (c .before .before .before .before .before .before .wide .result) (o .set) _ (sym (c .before .before .before .send-answer .ensures) ∙ c .before .answer .given .1) in
     omega (arith, w .2, val .deep)
 
 mul-site-2 : tie.Need-mul-site-2 Inv-loop μ-loop
 mul-site-2 c =
-    let r = runWith (c .before .before .before .before .before .before .before .before .before .before .before .before .before .before .before .before .args .network) (c .before .before .before .before .before .before .before .before .before .before .before .before .before .before .before .before .args .t2) (c .before .before .before .before .before .before .before .before .before .before .before .before .before .before .before .before .args .count) (c .before .before .before .before .before .before .before .before .before .before .before .before .before .before .before .before .args .seed) (c .before .before .before .before .before .before .before .before .before .before .before .before .before .before .before .before .args .draws) in
-    let p : Progress = record { state = c .before .before .before .before .before .before .before .before .before .before .before .before .loop .state; value = c .before .before .before .before .before .before .before .before .before .before .before .before .loop .clock .value; next = c .before .before .before .before .before .before .before .before .before .before .before .before .loop .next; draw = c .before .before .before .before .before .before .before .before .before .before .before .before .loop .clock .draw; accepted = c .before .before .before .before .before .before .before .before .before .before .before .before .loop .accepted; pairs = c .before .before .before .before .before .before .before .before .before .before .before .before .loop .pairs; serviced = c .before .before .before .before .before .before .before .before .before .before .before .before .loop .serviced; book = c .before .before .before .before .before .before .before .before .before .before .before .before .loop .book } in
-    let h : c .before .before .before .before .before .before .before .before .before .before .before .before .loop .next < c .before .before .before .before .before .before .before .before .before .before .before .before .before .before .before .before .args .count → c .before .before .before .before .before .before .before .before .before .before .capped .result ≡ c .before .before .before .before .before .before .before .before .before .before .before .before .loop .next = λ l. c .before .before .before .before .before .before .before .before .before .before .capped .ensures .0 (omega (arith, l, stored-sends r (c .before .before .before .before .before .before .before .before .before .before .before .before .before .before .before .before .pre .0) .0)) in
-    let o = sendAt r (c .before .before .before .before .before .before .before .before .before .before .capped .result) in
-    let d = due-here r p o (c .before .before .before .before .before .before .before .before .before .before .capped .result) h refl (sym (c .before .before .before .before .before .before .before .before .is-due .ensures) ∙ c .before .before .before .before .before .before .before .if1 .taken) in
-    let ok = stored-network r (c .before .before .before .before .before .before .before .before .before .before .before .before .before .before .before .before .pre .0) in
-    let val = valid-ok (c .before .before .before .before .before .before .before .before .before .before .before .before .before .before .before .before .args .network) ok in
-    let hs : c .before .before .before .before .before .before .wide .result < 16 = omega (arith, c .before .before .before .before .before .before .wide .ensures .0, ap (λ e. e .site) (d .1), due-site r p (c .before .before .before .before .before .before .before .before .before .before .before .before .before .before .before .before .pre .0) (d .0), val .few) in
+    let r = runWith (c .before .before .before .before .before .before .before .before .before .before .before .before .before .before .before .before .before .args .network) (c .before .before .before .before .before .before .before .before .before .before .before .before .before .before .before .before .before .args .t2) (c .before .before .before .before .before .before .before .before .before .before .before .before .before .before .before .before .before .args .count) (c .before .before .before .before .before .before .before .before .before .before .before .before .before .before .before .before .before .args .seed) (c .before .before .before .before .before .before .before .before .before .before .before .before .before .before .before .before .before .args .draws) in
+    let p : Progress = record { state = c .before .before .before .before .before .before .before .before .before .before .before .before .before .loop .state; value = c .before .before .before .before .before .before .before .before .before .before .before .before .before .loop .clock .value; next = c .before .before .before .before .before .before .before .before .before .before .before .before .before .loop .next; draw = c .before .before .before .before .before .before .before .before .before .before .before .before .before .loop .clock .draw; accepted = c .before .before .before .before .before .before .before .before .before .before .before .before .before .loop .accepted; pairs = c .before .before .before .before .before .before .before .before .before .before .before .before .before .loop .pairs; serviced = c .before .before .before .before .before .before .before .before .before .before .before .before .before .loop .serviced; book = c .before .before .before .before .before .before .before .before .before .before .before .before .before .loop .book } in
+    let h : c .before .before .before .before .before .before .before .before .before .before .before .before .before .loop .next < c .before .before .before .before .before .before .before .before .before .before .before .before .before .before .before .before .before .args .count → c .before .before .before .before .before .before .before .before .before .before .before .capped .result ≡ c .before .before .before .before .before .before .before .before .before .before .before .before .before .loop .next = λ l. c .before .before .before .before .before .before .before .before .before .before .before .capped .ensures .0 (omega (arith, l, stored-sends r (c .before .before .before .before .before .before .before .before .before .before .before .before .before .before .before .before .before .pre .0) .0)) in
+    let o = sendAt r (c .before .before .before .before .before .before .before .before .before .before .before .capped .result) in
+    let d = due-here r p o (c .before .before .before .before .before .before .before .before .before .before .before .capped .result) h refl (sym (c .before .before .before .before .before .before .before .before .before .is-due .ensures) ∙ c .before .before .before .before .before .before .before .before .if1 .taken) in
+    let ok = stored-network r (c .before .before .before .before .before .before .before .before .before .before .before .before .before .before .before .before .before .pre .0) in
+    let val = valid-ok (c .before .before .before .before .before .before .before .before .before .before .before .before .before .before .before .before .before .args .network) ok in
+    let hs : c .before .before .before .before .before .before .before .wide .result < 16 = omega (arith, c .before .before .before .before .before .before .before .wide .ensures .0, ap (λ e. e .site) (d .1), due-site r p (c .before .before .before .before .before .before .before .before .before .before .before .before .before .before .before .before .before .pre .0) (d .0), val .few) in
     omega (arith, hs)
 
 element-set-from-site : tie.Need-element-set-from-site Inv-loop μ-loop
 element-set-from-site c =
-    let r = runWith (c .before .before .before .before .before .before .before .before .before .before .before .before .before .before .before .before .args .network) (c .before .before .before .before .before .before .before .before .before .before .before .before .before .before .before .before .args .t2) (c .before .before .before .before .before .before .before .before .before .before .before .before .before .before .before .before .args .count) (c .before .before .before .before .before .before .before .before .before .before .before .before .before .before .before .before .args .seed) (c .before .before .before .before .before .before .before .before .before .before .before .before .before .before .before .before .args .draws) in
-    let p : Progress = record { state = c .before .before .before .before .before .before .before .before .before .before .before .before .loop .state; value = c .before .before .before .before .before .before .before .before .before .before .before .before .loop .clock .value; next = c .before .before .before .before .before .before .before .before .before .before .before .before .loop .next; draw = c .before .before .before .before .before .before .before .before .before .before .before .before .loop .clock .draw; accepted = c .before .before .before .before .before .before .before .before .before .before .before .before .loop .accepted; pairs = c .before .before .before .before .before .before .before .before .before .before .before .before .loop .pairs; serviced = c .before .before .before .before .before .before .before .before .before .before .before .before .loop .serviced; book = c .before .before .before .before .before .before .before .before .before .before .before .before .loop .book } in
-    let h : c .before .before .before .before .before .before .before .before .before .before .before .before .loop .next < c .before .before .before .before .before .before .before .before .before .before .before .before .before .before .before .before .args .count → c .before .before .before .before .before .before .before .before .before .before .capped .result ≡ c .before .before .before .before .before .before .before .before .before .before .before .before .loop .next = λ l. c .before .before .before .before .before .before .before .before .before .before .capped .ensures .0 (omega (arith, l, stored-sends r (c .before .before .before .before .before .before .before .before .before .before .before .before .before .before .before .before .pre .0) .0)) in
-    let o = sendAt r (c .before .before .before .before .before .before .before .before .before .before .capped .result) in
-    let d = due-here r p o (c .before .before .before .before .before .before .before .before .before .before .capped .result) h refl (sym (c .before .before .before .before .before .before .before .before .is-due .ensures) ∙ c .before .before .before .before .before .before .before .if1 .taken) in
-    let ok = stored-network r (c .before .before .before .before .before .before .before .before .before .before .before .before .before .before .before .before .pre .0) in
-    let val = valid-ok (c .before .before .before .before .before .before .before .before .before .before .before .before .before .before .before .before .args .network) ok in
-    let hs : c .before .before .before .before .before .before .wide .result < 16 = omega (arith, c .before .before .before .before .before .before .wide .ensures .0, ap (λ e. e .site) (d .1), due-site r p (c .before .before .before .before .before .before .before .before .before .before .before .before .before .before .before .before .pre .0) (d .0), val .few) in
+    let r = runWith (c .before .before .before .before .before .before .before .before .before .before .before .before .before .before .before .before .before .args .network) (c .before .before .before .before .before .before .before .before .before .before .before .before .before .before .before .before .before .args .t2) (c .before .before .before .before .before .before .before .before .before .before .before .before .before .before .before .before .before .args .count) (c .before .before .before .before .before .before .before .before .before .before .before .before .before .before .before .before .before .args .seed) (c .before .before .before .before .before .before .before .before .before .before .before .before .before .before .before .before .before .args .draws) in
+    let p : Progress = record { state = c .before .before .before .before .before .before .before .before .before .before .before .before .before .loop .state; value = c .before .before .before .before .before .before .before .before .before .before .before .before .before .loop .clock .value; next = c .before .before .before .before .before .before .before .before .before .before .before .before .before .loop .next; draw = c .before .before .before .before .before .before .before .before .before .before .before .before .before .loop .clock .draw; accepted = c .before .before .before .before .before .before .before .before .before .before .before .before .before .loop .accepted; pairs = c .before .before .before .before .before .before .before .before .before .before .before .before .before .loop .pairs; serviced = c .before .before .before .before .before .before .before .before .before .before .before .before .before .loop .serviced; book = c .before .before .before .before .before .before .before .before .before .before .before .before .before .loop .book } in
+    let h : c .before .before .before .before .before .before .before .before .before .before .before .before .before .loop .next < c .before .before .before .before .before .before .before .before .before .before .before .before .before .before .before .before .before .args .count → c .before .before .before .before .before .before .before .before .before .before .before .capped .result ≡ c .before .before .before .before .before .before .before .before .before .before .before .before .before .loop .next = λ l. c .before .before .before .before .before .before .before .before .before .before .before .capped .ensures .0 (omega (arith, l, stored-sends r (c .before .before .before .before .before .before .before .before .before .before .before .before .before .before .before .before .before .pre .0) .0)) in
+    let o = sendAt r (c .before .before .before .before .before .before .before .before .before .before .before .capped .result) in
+    let d = due-here r p o (c .before .before .before .before .before .before .before .before .before .before .before .capped .result) h refl (sym (c .before .before .before .before .before .before .before .before .before .is-due .ensures) ∙ c .before .before .before .before .before .before .before .before .if1 .taken) in
+    let ok = stored-network r (c .before .before .before .before .before .before .before .before .before .before .before .before .before .before .before .before .before .pre .0) in
+    let val = valid-ok (c .before .before .before .before .before .before .before .before .before .before .before .before .before .before .before .before .before .args .network) ok in
+    let hs : c .before .before .before .before .before .before .before .wide .result < 16 = omega (arith, c .before .before .before .before .before .before .before .wide .ensures .0, ap (λ e. e .site) (d .1), due-site r p (c .before .before .before .before .before .before .before .before .before .before .before .before .before .before .before .before .before .pre .0) (d .0), val .few) in
     hs
 
 add-state : tie.Need-add-state Inv-loop μ-loop
 add-state c =
-    let r = runWith (c .before .before .before .before .before .before .before .before .before .before .before .before .before .before .before .before .args .network) (c .before .before .before .before .before .before .before .before .before .before .before .before .before .before .before .before .args .t2) (c .before .before .before .before .before .before .before .before .before .before .before .before .before .before .before .before .args .count) (c .before .before .before .before .before .before .before .before .before .before .before .before .before .before .before .before .args .seed) (c .before .before .before .before .before .before .before .before .before .before .before .before .before .before .before .before .args .draws) in
-    let p : Progress = record { state = c .before .before .before .before .before .before .before .before .before .before .before .before .loop .state; value = c .before .before .before .before .before .before .before .before .before .before .before .before .loop .clock .value; next = c .before .before .before .before .before .before .before .before .before .before .before .before .loop .next; draw = c .before .before .before .before .before .before .before .before .before .before .before .before .loop .clock .draw; accepted = c .before .before .before .before .before .before .before .before .before .before .before .before .loop .accepted; pairs = c .before .before .before .before .before .before .before .before .before .before .before .before .loop .pairs; serviced = c .before .before .before .before .before .before .before .before .before .before .before .before .loop .serviced; book = c .before .before .before .before .before .before .before .before .before .before .before .before .loop .book } in
-    let h : c .before .before .before .before .before .before .before .before .before .before .before .before .loop .next < c .before .before .before .before .before .before .before .before .before .before .before .before .before .before .before .before .args .count → c .before .before .before .before .before .before .before .before .before .before .capped .result ≡ c .before .before .before .before .before .before .before .before .before .before .before .before .loop .next = λ l. c .before .before .before .before .before .before .before .before .before .before .capped .ensures .0 (omega (arith, l, stored-sends r (c .before .before .before .before .before .before .before .before .before .before .before .before .before .before .before .before .pre .0) .0)) in
-    let o = sendAt r (c .before .before .before .before .before .before .before .before .before .before .capped .result) in
-    let w = answer-room (r .network .sites) (r .network .depth) (p .state .counter) (siteAt (p .state .sites) (c .before .before .before .before .before .before .wide .result) .outgoing .count) (c .before .before .before .before .before .before .wide .result) (o .set) _ (sym (c .before .before .before .send-answer .ensures) ∙ c .before .enum-told .given .1) in
+    let r = runWith (c .before .before .before .before .before .before .before .before .before .before .before .before .before .before .before .before .before .args .network) (c .before .before .before .before .before .before .before .before .before .before .before .before .before .before .before .before .before .args .t2) (c .before .before .before .before .before .before .before .before .before .before .before .before .before .before .before .before .before .args .count) (c .before .before .before .before .before .before .before .before .before .before .before .before .before .before .before .before .before .args .seed) (c .before .before .before .before .before .before .before .before .before .before .before .before .before .before .before .before .before .args .draws) in
+    let p : Progress = record { state = c .before .before .before .before .before .before .before .before .before .before .before .before .before .loop .state; value = c .before .before .before .before .before .before .before .before .before .before .before .before .before .loop .clock .value; next = c .before .before .before .before .before .before .before .before .before .before .before .before .before .loop .next; draw = c .before .before .before .before .before .before .before .before .before .before .before .before .before .loop .clock .draw; accepted = c .before .before .before .before .before .before .before .before .before .before .before .before .before .loop .accepted; pairs = c .before .before .before .before .before .before .before .before .before .before .before .before .before .loop .pairs; serviced = c .before .before .before .before .before .before .before .before .before .before .before .before .before .loop .serviced; book = c .before .before .before .before .before .before .before .before .before .before .before .before .before .loop .book } in
+    let h : c .before .before .before .before .before .before .before .before .before .before .before .before .before .loop .next < c .before .before .before .before .before .before .before .before .before .before .before .before .before .before .before .before .before .args .count → c .before .before .before .before .before .before .before .before .before .before .before .capped .result ≡ c .before .before .before .before .before .before .before .before .before .before .before .before .before .loop .next = λ l. c .before .before .before .before .before .before .before .before .before .before .before .capped .ensures .0 (omega (arith, l, stored-sends r (c .before .before .before .before .before .before .before .before .before .before .before .before .before .before .before .before .before .pre .0) .0)) in
+    let o = sendAt r (c .before .before .before .before .before .before .before .before .before .before .before .capped .result) in
+    let w = answer-room (r .network .sites) (r .network .depth) (p .state .counter) (siteAt (p .state .sites) (c .before .before .before .before .before .before .before .wide .result) .outgoing .count) (c .before .before .before .before .before .before .before .wide .result) (o .set) _ (sym (c .before .before .before .before .send-answer .ensures) ∙ c .before .before .answer .given .1) in
     omega (arith, w .1)
 
 add-accepted : tie.Need-add-accepted Inv-loop μ-loop
 add-accepted c =
-    let r = runWith (c .before .before .before .before .before .before .before .before .before .before .before .before .before .before .before .before .args .network) (c .before .before .before .before .before .before .before .before .before .before .before .before .before .before .before .before .args .t2) (c .before .before .before .before .before .before .before .before .before .before .before .before .before .before .before .before .args .count) (c .before .before .before .before .before .before .before .before .before .before .before .before .before .before .before .before .args .seed) (c .before .before .before .before .before .before .before .before .before .before .before .before .before .before .before .before .args .draws) in
-    let p : Progress = record { state = c .before .before .before .before .before .before .before .before .before .before .before .before .loop .state; value = c .before .before .before .before .before .before .before .before .before .before .before .before .loop .clock .value; next = c .before .before .before .before .before .before .before .before .before .before .before .before .loop .next; draw = c .before .before .before .before .before .before .before .before .before .before .before .before .loop .clock .draw; accepted = c .before .before .before .before .before .before .before .before .before .before .before .before .loop .accepted; pairs = c .before .before .before .before .before .before .before .before .before .before .before .before .loop .pairs; serviced = c .before .before .before .before .before .before .before .before .before .before .before .before .loop .serviced; book = c .before .before .before .before .before .before .before .before .before .before .before .before .loop .book } in
-    let f = facts-of r _ (c .before .before .before .before .before .before .before .before .before .before .before .before .loop .turn) p (c .before .before .before .before .before .before .before .before .before .before .before .before .loop .inv .2) in
-    omega (arith, f .sends, f .accepted, stored-sends r (c .before .before .before .before .before .before .before .before .before .before .before .before .before .before .before .before .pre .0) .0)
+    let r = runWith (c .before .before .before .before .before .before .before .before .before .before .before .before .before .before .before .before .before .args .network) (c .before .before .before .before .before .before .before .before .before .before .before .before .before .before .before .before .before .args .t2) (c .before .before .before .before .before .before .before .before .before .before .before .before .before .before .before .before .before .args .count) (c .before .before .before .before .before .before .before .before .before .before .before .before .before .before .before .before .before .args .seed) (c .before .before .before .before .before .before .before .before .before .before .before .before .before .before .before .before .before .args .draws) in
+    let p : Progress = record { state = c .before .before .before .before .before .before .before .before .before .before .before .before .before .loop .state; value = c .before .before .before .before .before .before .before .before .before .before .before .before .before .loop .clock .value; next = c .before .before .before .before .before .before .before .before .before .before .before .before .before .loop .next; draw = c .before .before .before .before .before .before .before .before .before .before .before .before .before .loop .clock .draw; accepted = c .before .before .before .before .before .before .before .before .before .before .before .before .before .loop .accepted; pairs = c .before .before .before .before .before .before .before .before .before .before .before .before .before .loop .pairs; serviced = c .before .before .before .before .before .before .before .before .before .before .before .before .before .loop .serviced; book = c .before .before .before .before .before .before .before .before .before .before .before .before .before .loop .book } in
+    let f = facts-of r _ (c .before .before .before .before .before .before .before .before .before .before .before .before .before .loop .turn) p (c .before .before .before .before .before .before .before .before .before .before .before .before .before .loop .inv .2) in
+    omega (arith, f .sends, f .accepted, stored-sends r (c .before .before .before .before .before .before .before .before .before .before .before .before .before .before .before .before .before .pre .0) .0)
 
 size-requires : tie.Need-size-requires Inv-loop μ-loop
 size-requires c κs = search needs
 
 add-pairs : tie.Need-add-pairs Inv-loop μ-loop
 add-pairs c =
-    let r = runWith (c .before .before .before .before .before .before .before .before .before .before .before .before .before .before .before .before .before .args .network) (c .before .before .before .before .before .before .before .before .before .before .before .before .before .before .before .before .before .args .t2) (c .before .before .before .before .before .before .before .before .before .before .before .before .before .before .before .before .before .args .count) (c .before .before .before .before .before .before .before .before .before .before .before .before .before .before .before .before .before .args .seed) (c .before .before .before .before .before .before .before .before .before .before .before .before .before .before .before .before .before .args .draws) in
-    let p : Progress = record { state = c .before .before .before .before .before .before .before .before .before .before .before .before .before .loop .state; value = c .before .before .before .before .before .before .before .before .before .before .before .before .before .loop .clock .value; next = c .before .before .before .before .before .before .before .before .before .before .before .before .before .loop .next; draw = c .before .before .before .before .before .before .before .before .before .before .before .before .before .loop .clock .draw; accepted = c .before .before .before .before .before .before .before .before .before .before .before .before .before .loop .accepted; pairs = c .before .before .before .before .before .before .before .before .before .before .before .before .before .loop .pairs; serviced = c .before .before .before .before .before .before .before .before .before .before .before .before .before .loop .serviced; book = c .before .before .before .before .before .before .before .before .before .before .before .before .before .loop .book } in
-    let h : c .before .before .before .before .before .before .before .before .before .before .before .before .before .loop .next < c .before .before .before .before .before .before .before .before .before .before .before .before .before .before .before .before .before .args .count → c .before .before .before .before .before .before .before .before .before .before .before .capped .result ≡ c .before .before .before .before .before .before .before .before .before .before .before .before .before .loop .next = λ l. c .before .before .before .before .before .before .before .before .before .before .before .capped .ensures .0 (omega (arith, l, stored-sends r (c .before .before .before .before .before .before .before .before .before .before .before .before .before .before .before .before .before .pre .0) .0)) in
-    let o = sendAt r (c .before .before .before .before .before .before .before .before .before .before .before .capped .result) in
-    omega (arith, pairs-of r _ (c .before .before .before .before .before .before .before .before .before .before .before .before .before .loop .turn) p (c .before .before .before .before .before .before .before .before .before .before .before .before .before .loop .inv .2) (c .before .before .before .before .before .before .before .before .before .before .before .before .before .before .before .before .before .pre .0), size-most 64 (o .set), c .size .ensures)
+    let r = runWith (c .before .before .before .before .before .before .before .before .before .before .before .before .before .before .before .before .before .before .args .network) (c .before .before .before .before .before .before .before .before .before .before .before .before .before .before .before .before .before .before .args .t2) (c .before .before .before .before .before .before .before .before .before .before .before .before .before .before .before .before .before .before .args .count) (c .before .before .before .before .before .before .before .before .before .before .before .before .before .before .before .before .before .before .args .seed) (c .before .before .before .before .before .before .before .before .before .before .before .before .before .before .before .before .before .before .args .draws) in
+    let p : Progress = record { state = c .before .before .before .before .before .before .before .before .before .before .before .before .before .before .loop .state; value = c .before .before .before .before .before .before .before .before .before .before .before .before .before .before .loop .clock .value; next = c .before .before .before .before .before .before .before .before .before .before .before .before .before .before .loop .next; draw = c .before .before .before .before .before .before .before .before .before .before .before .before .before .before .loop .clock .draw; accepted = c .before .before .before .before .before .before .before .before .before .before .before .before .before .before .loop .accepted; pairs = c .before .before .before .before .before .before .before .before .before .before .before .before .before .before .loop .pairs; serviced = c .before .before .before .before .before .before .before .before .before .before .before .before .before .before .loop .serviced; book = c .before .before .before .before .before .before .before .before .before .before .before .before .before .before .loop .book } in
+    let h : c .before .before .before .before .before .before .before .before .before .before .before .before .before .before .loop .next < c .before .before .before .before .before .before .before .before .before .before .before .before .before .before .before .before .before .before .args .count → c .before .before .before .before .before .before .before .before .before .before .before .before .capped .result ≡ c .before .before .before .before .before .before .before .before .before .before .before .before .before .before .loop .next = λ l. c .before .before .before .before .before .before .before .before .before .before .before .before .capped .ensures .0 (omega (arith, l, stored-sends r (c .before .before .before .before .before .before .before .before .before .before .before .before .before .before .before .before .before .before .pre .0) .0)) in
+    let o = sendAt r (c .before .before .before .before .before .before .before .before .before .before .before .before .capped .result) in
+    omega (arith, pairs-of r _ (c .before .before .before .before .before .before .before .before .before .before .before .before .before .before .loop .turn) p (c .before .before .before .before .before .before .before .before .before .before .before .before .before .before .loop .inv .2) (c .before .before .before .before .before .before .before .before .before .before .before .before .before .before .before .before .before .before .pre .0), size-most 64 (o .set), c .size .ensures)
 
 loop-less-2 : tie.Need-loop-less-2 Inv-loop μ-loop
 loop-less-2 c = omega arith
 
 loop-again-2 : tie.Need-loop-again-2 Inv-loop μ-loop
 loop-again-2 c =
-    let r = runWith (c .before .before .before .before .before .before .before .before .before .before .before .before .before .before .before .before .before .args .network) (c .before .before .before .before .before .before .before .before .before .before .before .before .before .before .before .before .before .args .t2) (c .before .before .before .before .before .before .before .before .before .before .before .before .before .before .before .before .before .args .count) (c .before .before .before .before .before .before .before .before .before .before .before .before .before .before .before .before .before .args .seed) (c .before .before .before .before .before .before .before .before .before .before .before .before .before .before .before .before .before .args .draws) in
-    let p : Progress = record { state = c .before .before .before .before .before .before .before .before .before .before .before .before .before .loop .state; value = c .before .before .before .before .before .before .before .before .before .before .before .before .before .loop .clock .value; next = c .before .before .before .before .before .before .before .before .before .before .before .before .before .loop .next; draw = c .before .before .before .before .before .before .before .before .before .before .before .before .before .loop .clock .draw; accepted = c .before .before .before .before .before .before .before .before .before .before .before .before .before .loop .accepted; pairs = c .before .before .before .before .before .before .before .before .before .before .before .before .before .loop .pairs; serviced = c .before .before .before .before .before .before .before .before .before .before .before .before .before .loop .serviced; book = c .before .before .before .before .before .before .before .before .before .before .before .before .before .loop .book } in
-    let h : c .before .before .before .before .before .before .before .before .before .before .before .before .before .loop .next < c .before .before .before .before .before .before .before .before .before .before .before .before .before .before .before .before .before .args .count → c .before .before .before .before .before .before .before .before .before .before .before .capped .result ≡ c .before .before .before .before .before .before .before .before .before .before .before .before .before .loop .next = λ l. c .before .before .before .before .before .before .before .before .before .before .before .capped .ensures .0 (omega (arith, l, stored-sends r (c .before .before .before .before .before .before .before .before .before .before .before .before .before .before .before .before .before .pre .0) .0)) in
-    let o = sendAt r (c .before .before .before .before .before .before .before .before .before .before .before .capped .result) in
-    let d = due-here r p o (c .before .before .before .before .before .before .before .before .before .before .before .capped .result) h refl (sym (c .before .before .before .before .before .before .before .before .before .is-due .ensures) ∙ c .before .before .before .before .before .before .before .before .if1 .taken) in
-    let g = sym (rw (c .before .before .before .before .before .before .before .wide .ensures .0) at (c .before .before .before .before .send-answer .ensures)) ∙ c .before .before .enum-told .given .1 in
-    (omega arith, c .before .before .before .before .before .before .before .before .before .before .before .before .before .loop .inv .1, one-turn r _ (c .before .before .before .before .before .before .before .before .before .before .before .before .before .loop .turn) p _ (c .before .before .before .before .before .before .before .before .before .before .before .before .before .loop .inv .2) (rw (c .before .push-out .ensures, c .size .ensures, c .before .before .before .before .before .before .before .wide .ensures .0) (taken-up r p o (d .0) (d .1) _ g)))
+    let r = runWith (c .before .before .before .before .before .before .before .before .before .before .before .before .before .before .before .before .before .before .args .network) (c .before .before .before .before .before .before .before .before .before .before .before .before .before .before .before .before .before .before .args .t2) (c .before .before .before .before .before .before .before .before .before .before .before .before .before .before .before .before .before .before .args .count) (c .before .before .before .before .before .before .before .before .before .before .before .before .before .before .before .before .before .before .args .seed) (c .before .before .before .before .before .before .before .before .before .before .before .before .before .before .before .before .before .before .args .draws) in
+    let p : Progress = record { state = c .before .before .before .before .before .before .before .before .before .before .before .before .before .before .loop .state; value = c .before .before .before .before .before .before .before .before .before .before .before .before .before .before .loop .clock .value; next = c .before .before .before .before .before .before .before .before .before .before .before .before .before .before .loop .next; draw = c .before .before .before .before .before .before .before .before .before .before .before .before .before .before .loop .clock .draw; accepted = c .before .before .before .before .before .before .before .before .before .before .before .before .before .before .loop .accepted; pairs = c .before .before .before .before .before .before .before .before .before .before .before .before .before .before .loop .pairs; serviced = c .before .before .before .before .before .before .before .before .before .before .before .before .before .before .loop .serviced; book = c .before .before .before .before .before .before .before .before .before .before .before .before .before .before .loop .book } in
+    let h : c .before .before .before .before .before .before .before .before .before .before .before .before .before .before .loop .next < c .before .before .before .before .before .before .before .before .before .before .before .before .before .before .before .before .before .before .args .count → c .before .before .before .before .before .before .before .before .before .before .before .before .capped .result ≡ c .before .before .before .before .before .before .before .before .before .before .before .before .before .before .loop .next = λ l. c .before .before .before .before .before .before .before .before .before .before .before .before .capped .ensures .0 (omega (arith, l, stored-sends r (c .before .before .before .before .before .before .before .before .before .before .before .before .before .before .before .before .before .before .pre .0) .0)) in
+    let o = sendAt r (c .before .before .before .before .before .before .before .before .before .before .before .before .capped .result) in
+    let d = due-here r p o (c .before .before .before .before .before .before .before .before .before .before .before .before .capped .result) h refl (sym (c .before .before .before .before .before .before .before .before .before .before .is-due .ensures) ∙ c .before .before .before .before .before .before .before .before .before .if1 .taken) in
+    let g = sym (rw (c .before .before .before .before .before .before .before .before .wide .ensures .0) at (c .before .before .before .before .before .send-answer .ensures)) ∙ c .before .before .before .answer .given .1 in
+    (omega arith, c .before .before .before .before .before .before .before .before .before .before .before .before .before .before .loop .inv .1, one-turn r _ (c .before .before .before .before .before .before .before .before .before .before .before .before .before .before .loop .turn) p _ (c .before .before .before .before .before .before .before .before .before .before .before .before .before .before .loop .inv .2) (rw (c .before .push-out .ensures, c .size .ensures, c .before .before .before .before .before .before .before .before .wide .ensures .0) (taken-up r p o (d .0) (d .1) _ g)))
 
 draw-requires : tie.Need-draw-requires Inv-loop μ-loop
 draw-requires c κs = search needs
@@ -481,8 +479,8 @@ step-requires c κs =
     let nm = named-below r p (c .before .before .before .before .before .before .before .before .before .before .before .before .before .before .before .before .before .before .before .before .before .before .before .before .before .before .draw .result) (c .before .before .before .before .before .before .before .before .before .before .before .before .before .before .before .before .before .before .before .before .before .before .before .before .before .event-of .result) ok (c .before .before .before .before .before .before .before .before .before .before .before .before .before .before .before .before .before .before .before .before .before .before .before .before .before .event-of .ensures) in
     range-runnable (c .before .before .before .before .before .before .before .before .before .before .before .before .before .before .before .before .before .before .before .before .before .before .before .before .before .before .before .before .before .before .before .before .before .before .before .before .args .network) val (c .before .before .before .before .before .before .before .before .before .before .before .before .before .before .before .before .before .before .before .before .before .before .before .before .before .before .before .before .before .before .before .before .loop .state) (in-range-of r _ (c .before .before .before .before .before .before .before .before .before .before .before .before .before .before .before .before .before .before .before .before .before .before .before .before .before .before .before .before .before .before .before .before .before .before .before .before .pre .0) (c .before .before .before .before .before .before .before .before .before .before .before .before .before .before .before .before .before .before .before .before .before .before .before .before .before .before .before .before .before .before .before .before .loop .turn) p (c .before .before .before .before .before .before .before .before .before .before .before .before .before .before .before .before .before .before .before .before .before .before .before .before .before .before .before .before .before .before .before .before .loop .inv .2)) (c .before .before .before .before .before .before .before .before .before .before .before .before .before .before .before .before .before .before .before .before .before .before .before .before .before .event-of .result .site) (nm .0)
 
-enum-told-3 : tie.Need-enum-told-3 Inv-loop μ-loop
-enum-told-3 c = search needs
+enum-told-2 : tie.Need-enum-told-2 Inv-loop μ-loop
+enum-told-2 c = search needs
 
 loop-less-5 : tie.Need-loop-less-5 Inv-loop μ-loop
 loop-less-5 c = omega (arith, c .before .before .before .before .before .before .before .before .before .before .before .before .before .before .before .before .before .before .before .before .before .before .before .before .before .before .before .before .before .before .before .before .before .before .before .before .loop-test .taken)
@@ -499,10 +497,10 @@ loop-again-5 c =
     let nm = named-below r p (c .before .before .before .before .before .before .before .before .before .before .before .before .before .before .before .before .before .before .before .before .before .before .before .before .before .before .before .before .before .before .before .draw .result) (c .before .before .before .before .before .before .before .before .before .before .before .before .before .before .before .before .before .before .before .before .before .before .before .before .before .before .before .before .before .before .event-of .result) ok (c .before .before .before .before .before .before .before .before .before .before .before .before .before .before .before .before .before .before .before .before .before .before .before .before .before .before .before .before .before .before .event-of .ensures) in
     let far = c .before .before .before .before .before .before .before .before .before .before .before .before .before .before .before .before .before .before .before .before .before .before .end-input .result ∷ c .before .before .before .before .before .before .before .before .before .before .before .before .before .before .before .before .before .before .end-input2 .result ∷ c .before .before .before .before .before .before .before .before .before .before .before .before .before .before .end-input3 .result ∷ c .before .before .before .before .before .before .before .before .before .before .end-input4 .result ∷ [] in
     let fr = far-read (c .before .before .before .before .before .before .before .before .before .before .before .before .before .before .before .before .before .before .before .before .before .before .before .before .before .before .before .before .before .before .before .before .before .before .before .before .before .before .before .before .before .args .network) val (c .before .before .before .before .before .before .before .before .before .before .before .before .before .before .before .before .before .before .before .before .before .before .before .before .before .before .before .before .before .before .before .before .before .before .before .before .before .loop .state .sites) (c .before .before .before .before .before .before .before .before .before .before .before .before .before .before .before .before .before .before .before .before .before .before .before .before .before .before .before .before .before .before .event-of .result .site) (nm .0) (c .before .before .before .before .before .before .before .before .before .before .before .before .before .before .before .before .before .before .before .before .before .before .before .before .before .end-site .result) (c .before .before .before .before .before .before .before .before .before .before .before .before .before .before .before .before .before .before .before .before .before .end-site2 .result) (c .before .before .before .before .before .before .before .before .before .before .before .before .before .before .before .before .before .end-site3 .result) (c .before .before .before .before .before .before .before .before .before .before .before .before .before .end-site4 .result) (c .before .before .before .before .before .before .before .before .before .before .before .before .before .before .before .before .before .before .before .before .before .before .end-input .result) (c .before .before .before .before .before .before .before .before .before .before .before .before .before .before .before .before .before .before .end-input2 .result) (c .before .before .before .before .before .before .before .before .before .before .before .before .before .before .end-input3 .result) (c .before .before .before .before .before .before .before .before .before .before .end-input4 .result) (c .before .before .before .before .before .before .before .before .before .before .before .before .before .before .before .before .before .before .before .before .before .before .before .before .before .end-site .ensures .0) (c .before .before .before .before .before .before .before .before .before .before .before .before .before .before .before .before .before .before .before .before .before .end-site2 .ensures .0) (c .before .before .before .before .before .before .before .before .before .before .before .before .before .before .before .before .before .end-site3 .ensures .0) (c .before .before .before .before .before .before .before .before .before .before .before .before .before .end-site4 .ensures .0) (c .before .before .before .before .before .before .before .before .before .before .before .before .before .before .before .before .before .before .before .before .before .before .end-input .ensures) (c .before .before .before .before .before .before .before .before .before .before .before .before .before .before .before .before .before .before .end-input2 .ensures) (c .before .before .before .before .before .before .before .before .before .before .before .before .before .before .end-input3 .ensures) (c .before .before .before .before .before .before .before .before .before .before .end-input4 .ensures) in
-    (omega (arith, c .before .before .before .before .before .before .before .before .before .before .before .before .before .before .before .before .before .before .before .before .before .before .before .before .before .before .before .before .before .before .before .before .before .before .before .before .loop-test .taken), c .before .before .before .before .before .before .before .before .before .before .before .before .before .before .before .before .before .before .before .before .before .before .before .before .before .before .before .before .before .before .before .before .before .before .before .before .before .loop .inv .1, one-turn r _ (c .before .before .before .before .before .before .before .before .before .before .before .before .before .before .before .before .before .before .before .before .before .before .before .before .before .before .before .before .before .before .before .before .before .before .before .before .before .loop .turn) p _ (c .before .before .before .before .before .before .before .before .before .before .before .before .before .before .before .before .before .before .before .before .before .before .before .before .before .before .before .before .before .before .before .before .before .before .before .before .before .loop .inv .2) (rw (c .before .before .before .before .before .before .before .before .before .before .before .before .before .before .before .before .before .before .before .before .before .before .before .before .before .before .before .before .before .ticked .ensures) (did-nothing r p (c .before .before .before .before .before .before .before .before .before .before .before .before .before .before .before .before .before .before .before .before .before .before .before .before .before .before .before .before .before .before .before .draw .result) (c .before .before .before .before .before .before .before .before .before .before .before .before .before .before .before .before .before .before .before .before .before .before .before .before .before .before .before .before .before .before .event-of .result) ok t (c .before .before .before .before .before .before .before .before .before .before .before .before .before .before .before .before .before .before .before .before .before .before .before .before .before .before .before .before .before .before .before .draw .ensures) (c .before .before .before .before .before .before .before .before .before .before .before .before .before .before .before .before .before .before .before .before .before .before .before .before .before .before .before .before .before .before .event-of .ensures) far (c .before .before .before .before .step .result) fr (c .before .before .before .before .step .ensures) (c .enum-told3 .given .1))))
+    (omega (arith, c .before .before .before .before .before .before .before .before .before .before .before .before .before .before .before .before .before .before .before .before .before .before .before .before .before .before .before .before .before .before .before .before .before .before .before .before .loop-test .taken), c .before .before .before .before .before .before .before .before .before .before .before .before .before .before .before .before .before .before .before .before .before .before .before .before .before .before .before .before .before .before .before .before .before .before .before .before .before .loop .inv .1, one-turn r _ (c .before .before .before .before .before .before .before .before .before .before .before .before .before .before .before .before .before .before .before .before .before .before .before .before .before .before .before .before .before .before .before .before .before .before .before .before .before .loop .turn) p _ (c .before .before .before .before .before .before .before .before .before .before .before .before .before .before .before .before .before .before .before .before .before .before .before .before .before .before .before .before .before .before .before .before .before .before .before .before .before .loop .inv .2) (rw (c .before .before .before .before .before .before .before .before .before .before .before .before .before .before .before .before .before .before .before .before .before .before .before .before .before .before .before .before .before .ticked .ensures) (did-nothing r p (c .before .before .before .before .before .before .before .before .before .before .before .before .before .before .before .before .before .before .before .before .before .before .before .before .before .before .before .before .before .before .before .draw .result) (c .before .before .before .before .before .before .before .before .before .before .before .before .before .before .before .before .before .before .before .before .before .before .before .before .before .before .before .before .before .before .event-of .result) ok t (c .before .before .before .before .before .before .before .before .before .before .before .before .before .before .before .before .before .before .before .before .before .before .before .before .before .before .before .before .before .before .before .draw .ensures) (c .before .before .before .before .before .before .before .before .before .before .before .before .before .before .before .before .before .before .before .before .before .before .before .before .before .before .before .before .before .before .event-of .ensures) far (c .before .before .before .before .step .result) fr (c .before .before .before .before .step .ensures) (c .enum-told2 .given .1))))
 
-enum-told-4 : tie.Need-enum-told-4 Inv-loop μ-loop
-enum-told-4 c = search needs
+enum-told-3 : tie.Need-enum-told-3 Inv-loop μ-loop
+enum-told-3 c = search needs
 
 mul-after : tie.Need-mul-after Inv-loop μ-loop
 mul-after c =
@@ -537,7 +535,7 @@ loop-again-6 c =
     let nm = named-below r p (c .before .before .before .before .before .before .before .before .before .before .before .before .before .before .before .before .before .before .before .before .before .before .before .before .before .before .before .before .before .before .before .draw .result) (c .before .before .before .before .before .before .before .before .before .before .before .before .before .before .before .before .before .before .before .before .before .before .before .before .before .before .before .before .before .before .event-of .result) ok (c .before .before .before .before .before .before .before .before .before .before .before .before .before .before .before .before .before .before .before .before .before .before .before .before .before .before .before .before .before .before .event-of .ensures) in
     let far = c .before .before .before .before .before .before .before .before .before .before .before .before .before .before .before .before .before .before .before .before .before .before .end-input .result ∷ c .before .before .before .before .before .before .before .before .before .before .before .before .before .before .before .before .before .before .end-input2 .result ∷ c .before .before .before .before .before .before .before .before .before .before .before .before .before .before .end-input3 .result ∷ c .before .before .before .before .before .before .before .before .before .before .end-input4 .result ∷ [] in
     let fr = far-read (c .before .before .before .before .before .before .before .before .before .before .before .before .before .before .before .before .before .before .before .before .before .before .before .before .before .before .before .before .before .before .before .before .before .before .before .before .before .before .before .before .before .args .network) val (c .before .before .before .before .before .before .before .before .before .before .before .before .before .before .before .before .before .before .before .before .before .before .before .before .before .before .before .before .before .before .before .before .before .before .before .before .before .loop .state .sites) (c .before .before .before .before .before .before .before .before .before .before .before .before .before .before .before .before .before .before .before .before .before .before .before .before .before .before .before .before .before .before .event-of .result .site) (nm .0) (c .before .before .before .before .before .before .before .before .before .before .before .before .before .before .before .before .before .before .before .before .before .before .before .before .before .end-site .result) (c .before .before .before .before .before .before .before .before .before .before .before .before .before .before .before .before .before .before .before .before .before .end-site2 .result) (c .before .before .before .before .before .before .before .before .before .before .before .before .before .before .before .before .before .end-site3 .result) (c .before .before .before .before .before .before .before .before .before .before .before .before .before .end-site4 .result) (c .before .before .before .before .before .before .before .before .before .before .before .before .before .before .before .before .before .before .before .before .before .before .end-input .result) (c .before .before .before .before .before .before .before .before .before .before .before .before .before .before .before .before .before .before .end-input2 .result) (c .before .before .before .before .before .before .before .before .before .before .before .before .before .before .end-input3 .result) (c .before .before .before .before .before .before .before .before .before .before .end-input4 .result) (c .before .before .before .before .before .before .before .before .before .before .before .before .before .before .before .before .before .before .before .before .before .before .before .before .before .end-site .ensures .0) (c .before .before .before .before .before .before .before .before .before .before .before .before .before .before .before .before .before .before .before .before .before .end-site2 .ensures .0) (c .before .before .before .before .before .before .before .before .before .before .before .before .before .before .before .before .before .end-site3 .ensures .0) (c .before .before .before .before .before .before .before .before .before .before .before .before .before .end-site4 .ensures .0) (c .before .before .before .before .before .before .before .before .before .before .before .before .before .before .before .before .before .before .before .before .before .before .end-input .ensures) (c .before .before .before .before .before .before .before .before .before .before .before .before .before .before .before .before .before .before .end-input2 .ensures) (c .before .before .before .before .before .before .before .before .before .before .before .before .before .before .end-input3 .ensures) (c .before .before .before .before .before .before .before .before .before .before .end-input4 .ensures) in
-    (omega (arith, c .before .before .before .before .before .before .before .before .before .before .before .before .before .before .before .before .before .before .before .before .before .before .before .before .before .before .before .before .before .before .before .before .before .before .before .before .loop-test .taken), c .before .before .before .before .before .before .before .before .before .before .before .before .before .before .before .before .before .before .before .before .before .before .before .before .before .before .before .before .before .before .before .before .before .before .before .before .before .loop .inv .1, one-turn r _ (c .before .before .before .before .before .before .before .before .before .before .before .before .before .before .before .before .before .before .before .before .before .before .before .before .before .before .before .before .before .before .before .before .before .before .before .before .before .loop .turn) p _ (c .before .before .before .before .before .before .before .before .before .before .before .before .before .before .before .before .before .before .before .before .before .before .before .before .before .before .before .before .before .before .before .before .before .before .before .before .before .loop .inv .2) (rw (c .before .before .before .before .before .before .before .before .before .before .before .before .before .before .before .before .before .before .before .before .before .before .before .before .before .before .before .before .before .ticked .ensures) (did-own r p (c .before .before .before .before .before .before .before .before .before .before .before .before .before .before .before .before .before .before .before .before .before .before .before .before .before .before .before .before .before .before .before .draw .result) (c .before .before .before .before .before .before .before .before .before .before .before .before .before .before .before .before .before .before .before .before .before .before .before .before .before .before .before .before .before .before .event-of .result) ok t (c .before .before .before .before .before .before .before .before .before .before .before .before .before .before .before .before .before .before .before .before .before .before .before .before .before .before .before .before .before .before .before .draw .ensures) (c .before .before .before .before .before .before .before .before .before .before .before .before .before .before .before .before .before .before .before .before .before .before .before .before .before .before .before .before .before .before .event-of .ensures) far (c .before .before .before .before .step .result) fr (c .before .before .before .before .step .ensures) (c .enum-told4 .given .1))))
+    (omega (arith, c .before .before .before .before .before .before .before .before .before .before .before .before .before .before .before .before .before .before .before .before .before .before .before .before .before .before .before .before .before .before .before .before .before .before .before .before .loop-test .taken), c .before .before .before .before .before .before .before .before .before .before .before .before .before .before .before .before .before .before .before .before .before .before .before .before .before .before .before .before .before .before .before .before .before .before .before .before .before .loop .inv .1, one-turn r _ (c .before .before .before .before .before .before .before .before .before .before .before .before .before .before .before .before .before .before .before .before .before .before .before .before .before .before .before .before .before .before .before .before .before .before .before .before .before .loop .turn) p _ (c .before .before .before .before .before .before .before .before .before .before .before .before .before .before .before .before .before .before .before .before .before .before .before .before .before .before .before .before .before .before .before .before .before .before .before .before .before .loop .inv .2) (rw (c .before .before .before .before .before .before .before .before .before .before .before .before .before .before .before .before .before .before .before .before .before .before .before .before .before .before .before .before .before .ticked .ensures) (did-own r p (c .before .before .before .before .before .before .before .before .before .before .before .before .before .before .before .before .before .before .before .before .before .before .before .before .before .before .before .before .before .before .before .draw .result) (c .before .before .before .before .before .before .before .before .before .before .before .before .before .before .before .before .before .before .before .before .before .before .before .before .before .before .before .before .before .before .event-of .result) ok t (c .before .before .before .before .before .before .before .before .before .before .before .before .before .before .before .before .before .before .before .before .before .before .before .before .before .before .before .before .before .before .before .draw .ensures) (c .before .before .before .before .before .before .before .before .before .before .before .before .before .before .before .before .before .before .before .before .before .before .before .before .before .before .before .before .before .before .event-of .ensures) far (c .before .before .before .before .step .result) fr (c .before .before .before .before .step .ensures) (c .enum-told3 .given .1))))
 
 enum-known-act : tie.Need-enum-known-act Inv-loop μ-loop
 enum-known-act c = search needs
@@ -624,8 +622,8 @@ loop-again-8 c =
     let fr = far-read (c .before .before .before .before .before .before .before .before .before .before .before .before .before .before .before .before .before .before .before .before .before .before .before .before .before .before .before .before .before .before .before .before .before .before .before .before .before .before .before .before .before .before .before .before .before .before .before .args .network) val (c .before .before .before .before .before .before .before .before .before .before .before .before .before .before .before .before .before .before .before .before .before .before .before .before .before .before .before .before .before .before .before .before .before .before .before .before .before .before .before .before .before .before .before .loop .state .sites) (c .before .before .before .before .before .before .before .before .before .before .before .before .before .before .before .before .before .before .before .before .before .before .before .before .before .before .before .before .before .before .before .before .before .before .before .before .event-of .result .site) (nm .0) (c .before .before .before .before .before .before .before .before .before .before .before .before .before .before .before .before .before .before .before .before .before .before .before .before .before .before .before .before .before .before .before .end-site .result) (c .before .before .before .before .before .before .before .before .before .before .before .before .before .before .before .before .before .before .before .before .before .before .before .before .before .before .before .end-site2 .result) (c .before .before .before .before .before .before .before .before .before .before .before .before .before .before .before .before .before .before .before .before .before .before .before .end-site3 .result) (c .before .before .before .before .before .before .before .before .before .before .before .before .before .before .before .before .before .before .before .end-site4 .result) (c .before .before .before .before .before .before .before .before .before .before .before .before .before .before .before .before .before .before .before .before .before .before .before .before .before .before .before .before .end-input .result) (c .before .before .before .before .before .before .before .before .before .before .before .before .before .before .before .before .before .before .before .before .before .before .before .before .end-input2 .result) (c .before .before .before .before .before .before .before .before .before .before .before .before .before .before .before .before .before .before .before .before .end-input3 .result) (c .before .before .before .before .before .before .before .before .before .before .before .before .before .before .before .before .end-input4 .result) (c .before .before .before .before .before .before .before .before .before .before .before .before .before .before .before .before .before .before .before .before .before .before .before .before .before .before .before .before .before .before .before .end-site .ensures .0) (c .before .before .before .before .before .before .before .before .before .before .before .before .before .before .before .before .before .before .before .before .before .before .before .before .before .before .before .end-site2 .ensures .0) (c .before .before .before .before .before .before .before .before .before .before .before .before .before .before .before .before .before .before .before .before .before .before .before .end-site3 .ensures .0) (c .before .before .before .before .before .before .before .before .before .before .before .before .before .before .before .before .before .before .before .end-site4 .ensures .0) (c .before .before .before .before .before .before .before .before .before .before .before .before .before .before .before .before .before .before .before .before .before .before .before .before .before .before .before .before .end-input .ensures) (c .before .before .before .before .before .before .before .before .before .before .before .before .before .before .before .before .before .before .before .before .before .before .before .before .end-input2 .ensures) (c .before .before .before .before .before .before .before .before .before .before .before .before .before .before .before .before .before .before .before .before .end-input3 .ensures) (c .before .before .before .before .before .before .before .before .before .before .before .before .before .before .before .before .end-input4 .ensures) in
     (omega (arith, c .before .before .before .before .before .before .before .before .before .before .before .before .before .before .before .before .before .before .before .before .before .before .before .before .before .before .before .before .before .before .before .before .before .before .before .before .before .before .before .before .before .before .loop-test .taken), c .before .before .before .before .before .before .before .before .before .before .before .before .before .before .before .before .before .before .before .before .before .before .before .before .before .before .before .before .before .before .before .before .before .before .before .before .before .before .before .before .before .before .before .loop .inv .1, one-turn r _ (c .before .before .before .before .before .before .before .before .before .before .before .before .before .before .before .before .before .before .before .before .before .before .before .before .before .before .before .before .before .before .before .before .before .before .before .before .before .before .before .before .before .before .before .loop .turn) p _ (c .before .before .before .before .before .before .before .before .before .before .before .before .before .before .before .before .before .before .before .before .before .before .before .before .before .before .before .before .before .before .before .before .before .before .before .before .before .before .before .before .before .before .before .loop .inv .2) (rw (c .before .before .before .before .before .before .before .before .before .before .before .before .before .before .before .before .before .before .before .before .before .before .before .before .before .before .before .before .before .before .before .before .before .before .before .ticked .ensures) (rw (c .before .before .enter .ensures) (did-serve r p (c .before .before .before .before .before .before .before .before .before .before .before .before .before .before .before .before .before .before .before .before .before .before .before .before .before .before .before .before .before .before .before .before .before .before .before .before .before .draw .result) (c .before .before .before .before .before .before .before .before .before .before .before .before .before .before .before .before .before .before .before .before .before .before .before .before .before .before .before .before .before .before .before .before .before .before .before .before .event-of .result) ok t (c .before .before .before .before .before .before .before .before .before .before .before .before .before .before .before .before .before .before .before .before .before .before .before .before .before .before .before .before .before .before .before .before .before .before .before .before .before .draw .ensures) (c .before .before .before .before .before .before .before .before .before .before .before .before .before .before .before .before .before .before .before .before .before .before .before .before .before .before .before .before .before .before .before .before .before .before .before .before .event-of .ensures) far (c .before .before .before .before .before .before .before .before .before .before .step .result) fr (c .before .before .before .before .before .before .before .before .before .before .step .ensures) _ (c .before .before .before .before .before .before .act .given .1) (c .before .before .before .before .if4 .left)))))
 
-enum-told-5 : tie.Need-enum-told-5 Inv-loop μ-loop
-enum-told-5 c = search needs
+enum-told-4 : tie.Need-enum-told-4 Inv-loop μ-loop
+enum-told-4 c = search needs
 
 mul-after-3 : tie.Need-mul-after-3 Inv-loop μ-loop
 mul-after-3 c =
@@ -653,7 +651,7 @@ cast-u c =
     let val = valid-ok (c .before .before .before .before .before .before .before .before .before .before .before .before .before .before .before .before .before .before .before .before .before .before .before .before .before .before .before .before .before .before .before .before .before .before .before .before .before .before .before .before .before .args .network) ok in
     let nm = named-below r p (c .before .before .before .before .before .before .before .before .before .before .before .before .before .before .before .before .before .before .before .before .before .before .before .before .before .before .before .before .before .before .before .draw .result) (c .before .before .before .before .before .before .before .before .before .before .before .before .before .before .before .before .before .before .before .before .before .before .before .before .before .before .before .before .before .before .event-of .result) ok (c .before .before .before .before .before .before .before .before .before .before .before .before .before .before .before .before .before .before .before .before .before .before .before .before .before .before .before .before .before .before .event-of .ensures) in
     let pa : Passable (c .before .before .before .before .step .result) = rw (c .before .before .before .before .step .ensures) (act-passable (c .before .before .before .before .before .before .before .before .before .before .before .before .before .before .before .before .before .before .before .before .before .before .before .before .before .before .before .before .before .before .before .before .before .before .before .before .before .before .before .before .before .args .network) val (c .before .before .before .before .before .before .before .before .before .before .before .before .before .before .before .before .before .before .before .before .before .before .before .before .before .before .before .before .before .before .event-of .result .site) (siteAt (c .before .before .before .before .before .before .before .before .before .before .before .before .before .before .before .before .before .before .before .before .before .before .before .before .before .before .before .before .before .before .before .before .before .before .before .before .before .loop .state .sites) (c .before .before .before .before .before .before .before .before .before .before .before .before .before .before .before .before .before .before .before .before .before .before .before .before .before .before .before .before .before .before .event-of .result .site)) (nm .0) (farAt (c .before .before .before .before .before .before .before .before .before .before .before .before .before .before .before .before .before .before .before .before .before .before .end-input .result ∷ c .before .before .before .before .before .before .before .before .before .before .before .before .before .before .before .before .before .before .end-input2 .result ∷ c .before .before .before .before .before .before .before .before .before .before .before .before .before .before .end-input3 .result ∷ c .before .before .before .before .before .before .before .before .before .before .end-input4 .result ∷ [])) (c .before .before .before .before .before .before .before .before .before .before .before .before .before .before .before .before .before .before .before .before .before .before .before .before .before .before .before .before .before .before .event-of .result .code)) in
-    let small : c .before .before .before .before .step .result .byte < 64 = pa (rw (c .enum-told5 .given .1) refl) in
+    let small : c .before .before .before .before .step .result .byte < 64 = pa (rw (c .enum-told4 .given .1) refl) in
     omega (arith, small)
 
 cast-k : tie.Need-cast-k Inv-loop μ-loop
@@ -664,7 +662,7 @@ cast-k c =
     let val = valid-ok (c .before .before .before .before .before .before .before .before .before .before .before .before .before .before .before .before .before .before .before .before .before .before .before .before .before .before .before .before .before .before .before .before .before .before .before .before .before .before .before .before .before .args .network) ok in
     let nm = named-below r p (c .before .before .before .before .before .before .before .before .before .before .before .before .before .before .before .before .before .before .before .before .before .before .before .before .before .before .before .before .before .before .before .draw .result) (c .before .before .before .before .before .before .before .before .before .before .before .before .before .before .before .before .before .before .before .before .before .before .before .before .before .before .before .before .before .before .event-of .result) ok (c .before .before .before .before .before .before .before .before .before .before .before .before .before .before .before .before .before .before .before .before .before .before .before .before .before .before .before .before .before .before .event-of .ensures) in
     let pa : Passable (c .before .before .before .before .step .result) = rw (c .before .before .before .before .step .ensures) (act-passable (c .before .before .before .before .before .before .before .before .before .before .before .before .before .before .before .before .before .before .before .before .before .before .before .before .before .before .before .before .before .before .before .before .before .before .before .before .before .before .before .before .before .args .network) val (c .before .before .before .before .before .before .before .before .before .before .before .before .before .before .before .before .before .before .before .before .before .before .before .before .before .before .before .before .before .before .event-of .result .site) (siteAt (c .before .before .before .before .before .before .before .before .before .before .before .before .before .before .before .before .before .before .before .before .before .before .before .before .before .before .before .before .before .before .before .before .before .before .before .before .before .loop .state .sites) (c .before .before .before .before .before .before .before .before .before .before .before .before .before .before .before .before .before .before .before .before .before .before .before .before .before .before .before .before .before .before .event-of .result .site)) (nm .0) (farAt (c .before .before .before .before .before .before .before .before .before .before .before .before .before .before .before .before .before .before .before .before .before .before .end-input .result ∷ c .before .before .before .before .before .before .before .before .before .before .before .before .before .before .before .before .before .before .end-input2 .result ∷ c .before .before .before .before .before .before .before .before .before .before .before .before .before .before .end-input3 .result ∷ c .before .before .before .before .before .before .before .before .before .before .end-input4 .result ∷ [])) (c .before .before .before .before .before .before .before .before .before .before .before .before .before .before .before .before .before .before .before .before .before .before .before .before .before .before .before .before .before .before .event-of .result .code)) in
-    let small : c .before .before .before .before .step .result .byte < 64 = pa (rw (c .enum-told5 .given .1) refl) in
+    let small : c .before .before .before .before .step .result .byte < 64 = pa (rw (c .enum-told4 .given .1) refl) in
     omega (arith, small)
 
 add-k : tie.Need-add-k Inv-loop μ-loop
@@ -675,7 +673,7 @@ add-k c =
     let val = valid-ok (c .before .before .before .before .before .before .before .before .before .before .before .before .before .before .before .before .before .before .before .before .before .before .before .before .before .before .before .before .before .before .before .before .before .before .before .before .before .before .before .before .before .args .network) ok in
     let nm = named-below r p (c .before .before .before .before .before .before .before .before .before .before .before .before .before .before .before .before .before .before .before .before .before .before .before .before .before .before .before .before .before .before .before .draw .result) (c .before .before .before .before .before .before .before .before .before .before .before .before .before .before .before .before .before .before .before .before .before .before .before .before .before .before .before .before .before .before .event-of .result) ok (c .before .before .before .before .before .before .before .before .before .before .before .before .before .before .before .before .before .before .before .before .before .before .before .before .before .before .before .before .before .before .event-of .ensures) in
     let pa : Passable (c .before .before .before .before .step .result) = rw (c .before .before .before .before .step .ensures) (act-passable (c .before .before .before .before .before .before .before .before .before .before .before .before .before .before .before .before .before .before .before .before .before .before .before .before .before .before .before .before .before .before .before .before .before .before .before .before .before .before .before .before .before .args .network) val (c .before .before .before .before .before .before .before .before .before .before .before .before .before .before .before .before .before .before .before .before .before .before .before .before .before .before .before .before .before .before .event-of .result .site) (siteAt (c .before .before .before .before .before .before .before .before .before .before .before .before .before .before .before .before .before .before .before .before .before .before .before .before .before .before .before .before .before .before .before .before .before .before .before .before .before .loop .state .sites) (c .before .before .before .before .before .before .before .before .before .before .before .before .before .before .before .before .before .before .before .before .before .before .before .before .before .before .before .before .before .before .event-of .result .site)) (nm .0) (farAt (c .before .before .before .before .before .before .before .before .before .before .before .before .before .before .before .before .before .before .before .before .before .before .end-input .result ∷ c .before .before .before .before .before .before .before .before .before .before .before .before .before .before .before .before .before .before .end-input2 .result ∷ c .before .before .before .before .before .before .before .before .before .before .before .before .before .before .end-input3 .result ∷ c .before .before .before .before .before .before .before .before .before .before .end-input4 .result ∷ [])) (c .before .before .before .before .before .before .before .before .before .before .before .before .before .before .before .before .before .before .before .before .before .before .before .before .before .before .before .before .before .before .event-of .result .code)) in
-    let small : c .before .before .before .before .step .result .byte < 64 = pa (rw (c .enum-told5 .given .1) refl) in
+    let small : c .before .before .before .before .step .result .byte < 64 = pa (rw (c .enum-told4 .given .1) refl) in
     omega (arith, small)
 
 mul-end : tie.Need-mul-end Inv-loop μ-loop
@@ -686,7 +684,7 @@ mul-end c =
     let val = valid-ok (c .before .before .before .before .before .before .before .before .before .before .before .before .before .before .before .before .before .before .before .before .before .before .before .before .before .before .before .before .before .before .before .before .before .before .before .before .before .before .before .before .before .args .network) ok in
     let nm = named-below r p (c .before .before .before .before .before .before .before .before .before .before .before .before .before .before .before .before .before .before .before .before .before .before .before .before .before .before .before .before .before .before .before .draw .result) (c .before .before .before .before .before .before .before .before .before .before .before .before .before .before .before .before .before .before .before .before .before .before .before .before .before .before .before .before .before .before .event-of .result) ok (c .before .before .before .before .before .before .before .before .before .before .before .before .before .before .before .before .before .before .before .before .before .before .before .before .before .before .before .before .before .before .event-of .ensures) in
     let pa : Passable (c .before .before .before .before .step .result) = rw (c .before .before .before .before .step .ensures) (act-passable (c .before .before .before .before .before .before .before .before .before .before .before .before .before .before .before .before .before .before .before .before .before .before .before .before .before .before .before .before .before .before .before .before .before .before .before .before .before .before .before .before .before .args .network) val (c .before .before .before .before .before .before .before .before .before .before .before .before .before .before .before .before .before .before .before .before .before .before .before .before .before .before .before .before .before .before .event-of .result .site) (siteAt (c .before .before .before .before .before .before .before .before .before .before .before .before .before .before .before .before .before .before .before .before .before .before .before .before .before .before .before .before .before .before .before .before .before .before .before .before .before .loop .state .sites) (c .before .before .before .before .before .before .before .before .before .before .before .before .before .before .before .before .before .before .before .before .before .before .before .before .before .before .before .before .before .before .event-of .result .site)) (nm .0) (farAt (c .before .before .before .before .before .before .before .before .before .before .before .before .before .before .before .before .before .before .before .before .before .before .end-input .result ∷ c .before .before .before .before .before .before .before .before .before .before .before .before .before .before .before .before .before .before .end-input2 .result ∷ c .before .before .before .before .before .before .before .before .before .before .before .before .before .before .end-input3 .result ∷ c .before .before .before .before .before .before .before .before .before .before .end-input4 .result ∷ [])) (c .before .before .before .before .before .before .before .before .before .before .before .before .before .before .before .before .before .before .before .before .before .before .before .before .before .before .before .before .before .before .event-of .result .code)) in
-    let small : c .before .before .before .before .step .result .byte < 64 = pa (rw (c .enum-told5 .given .1) refl) in
+    let small : c .before .before .before .before .step .result .byte < 64 = pa (rw (c .enum-told4 .given .1) refl) in
     omega (arith, small)
 
 element-copy-out-end : tie.Need-element-copy-out-end Inv-loop μ-loop
@@ -697,7 +695,7 @@ element-copy-out-end c =
     let val = valid-ok (c .before .before .before .before .before .before .before .before .before .before .before .before .before .before .before .before .before .before .before .before .before .before .before .before .before .before .before .before .before .before .before .before .before .before .before .before .before .before .before .before .before .args .network) ok in
     let nm = named-below r p (c .before .before .before .before .before .before .before .before .before .before .before .before .before .before .before .before .before .before .before .before .before .before .before .before .before .before .before .before .before .before .before .draw .result) (c .before .before .before .before .before .before .before .before .before .before .before .before .before .before .before .before .before .before .before .before .before .before .before .before .before .before .before .before .before .before .event-of .result) ok (c .before .before .before .before .before .before .before .before .before .before .before .before .before .before .before .before .before .before .before .before .before .before .before .before .before .before .before .before .before .before .event-of .ensures) in
     let pa : Passable (c .before .before .before .before .step .result) = rw (c .before .before .before .before .step .ensures) (act-passable (c .before .before .before .before .before .before .before .before .before .before .before .before .before .before .before .before .before .before .before .before .before .before .before .before .before .before .before .before .before .before .before .before .before .before .before .before .before .before .before .before .before .args .network) val (c .before .before .before .before .before .before .before .before .before .before .before .before .before .before .before .before .before .before .before .before .before .before .before .before .before .before .before .before .before .before .event-of .result .site) (siteAt (c .before .before .before .before .before .before .before .before .before .before .before .before .before .before .before .before .before .before .before .before .before .before .before .before .before .before .before .before .before .before .before .before .before .before .before .before .before .loop .state .sites) (c .before .before .before .before .before .before .before .before .before .before .before .before .before .before .before .before .before .before .before .before .before .before .before .before .before .before .before .before .before .before .event-of .result .site)) (nm .0) (farAt (c .before .before .before .before .before .before .before .before .before .before .before .before .before .before .before .before .before .before .before .before .before .before .end-input .result ∷ c .before .before .before .before .before .before .before .before .before .before .before .before .before .before .before .before .before .before .end-input2 .result ∷ c .before .before .before .before .before .before .before .before .before .before .before .before .before .before .end-input3 .result ∷ c .before .before .before .before .before .before .before .before .before .before .end-input4 .result ∷ [])) (c .before .before .before .before .before .before .before .before .before .before .before .before .before .before .before .before .before .before .before .before .before .before .before .before .before .before .before .before .before .before .event-of .result .code)) in
-    let small : c .before .before .before .before .step .result .byte < 64 = pa (rw (c .enum-told5 .given .1) refl) in
+    let small : c .before .before .before .before .step .result .byte < 64 = pa (rw (c .enum-told4 .given .1) refl) in
     omega (arith, small)
 
 mul-input : tie.Need-mul-input Inv-loop μ-loop
@@ -708,7 +706,7 @@ mul-input c =
     let val = valid-ok (c .before .before .before .before .before .before .before .before .before .before .before .before .before .before .before .before .before .before .before .before .before .before .before .before .before .before .before .before .before .before .before .before .before .before .before .before .before .before .before .before .before .before .args .network) ok in
     let nm = named-below r p (c .before .before .before .before .before .before .before .before .before .before .before .before .before .before .before .before .before .before .before .before .before .before .before .before .before .before .before .before .before .before .before .before .draw .result) (c .before .before .before .before .before .before .before .before .before .before .before .before .before .before .before .before .before .before .before .before .before .before .before .before .before .before .before .before .before .before .before .event-of .result) ok (c .before .before .before .before .before .before .before .before .before .before .before .before .before .before .before .before .before .before .before .before .before .before .before .before .before .before .before .before .before .before .before .event-of .ensures) in
     let pa : Passable (c .before .before .before .before .before .step .result) = rw (c .before .before .before .before .before .step .ensures) (act-passable (c .before .before .before .before .before .before .before .before .before .before .before .before .before .before .before .before .before .before .before .before .before .before .before .before .before .before .before .before .before .before .before .before .before .before .before .before .before .before .before .before .before .before .args .network) val (c .before .before .before .before .before .before .before .before .before .before .before .before .before .before .before .before .before .before .before .before .before .before .before .before .before .before .before .before .before .before .before .event-of .result .site) (siteAt (c .before .before .before .before .before .before .before .before .before .before .before .before .before .before .before .before .before .before .before .before .before .before .before .before .before .before .before .before .before .before .before .before .before .before .before .before .before .before .loop .state .sites) (c .before .before .before .before .before .before .before .before .before .before .before .before .before .before .before .before .before .before .before .before .before .before .before .before .before .before .before .before .before .before .before .event-of .result .site)) (nm .0) (farAt (c .before .before .before .before .before .before .before .before .before .before .before .before .before .before .before .before .before .before .before .before .before .before .before .end-input .result ∷ c .before .before .before .before .before .before .before .before .before .before .before .before .before .before .before .before .before .before .before .end-input2 .result ∷ c .before .before .before .before .before .before .before .before .before .before .before .before .before .before .before .end-input3 .result ∷ c .before .before .before .before .before .before .before .before .before .before .before .end-input4 .result ∷ [])) (c .before .before .before .before .before .before .before .before .before .before .before .before .before .before .before .before .before .before .before .before .before .before .before .before .before .before .before .before .before .before .before .event-of .result .code)) in
-    let small : c .before .before .before .before .before .step .result .byte < 64 = pa (rw (c .before .enum-told5 .given .1) refl) in
+    let small : c .before .before .before .before .before .step .result .byte < 64 = pa (rw (c .before .enum-told4 .given .1) refl) in
     omega (arith, small)
 
 element-set-from-input : tie.Need-element-set-from-input Inv-loop μ-loop
@@ -719,18 +717,18 @@ element-set-from-input c =
     let val = valid-ok (c .before .before .before .before .before .before .before .before .before .before .before .before .before .before .before .before .before .before .before .before .before .before .before .before .before .before .before .before .before .before .before .before .before .before .before .before .before .before .before .before .before .before .args .network) ok in
     let nm = named-below r p (c .before .before .before .before .before .before .before .before .before .before .before .before .before .before .before .before .before .before .before .before .before .before .before .before .before .before .before .before .before .before .before .before .draw .result) (c .before .before .before .before .before .before .before .before .before .before .before .before .before .before .before .before .before .before .before .before .before .before .before .before .before .before .before .before .before .before .before .event-of .result) ok (c .before .before .before .before .before .before .before .before .before .before .before .before .before .before .before .before .before .before .before .before .before .before .before .before .before .before .before .before .before .before .before .event-of .ensures) in
     let pa : Passable (c .before .before .before .before .before .step .result) = rw (c .before .before .before .before .before .step .ensures) (act-passable (c .before .before .before .before .before .before .before .before .before .before .before .before .before .before .before .before .before .before .before .before .before .before .before .before .before .before .before .before .before .before .before .before .before .before .before .before .before .before .before .before .before .before .args .network) val (c .before .before .before .before .before .before .before .before .before .before .before .before .before .before .before .before .before .before .before .before .before .before .before .before .before .before .before .before .before .before .before .event-of .result .site) (siteAt (c .before .before .before .before .before .before .before .before .before .before .before .before .before .before .before .before .before .before .before .before .before .before .before .before .before .before .before .before .before .before .before .before .before .before .before .before .before .before .loop .state .sites) (c .before .before .before .before .before .before .before .before .before .before .before .before .before .before .before .before .before .before .before .before .before .before .before .before .before .before .before .before .before .before .before .event-of .result .site)) (nm .0) (farAt (c .before .before .before .before .before .before .before .before .before .before .before .before .before .before .before .before .before .before .before .before .before .before .before .end-input .result ∷ c .before .before .before .before .before .before .before .before .before .before .before .before .before .before .before .before .before .before .before .end-input2 .result ∷ c .before .before .before .before .before .before .before .before .before .before .before .before .before .before .before .end-input3 .result ∷ c .before .before .before .before .before .before .before .before .before .before .before .end-input4 .result ∷ [])) (c .before .before .before .before .before .before .before .before .before .before .before .before .before .before .before .before .before .before .before .before .before .before .before .before .before .before .before .before .before .before .before .event-of .result .code)) in
-    let small : c .before .before .before .before .before .step .result .byte < 64 = pa (rw (c .before .enum-told5 .given .1) refl) in
+    let small : c .before .before .before .before .before .step .result .byte < 64 = pa (rw (c .before .enum-told4 .given .1) refl) in
     omega (arith, small)
 
-mul-t125 : tie.Need-mul-t125 Inv-loop μ-loop
-mul-t125 c =
+mul-t126 : tie.Need-mul-t126 Inv-loop μ-loop
+mul-t126 c =
     let r = runWith (c .before .before .before .before .before .before .before .before .before .before .before .before .before .before .before .before .before .before .before .before .before .before .before .before .before .before .before .before .before .before .before .before .before .before .before .before .before .before .before .before .before .before .args .network) (c .before .before .before .before .before .before .before .before .before .before .before .before .before .before .before .before .before .before .before .before .before .before .before .before .before .before .before .before .before .before .before .before .before .before .before .before .before .before .before .before .before .before .args .t2) (c .before .before .before .before .before .before .before .before .before .before .before .before .before .before .before .before .before .before .before .before .before .before .before .before .before .before .before .before .before .before .before .before .before .before .before .before .before .before .before .before .before .before .args .count) (c .before .before .before .before .before .before .before .before .before .before .before .before .before .before .before .before .before .before .before .before .before .before .before .before .before .before .before .before .before .before .before .before .before .before .before .before .before .before .before .before .before .before .args .seed) (c .before .before .before .before .before .before .before .before .before .before .before .before .before .before .before .before .before .before .before .before .before .before .before .before .before .before .before .before .before .before .before .before .before .before .before .before .before .before .before .before .before .before .args .draws) in
     let p : Progress = record { state = c .before .before .before .before .before .before .before .before .before .before .before .before .before .before .before .before .before .before .before .before .before .before .before .before .before .before .before .before .before .before .before .before .before .before .before .before .before .before .loop .state; value = c .before .before .before .before .before .before .before .before .before .before .before .before .before .before .before .before .before .before .before .before .before .before .before .before .before .before .before .before .before .before .before .before .before .before .before .before .before .before .loop .clock .value; next = c .before .before .before .before .before .before .before .before .before .before .before .before .before .before .before .before .before .before .before .before .before .before .before .before .before .before .before .before .before .before .before .before .before .before .before .before .before .before .loop .next; draw = c .before .before .before .before .before .before .before .before .before .before .before .before .before .before .before .before .before .before .before .before .before .before .before .before .before .before .before .before .before .before .before .before .before .before .before .before .before .before .loop .clock .draw; accepted = c .before .before .before .before .before .before .before .before .before .before .before .before .before .before .before .before .before .before .before .before .before .before .before .before .before .before .before .before .before .before .before .before .before .before .before .before .before .before .loop .accepted; pairs = c .before .before .before .before .before .before .before .before .before .before .before .before .before .before .before .before .before .before .before .before .before .before .before .before .before .before .before .before .before .before .before .before .before .before .before .before .before .before .loop .pairs; serviced = c .before .before .before .before .before .before .before .before .before .before .before .before .before .before .before .before .before .before .before .before .before .before .before .before .before .before .before .before .before .before .before .before .before .before .before .before .before .before .loop .serviced; book = c .before .before .before .before .before .before .before .before .before .before .before .before .before .before .before .before .before .before .before .before .before .before .before .before .before .before .before .before .before .before .before .before .before .before .before .before .before .before .loop .book } in
     let ok = stored-network r (c .before .before .before .before .before .before .before .before .before .before .before .before .before .before .before .before .before .before .before .before .before .before .before .before .before .before .before .before .before .before .before .before .before .before .before .before .before .before .before .before .before .before .pre .0) in
     let val = valid-ok (c .before .before .before .before .before .before .before .before .before .before .before .before .before .before .before .before .before .before .before .before .before .before .before .before .before .before .before .before .before .before .before .before .before .before .before .before .before .before .before .before .before .before .args .network) ok in
     let nm = named-below r p (c .before .before .before .before .before .before .before .before .before .before .before .before .before .before .before .before .before .before .before .before .before .before .before .before .before .before .before .before .before .before .before .before .draw .result) (c .before .before .before .before .before .before .before .before .before .before .before .before .before .before .before .before .before .before .before .before .before .before .before .before .before .before .before .before .before .before .before .event-of .result) ok (c .before .before .before .before .before .before .before .before .before .before .before .before .before .before .before .before .before .before .before .before .before .before .before .before .before .before .before .before .before .before .before .event-of .ensures) in
     let pa : Passable (c .before .before .before .before .before .step .result) = rw (c .before .before .before .before .before .step .ensures) (act-passable (c .before .before .before .before .before .before .before .before .before .before .before .before .before .before .before .before .before .before .before .before .before .before .before .before .before .before .before .before .before .before .before .before .before .before .before .before .before .before .before .before .before .before .args .network) val (c .before .before .before .before .before .before .before .before .before .before .before .before .before .before .before .before .before .before .before .before .before .before .before .before .before .before .before .before .before .before .before .event-of .result .site) (siteAt (c .before .before .before .before .before .before .before .before .before .before .before .before .before .before .before .before .before .before .before .before .before .before .before .before .before .before .before .before .before .before .before .before .before .before .before .before .before .before .loop .state .sites) (c .before .before .before .before .before .before .before .before .before .before .before .before .before .before .before .before .before .before .before .before .before .before .before .before .before .before .before .before .before .before .before .event-of .result .site)) (nm .0) (farAt (c .before .before .before .before .before .before .before .before .before .before .before .before .before .before .before .before .before .before .before .before .before .before .before .end-input .result ∷ c .before .before .before .before .before .before .before .before .before .before .before .before .before .before .before .before .before .before .before .end-input2 .result ∷ c .before .before .before .before .before .before .before .before .before .before .before .before .before .before .before .end-input3 .result ∷ c .before .before .before .before .before .before .before .before .before .before .before .end-input4 .result ∷ [])) (c .before .before .before .before .before .before .before .before .before .before .before .before .before .before .before .before .before .before .before .before .before .before .before .before .before .before .before .before .before .before .before .event-of .result .code)) in
-    let small : c .before .before .before .before .before .step .result .byte < 64 = pa (rw (c .before .enum-told5 .given .1) refl) in
+    let small : c .before .before .before .before .before .step .result .byte < 64 = pa (rw (c .before .enum-told4 .given .1) refl) in
     omega (arith, small)
 
 element-set-from-state : tie.Need-element-set-from-state Inv-loop μ-loop
@@ -741,7 +739,7 @@ element-set-from-state c =
     let val = valid-ok (c .before .before .before .before .before .before .before .before .before .before .before .before .before .before .before .before .before .before .before .before .before .before .before .before .before .before .before .before .before .before .before .before .before .before .before .before .before .before .before .before .before .before .args .network) ok in
     let nm = named-below r p (c .before .before .before .before .before .before .before .before .before .before .before .before .before .before .before .before .before .before .before .before .before .before .before .before .before .before .before .before .before .before .before .before .draw .result) (c .before .before .before .before .before .before .before .before .before .before .before .before .before .before .before .before .before .before .before .before .before .before .before .before .before .before .before .before .before .before .before .event-of .result) ok (c .before .before .before .before .before .before .before .before .before .before .before .before .before .before .before .before .before .before .before .before .before .before .before .before .before .before .before .before .before .before .before .event-of .ensures) in
     let pa : Passable (c .before .before .before .before .before .step .result) = rw (c .before .before .before .before .before .step .ensures) (act-passable (c .before .before .before .before .before .before .before .before .before .before .before .before .before .before .before .before .before .before .before .before .before .before .before .before .before .before .before .before .before .before .before .before .before .before .before .before .before .before .before .before .before .before .args .network) val (c .before .before .before .before .before .before .before .before .before .before .before .before .before .before .before .before .before .before .before .before .before .before .before .before .before .before .before .before .before .before .before .event-of .result .site) (siteAt (c .before .before .before .before .before .before .before .before .before .before .before .before .before .before .before .before .before .before .before .before .before .before .before .before .before .before .before .before .before .before .before .before .before .before .before .before .before .before .loop .state .sites) (c .before .before .before .before .before .before .before .before .before .before .before .before .before .before .before .before .before .before .before .before .before .before .before .before .before .before .before .before .before .before .before .event-of .result .site)) (nm .0) (farAt (c .before .before .before .before .before .before .before .before .before .before .before .before .before .before .before .before .before .before .before .before .before .before .before .end-input .result ∷ c .before .before .before .before .before .before .before .before .before .before .before .before .before .before .before .before .before .before .before .end-input2 .result ∷ c .before .before .before .before .before .before .before .before .before .before .before .before .before .before .before .end-input3 .result ∷ c .before .before .before .before .before .before .before .before .before .before .before .end-input4 .result ∷ [])) (c .before .before .before .before .before .before .before .before .before .before .before .before .before .before .before .before .before .before .before .before .before .before .before .before .before .before .before .before .before .before .before .event-of .result .code)) in
-    let small : c .before .before .before .before .before .step .result .byte < 64 = pa (rw (c .before .enum-told5 .given .1) refl) in
+    let small : c .before .before .before .before .before .step .result .byte < 64 = pa (rw (c .before .enum-told4 .given .1) refl) in
     omega (arith, small)
 
 loop-less-9 : tie.Need-loop-less-9 Inv-loop μ-loop
@@ -759,7 +757,7 @@ loop-again-9 c =
     let nm = named-below r p (c .before .before .before .before .before .before .before .before .before .before .before .before .before .before .before .before .before .before .before .before .before .before .before .before .before .before .before .before .before .before .before .before .draw .result) (c .before .before .before .before .before .before .before .before .before .before .before .before .before .before .before .before .before .before .before .before .before .before .before .before .before .before .before .before .before .before .before .event-of .result) ok (c .before .before .before .before .before .before .before .before .before .before .before .before .before .before .before .before .before .before .before .before .before .before .before .before .before .before .before .before .before .before .before .event-of .ensures) in
     let far = c .before .before .before .before .before .before .before .before .before .before .before .before .before .before .before .before .before .before .before .before .before .before .before .end-input .result ∷ c .before .before .before .before .before .before .before .before .before .before .before .before .before .before .before .before .before .before .before .end-input2 .result ∷ c .before .before .before .before .before .before .before .before .before .before .before .before .before .before .before .end-input3 .result ∷ c .before .before .before .before .before .before .before .before .before .before .before .end-input4 .result ∷ [] in
     let fr = far-read (c .before .before .before .before .before .before .before .before .before .before .before .before .before .before .before .before .before .before .before .before .before .before .before .before .before .before .before .before .before .before .before .before .before .before .before .before .before .before .before .before .before .before .args .network) val (c .before .before .before .before .before .before .before .before .before .before .before .before .before .before .before .before .before .before .before .before .before .before .before .before .before .before .before .before .before .before .before .before .before .before .before .before .before .before .loop .state .sites) (c .before .before .before .before .before .before .before .before .before .before .before .before .before .before .before .before .before .before .before .before .before .before .before .before .before .before .before .before .before .before .before .event-of .result .site) (nm .0) (c .before .before .before .before .before .before .before .before .before .before .before .before .before .before .before .before .before .before .before .before .before .before .before .before .before .before .end-site .result) (c .before .before .before .before .before .before .before .before .before .before .before .before .before .before .before .before .before .before .before .before .before .before .end-site2 .result) (c .before .before .before .before .before .before .before .before .before .before .before .before .before .before .before .before .before .before .end-site3 .result) (c .before .before .before .before .before .before .before .before .before .before .before .before .before .before .end-site4 .result) (c .before .before .before .before .before .before .before .before .before .before .before .before .before .before .before .before .before .before .before .before .before .before .before .end-input .result) (c .before .before .before .before .before .before .before .before .before .before .before .before .before .before .before .before .before .before .before .end-input2 .result) (c .before .before .before .before .before .before .before .before .before .before .before .before .before .before .before .end-input3 .result) (c .before .before .before .before .before .before .before .before .before .before .before .end-input4 .result) (c .before .before .before .before .before .before .before .before .before .before .before .before .before .before .before .before .before .before .before .before .before .before .before .before .before .before .end-site .ensures .0) (c .before .before .before .before .before .before .before .before .before .before .before .before .before .before .before .before .before .before .before .before .before .before .end-site2 .ensures .0) (c .before .before .before .before .before .before .before .before .before .before .before .before .before .before .before .before .before .before .end-site3 .ensures .0) (c .before .before .before .before .before .before .before .before .before .before .before .before .before .before .end-site4 .ensures .0) (c .before .before .before .before .before .before .before .before .before .before .before .before .before .before .before .before .before .before .before .before .before .before .before .end-input .ensures) (c .before .before .before .before .before .before .before .before .before .before .before .before .before .before .before .before .before .before .before .end-input2 .ensures) (c .before .before .before .before .before .before .before .before .before .before .before .before .before .before .before .end-input3 .ensures) (c .before .before .before .before .before .before .before .before .before .before .before .end-input4 .ensures) in
-    (omega (arith, c .before .before .before .before .before .before .before .before .before .before .before .before .before .before .before .before .before .before .before .before .before .before .before .before .before .before .before .before .before .before .before .before .before .before .before .before .before .loop-test .taken), c .before .before .before .before .before .before .before .before .before .before .before .before .before .before .before .before .before .before .before .before .before .before .before .before .before .before .before .before .before .before .before .before .before .before .before .before .before .before .loop .inv .1, one-turn r _ (c .before .before .before .before .before .before .before .before .before .before .before .before .before .before .before .before .before .before .before .before .before .before .before .before .before .before .before .before .before .before .before .before .before .before .before .before .before .before .loop .turn) p _ (c .before .before .before .before .before .before .before .before .before .before .before .before .before .before .before .before .before .before .before .before .before .before .before .before .before .before .before .before .before .before .before .before .before .before .before .before .before .before .loop .inv .2) (rw (c .before .before .before .before .before .before .before .before .before .before .before .before .before .before .before .before .before .before .before .before .before .before .before .before .before .before .before .before .before .before .ticked .ensures) (did-pass r p (c .before .before .before .before .before .before .before .before .before .before .before .before .before .before .before .before .before .before .before .before .before .before .before .before .before .before .before .before .before .before .before .before .draw .result) (c .before .before .before .before .before .before .before .before .before .before .before .before .before .before .before .before .before .before .before .before .before .before .before .before .before .before .before .before .before .before .before .event-of .result) ok t (c .before .before .before .before .before .before .before .before .before .before .before .before .before .before .before .before .before .before .before .before .before .before .before .before .before .before .before .before .before .before .before .before .draw .ensures) (c .before .before .before .before .before .before .before .before .before .before .before .before .before .before .before .before .before .before .before .before .before .before .before .before .before .before .before .before .before .before .before .event-of .ensures) far (c .before .before .before .before .before .step .result) fr (c .before .before .before .before .before .step .ensures) (c .before .enum-told5 .given .1))))
+    (omega (arith, c .before .before .before .before .before .before .before .before .before .before .before .before .before .before .before .before .before .before .before .before .before .before .before .before .before .before .before .before .before .before .before .before .before .before .before .before .before .loop-test .taken), c .before .before .before .before .before .before .before .before .before .before .before .before .before .before .before .before .before .before .before .before .before .before .before .before .before .before .before .before .before .before .before .before .before .before .before .before .before .before .loop .inv .1, one-turn r _ (c .before .before .before .before .before .before .before .before .before .before .before .before .before .before .before .before .before .before .before .before .before .before .before .before .before .before .before .before .before .before .before .before .before .before .before .before .before .before .loop .turn) p _ (c .before .before .before .before .before .before .before .before .before .before .before .before .before .before .before .before .before .before .before .before .before .before .before .before .before .before .before .before .before .before .before .before .before .before .before .before .before .before .loop .inv .2) (rw (c .before .before .before .before .before .before .before .before .before .before .before .before .before .before .before .before .before .before .before .before .before .before .before .before .before .before .before .before .before .before .ticked .ensures) (did-pass r p (c .before .before .before .before .before .before .before .before .before .before .before .before .before .before .before .before .before .before .before .before .before .before .before .before .before .before .before .before .before .before .before .before .draw .result) (c .before .before .before .before .before .before .before .before .before .before .before .before .before .before .before .before .before .before .before .before .before .before .before .before .before .before .before .before .before .before .before .event-of .result) ok t (c .before .before .before .before .before .before .before .before .before .before .before .before .before .before .before .before .before .before .before .before .before .before .before .before .before .before .before .before .before .before .before .before .draw .ensures) (c .before .before .before .before .before .before .before .before .before .before .before .before .before .before .before .before .before .before .before .before .before .before .before .before .before .before .before .before .before .before .before .event-of .ensures) far (c .before .before .before .before .before .step .result) fr (c .before .before .before .before .before .step .ensures) (c .before .enum-told4 .given .1))))
 
 owed-pairs-requires : tie.Need-owed-pairs-requires Inv-loop μ-loop
 owed-pairs-requires c κs =
@@ -800,8 +798,8 @@ play-run-spec =
     mul-site
     element-copy-out-site
     send-answer-requires
+    enum-known-answer
     enum-told
-    enum-told-2
     loop-less
     loop-again
     push-out-requires
@@ -858,10 +856,10 @@ play-run-spec =
     mul-site-3
     element-copy-out-site-2
     step-requires
-    enum-told-3
+    enum-told-2
     loop-less-5
     loop-again-5
-    enum-told-4
+    enum-told-3
     mul-after
     element-set-from-after
     loop-less-6
@@ -877,7 +875,7 @@ play-run-spec =
     add-serviced
     loop-less-8
     loop-again-8
-    enum-told-5
+    enum-told-4
     mul-after-3
     element-set-from-after-3
     cast-u
@@ -887,7 +885,7 @@ play-run-spec =
     element-copy-out-end
     mul-input
     element-set-from-input
-    mul-t125
+    mul-t126
     element-set-from-state
     loop-less-9
     loop-again-9

@@ -1,12 +1,12 @@
-use mathlib.Core.Path.{_≡_, refl, sym, ap, _∙_}
+use mathlib.Core.Path.{refl}
 use native.Mathlib.Omega.{arith}
-use borrow.Author.Tests.{eq-eqb, ne-eqb, lt-ltb, le-ltb, ltb-true}
+use borrow.Author.Tests.{lt-ltb, le-ltb}
 use borrow.Author.Needs.{needs}
 use Rattle.machine.proofs.queues.last_lacks.Statement.{statement}
 use Rattle.machine.proofs.queues.last_lacks.Tie as tie
 use Rattle.machine.proofs.queues.last_lacks.Reads as reads
 use Rattle.machine.proofs.queues.last_lacks.Lts as lts
-use Rattle.machine.proofs.phases.is_none.Reads as is-none-reads
+use Rattle.model.proofs.is_none.Reads as is-none-reads
 
 returns : tie.Need-returns
 returns c = rw (le-ltb 0 (c .before .args .t1 .count) (omega arith)) refl

@@ -1,10 +1,10 @@
-use mathlib.Core.Path.{_≡_, refl, sym, ap, _∙_}
-use mathlib.Core.Bool.{true, false, cond, not}
-use Prim.Native.Nat.{ℕ, _^_, _<_}
+use mathlib.Core.Path.{_≡_, sym, ap, _∙_}
+use mathlib.Core.Bool.{cond, not}
+use Prim.Native.Nat.{ℕ, _<_}
 use native.Mathlib.Omega.{arith}
-use lib.Dec.{eqb, ltb}
-use borrow.Author.Tests.{eq-eqb, ne-eqb, lt-ltb, not-true, not-false}
-use Rattle.sets.specs.Sets.{only, size, lowest, minus}
+use lib.Dec.{ltb}
+use borrow.Author.Tests.{eq-eqb, ne-eqb, lt-ltb}
+use Rattle.sets.specs.Sets.{only, lowest}
 use Rattle.machine.specs.Router.{ofChoice}
 use Rattle.machine.proofs.Search.{own-busy, own-empty, route-single, route-busy, route-every, route-missing, every-of, missing-of, lowest-in, other-in}
 use borrow.Author.Needs.{needs}

@@ -1,9 +1,7 @@
-use mathlib.Core.Path.{_≡_, refl, sym, ap, _∙_}
+use mathlib.Core.Path.{refl}
 use native.Mathlib.Omega.{arith}
 use borrow.Author.Tests.{eq-eqb, ne-eqb}
-use Rattle.model.specs.Network.{listOf}
 use Rattle.model.specs.Router.{serves, unchosen}
-use Rattle.machine.specs.Router.{ofChoice}
 use Rattle.checks.proofs.NetworkLaws.{place-below}
 use Rattle.machine.proofs.Search.{found-at-most, is-port}
 use borrow.Author.Needs.{needs}

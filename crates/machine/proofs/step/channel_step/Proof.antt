@@ -1,4 +1,4 @@
-use mathlib.Core.Path.{_≡_, refl, sym, ap, _∙_}
+use mathlib.Core.Path.{refl}
 use Prim.Native.Nat.{_+_}
 use native.Mathlib.Numerals.{add-one}
 use Rattle.model.specs.Types.{outAt}
@@ -12,6 +12,7 @@ use Rattle.machine.proofs.step.channel_step.Tie as tie
 use Rattle.machine.proofs.step.channel_step.Reads as reads
 use Rattle.machine.proofs.step.channel_step.Lts as lts
 use Rattle.machine.proofs.places.channel_output.Reads as channel-output-reads
+use Rattle.machine.proofs.step.is_channel.Reads as is-channel-reads
 use Rattle.machine.proofs.step.stays.Reads as stays-reads
 
 add-output : tie.Need-add-output
@@ -38,6 +39,9 @@ add-byte c = search needs
 element-copy-out-byte : tie.Need-element-copy-out-byte
 element-copy-out-byte c = search needs
 
+is-channel-requires : tie.Need-is-channel-requires
+is-channel-requires c κs = search needs
+
 channel-output-requires : tie.Need-channel-output-requires
 channel-output-requires c κs = search needs
 
@@ -51,13 +55,27 @@ element-set-from-now : tie.Need-element-set-from-now
 element-set-from-now c = search needs
 
 returns : tie.Need-returns
-returns c = let a = c .before .before .before .before .before .before .before .args in rw (channel-changed (a .t3) (a .j) (outAt (a .t3) (a .j + 1)) (farAt (a .t4) (a .j)) (c .before .before .before .channel-output .result) (channelOutput (joined (a .t1) (a .s) (a .j)) (outAt (a .t3) (a .j + 1)) (farAt (a .t4) (a .j))) (c .before .before .before .channel-output .ensures) (c .if1 .taken), add-one (a .j)) refl
+returns c =
+    let a = c .before .before .before .before .before .before .before .before .args in
+    let x = a .t3 in
+    let o = outAt x (a .j + 1) in
+    let y = farAt (a .t4) (a .j) in
+    let e = rw (c .before .before .before .before .is-channel .ensures) at (c .before .before .before .channel-output .ensures) in
+    let w = channelOutput (joined (a .t1) (a .s) (a .j)) o y in
+    rw (channel-changed x (a .j) o y (c .before .before .before .channel-output .result) w e (c .if1 .taken), add-one (a .j)) refl
 
 stays-requires : tie.Need-stays-requires
 stays-requires c κs = search needs
 
 returns-2 : tie.Need-returns-2
-returns-2 c = let a = c .before .before .before .before .before .before .before .before .args in rw (c .stays .ensures, channel-stayed (a .t3) (a .j) (outAt (a .t3) (a .j + 1)) (farAt (a .t4) (a .j)) (c .before .before .before .before .channel-output .result) (channelOutput (joined (a .t1) (a .s) (a .j)) (outAt (a .t3) (a .j + 1)) (farAt (a .t4) (a .j))) (c .before .before .before .before .channel-output .ensures) (c .before .if1 .left)) refl
+returns-2 c =
+    let a = c .before .before .before .before .before .before .before .before .before .args in
+    let x = a .t3 in
+    let o = outAt x (a .j + 1) in
+    let y = farAt (a .t4) (a .j) in
+    let e = rw (c .before .before .before .before .before .is-channel .ensures) at (c .before .before .before .before .channel-output .ensures) in
+    let w = channelOutput (joined (a .t1) (a .s) (a .j)) o y in
+    rw (c .stays .ensures, channel-stayed x (a .j) o y (c .before .before .before .before .channel-output .result) w e (c .before .if1 .left)) refl
 
 pub channel-step-spec : {M : Type 1} → statement M
 channel-step-spec =
@@ -71,6 +89,7 @@ channel-step-spec =
     mul-byte
     add-byte
     element-copy-out-byte
+    is-channel-requires
     channel-output-requires
     add-now
     mul-now

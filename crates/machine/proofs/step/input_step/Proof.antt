@@ -1,4 +1,4 @@
-use mathlib.Core.Path.{_≡_, refl, sym, ap, _∙_}
+use mathlib.Core.Path.{_≡_, refl, ap, _∙_}
 use Prim.Native.Nat.{ℕ, _<_}
 use mathlib.Core.List.{List}
 use mathlib.Core.Bool.{Bool}
@@ -10,7 +10,6 @@ use Rattle.model.specs.Steps.{setBoth}
 use Rattle.machine.specs.Step.{farAt, flags}
 use Rattle.machine.proofs.Lifts.{input-changed, input-stayed}
 use Rattle.machine.proofs.Ready.{by-flags, flags-there, ends-read}
-use native.Mathlib.Omega.{arith}
 use borrow.Author.Needs.{needs}
 use Rattle.machine.proofs.step.input_step.Statement.{statement}
 use Rattle.machine.proofs.step.input_step.Tie as tie

@@ -1,5 +1,4 @@
-use mathlib.Core.Path.{_≡_, refl, sym, ap, _∙_}
-use native.Mathlib.Omega.{arith}
+use mathlib.Core.Path.{refl}
 use Rattle.model.specs.Types.{setOut, withInQueue, outAt}
 use Rattle.model.specs.Places.{localOutput}
 use Rattle.machine.proofs.Lifts.{local-changed, local-stayed}

@@ -1,5 +1,4 @@
-use mathlib.Core.Path.{_≡_, refl, sym, ap, _∙_}
-use native.Mathlib.Omega.{arith}
+use mathlib.Core.Path.{refl}
 use Rattle.model.specs.Places.{operator}
 use Rattle.machine.proofs.Lifts.{work-serviced, work-cleared, work-rested}
 use borrow.Author.Needs.{needs}

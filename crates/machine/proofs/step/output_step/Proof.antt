@@ -1,5 +1,4 @@
-use mathlib.Core.Path.{_≡_, refl, sym, ap, _∙_}
-use native.Mathlib.Omega.{arith}
+use mathlib.Core.Path.{refl}
 use Rattle.machine.specs.Step.{farAt}
 use Rattle.machine.proofs.Ready.{output-zero, output-other}
 use borrow.Author.Needs.{needs}

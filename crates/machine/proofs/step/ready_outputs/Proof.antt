@@ -1,4 +1,4 @@
-use mathlib.Core.Path.{_≡_, refl, _∙_}
+use mathlib.Core.Path.{_∙_}
 use Rattle.model.specs.Types.{mark}
 use Rattle.machine.specs.Step.{farAt}
 use Rattle.machine.proofs.Ready.{five, heard-at, local-at}

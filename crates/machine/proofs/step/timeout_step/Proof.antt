@@ -1,5 +1,4 @@
-use mathlib.Core.Path.{_≡_, refl, sym, ap, _∙_}
-use native.Mathlib.Omega.{arith}
+use mathlib.Core.Path.{refl}
 use Rattle.model.specs.Types.{inAt, outAt}
 use Rattle.model.specs.Places.{timeout}
 use Rattle.model.specs.Steps.{setBoth}

@@ -1,6 +1,5 @@
-use mathlib.Core.Path.{_≡_, refl, sym, ap, _∙_}
+use mathlib.Core.Path.{refl, sym, _∙_}
 use native.Mathlib.Omega.{arith}
-use native.Mathlib.Numerals.{add-one}
 use borrow.Author.Tests.{lt-ltb}
 use borrow.Author.Needs.{needs}
 use Rattle.machine.proofs.store.far_input.Statement.{statement}
@@ -8,7 +7,7 @@ use Rattle.machine.proofs.store.far_input.Tie as tie
 use Rattle.machine.proofs.store.far_input.Reads as reads
 use Rattle.machine.proofs.store.far_input.Lts as lts
 use Rattle.machine.proofs.phases.free_input.Reads as free-input-reads
-use Rattle.machine.proofs.step.has_channel.Reads as has-channel-reads
+use Rattle.machine.proofs.step.is_channel.Reads as is-channel-reads
 use Rattle.machine.proofs.store.end_of.Reads as end-of-reads
 
 mul-byte : tie.Need-mul-byte
@@ -20,20 +19,20 @@ add-byte c = search needs
 element-copy-out-byte : tie.Need-element-copy-out-byte
 element-copy-out-byte c = search needs
 
-has-channel-requires : tie.Need-has-channel-requires
-has-channel-requires c κs = search needs
+is-channel-requires : tie.Need-is-channel-requires
+is-channel-requires c κs = search needs
 
 end-of-requires : tie.Need-end-of-requires
-end-of-requires c κs = c .before .before .before .pre .1 (c .before .before .before .args .j) (omega arith) (sym (c .before .has-channel .ensures) ∙ c .if1 .taken)
+end-of-requires c κs = c .before .before .before .pre .1 (c .before .before .before .args .j) (omega arith) (sym (c .before .is-channel .ensures) ∙ c .if1 .taken)
 
 returns : tie.Need-returns
-returns c = rw (c .end-of .ensures, lt-ltb (c .before .before .before .before .args .j) 4 (omega arith), ← c .before .before .has-channel .ensures, c .before .if1 .taken) refl
+returns c = rw (c .end-of .ensures, lt-ltb (c .before .before .before .before .args .j) 4 (omega arith), ← c .before .before .is-channel .ensures, c .before .if1 .taken) refl
 
 free-input-requires : tie.Need-free-input-requires
 free-input-requires c κs = search needs
 
 returns-2 : tie.Need-returns-2
-returns-2 c = rw (c .free-input .ensures, lt-ltb (c .before .before .before .before .args .j) 4 (omega arith), ← c .before .before .has-channel .ensures, c .before .if1 .left) refl
+returns-2 c = rw (c .free-input .ensures, lt-ltb (c .before .before .before .before .args .j) 4 (omega arith), ← c .before .before .is-channel .ensures, c .before .if1 .left) refl
 
 pub far-input-spec : {M : Type 1} → statement M
 far-input-spec =
@@ -42,7 +41,7 @@ far-input-spec =
     mul-byte
     add-byte
     element-copy-out-byte
-    has-channel-requires
+    is-channel-requires
     end-of-requires
     returns
     free-input-requires

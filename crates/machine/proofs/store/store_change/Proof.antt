@@ -1,8 +1,5 @@
-use mathlib.Core.Path.{_≡_, refl, sym, ap, _∙_}
+use mathlib.Core.Path.{refl}
 use native.Mathlib.Omega.{arith}
-use native.Mathlib.Numerals.{add-one}
-use borrow.Author.Tests.{lt-ltb}
-use Rattle.machine.specs.Step.{isPass}
 use borrow.Author.Needs.{needs}
 use Rattle.machine.proofs.store.store_change.Statement.{statement}
 use Rattle.machine.proofs.store.store_change.Tie as tie

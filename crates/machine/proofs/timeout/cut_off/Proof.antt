@@ -1,5 +1,4 @@
-use mathlib.Core.Path.{_≡_, refl, sym, ap, _∙_}
-use native.Mathlib.Omega.{arith}
+use mathlib.Core.Path.{refl}
 use Rattle.machine.proofs.Cut.{give-aborts}
 use borrow.Author.Needs.{needs}
 use Rattle.machine.proofs.timeout.cut_off.Statement.{statement}

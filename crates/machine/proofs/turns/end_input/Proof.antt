@@ -1,4 +1,4 @@
-use mathlib.Core.Path.{_≡_, refl, sym, ap, _∙_}
+use mathlib.Core.Path.{refl}
 use borrow.Author.Needs.{needs}
 use Rattle.machine.proofs.turns.end_input.Statement.{statement}
 use Rattle.machine.proofs.turns.end_input.Tie as tie

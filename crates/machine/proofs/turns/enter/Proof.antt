@@ -1,5 +1,4 @@
-use mathlib.Core.Path.{_≡_, refl, sym, ap, _∙_}
-use native.Mathlib.Omega.{arith}
+use mathlib.Core.Path.{refl}
 use lib.ListN.{length-set}
 use Rattle.machine.specs.Progress.{enteredAt}
 use borrow.Author.Needs.{needs}

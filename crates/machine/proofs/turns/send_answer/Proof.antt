@@ -1,36 +1,22 @@
-use mathlib.Core.Path.{_≡_, refl, sym, ap, _∙_}
-use borrow.Author.Tests.{lt-ltb, le-ltb, eq-eqb, ne-eqb}
+use borrow.Author.Tests.{eq-eqb, ne-eqb}
 use Rattle.machine.specs.Play.{sendAnswer}
 use borrow.Author.Needs.{needs}
 use Rattle.machine.proofs.turns.send_answer.Statement.{statement}
 use Rattle.machine.proofs.turns.send_answer.Tie as tie
 use Rattle.machine.proofs.turns.send_answer.Reads as reads
 use Rattle.machine.proofs.turns.send_answer.Lts as lts
-use Rattle.sets.proofs.is_targets.Reads as is-targets-reads
+use Rattle.checks.proofs.send_fault.Reads as send-fault-reads
 
-is-targets-requires : tie.Need-is-targets-requires
-is-targets-requires c κs = search needs
+send-fault-requires : tie.Need-send-fault-requires
+send-fault-requires c κs = search needs
 
 returns : tie.Need-returns
 unfolding sendAnswer
-returns c = rw (lt-ltb _ _ (c .before .before .before .before .if1 .taken), ← c .before .before .before .is-targets .ensures, c .before .before .if2 .taken, lt-ltb _ _ (c .before .if3 .taken), lt-ltb _ _ (c .if4 .taken)) refl
+returns c = rw (← c .before .send-fault .ensures, eq-eqb _ _ (c .if1 .taken))
 
 returns-2 : tie.Need-returns-2
 unfolding sendAnswer
-returns-2 c = rw (lt-ltb _ _ (c .before .before .before .before .if1 .taken), ← c .before .before .before .is-targets .ensures, c .before .before .if2 .taken, lt-ltb _ _ (c .before .if3 .taken), le-ltb _ _ (c .if4 .left)) refl
-
-returns-3 : tie.Need-returns-3
-unfolding sendAnswer
-returns-3 c = rw (lt-ltb _ _ (c .before .before .before .if1 .taken), ← c .before .before .is-targets .ensures, c .before .if2 .taken, le-ltb _ _ (c .if3 .left)) refl
-
-returns-4 : tie.Need-returns-4
-unfolding sendAnswer
-returns-4 c = rw (lt-ltb _ _ (c .before .before .if1 .taken), ← c .before .is-targets .ensures, c .if2 .left) refl
-
-returns-5 : tie.Need-returns-5
-unfolding sendAnswer
-returns-5 c = rw (le-ltb _ _ (c .if1 .left)) refl
+returns-2 c = rw (← c .before .send-fault .ensures, ne-eqb _ _ (c .if1 .left))
 
 pub send-answer-spec : {M : Type 1} → statement M
-send-answer-spec =
-    tie.close (tie.spec is-targets-requires returns returns-2 returns-3 returns-4 returns-5)
+send-answer-spec = tie.close (tie.spec send-fault-requires returns returns-2)

@@ -1,11 +1,11 @@
-use mathlib.Core.Path.{_≡_, refl}
+use mathlib.Core.Path.{refl}
 use borrow.Author.Needs.{needs}
 use Rattle.base.proofs.wide.Reads as wide-reads
 use Rattle.checks.proofs.range.places.fed_by.Statement.{statement}
 use Rattle.checks.proofs.range.places.fed_by.Tie as tie
 use Rattle.checks.proofs.range.places.fed_by.Reads as reads
 use Rattle.checks.proofs.range.places.fed_by.Lts as lts
-use Rattle.checks.proofs.range.phases.is_none.Reads as is-none-reads
+use Rattle.model.proofs.is_none.Reads as is-none-reads
 
 wide-requires : tie.Need-wide-requires
 wide-requires c κs = search needs

@@ -1,4 +1,4 @@
-use mathlib.Core.Path.{_≡_, refl}
+use mathlib.Core.Path.{refl}
 use borrow.Author.Needs.{needs}
 use Rattle.base.proofs.wide.Reads as wide-reads
 use Rattle.checks.proofs.range.places.output_ok.Statement.{statement}

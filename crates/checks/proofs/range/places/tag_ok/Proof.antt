@@ -1,4 +1,4 @@
-use mathlib.Core.Path.{_≡_, refl}
+use mathlib.Core.Path.{refl}
 use borrow.Author.Needs.{needs}
 use Rattle.sets.proofs.is_targets.Reads as is-targets-reads
 use Rattle.checks.proofs.range.places.tag_ok.Statement.{statement}

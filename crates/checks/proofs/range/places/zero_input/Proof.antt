@@ -1,10 +1,10 @@
-use mathlib.Core.Path.{_≡_, refl}
+use mathlib.Core.Path.{refl}
 use borrow.Author.Needs.{needs}
 use Rattle.checks.proofs.range.places.zero_input.Statement.{statement}
 use Rattle.checks.proofs.range.places.zero_input.Tie as tie
 use Rattle.checks.proofs.range.places.zero_input.Reads as reads
 use Rattle.checks.proofs.range.places.zero_input.Lts as lts
-use Rattle.checks.proofs.range.phases.is_free.Reads as is-free-reads
+use Rattle.model.proofs.is_free.Reads as is-free-reads
 use Rattle.checks.proofs.range.places.any_mark.Reads as any-mark-reads
 
 is-free-requires : tie.Need-is-free-requires

@@ -1,10 +1,10 @@
-use mathlib.Core.Path.{_≡_, refl}
+use mathlib.Core.Path.{refl}
 use borrow.Author.Needs.{needs}
 use Rattle.checks.proofs.range.places.zero_output.Statement.{statement}
 use Rattle.checks.proofs.range.places.zero_output.Tie as tie
 use Rattle.checks.proofs.range.places.zero_output.Reads as reads
 use Rattle.checks.proofs.range.places.zero_output.Lts as lts
-use Rattle.checks.proofs.range.phases.is_none.Reads as is-none-reads
+use Rattle.model.proofs.is_none.Reads as is-none-reads
 
 is-none-requires : tie.Need-is-none-requires
 is-none-requires c κs = search needs

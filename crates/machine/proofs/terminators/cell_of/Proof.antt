@@ -1,10 +1,9 @@
-use mathlib.Core.Path.{_≡_, refl}
 use Rattle.machine.proofs.Table.{received-below, connection-below, right}
 use borrow.Author.Needs.{needs}
-use Rattle.machine.proofs.terminators.local_terminator.Statement.{statement}
-use Rattle.machine.proofs.terminators.local_terminator.Tie as tie
-use Rattle.machine.proofs.terminators.local_terminator.Reads as reads
-use Rattle.machine.proofs.terminators.local_terminator.Lts as lts
+use Rattle.machine.proofs.terminators.cell_of.Statement.{statement}
+use Rattle.machine.proofs.terminators.cell_of.Tie as tie
+use Rattle.machine.proofs.terminators.cell_of.Reads as reads
+use Rattle.machine.proofs.terminators.cell_of.Lts as lts
 use Rattle.model.proofs.connection_number.Reads as connection-number-reads
 use Rattle.model.proofs.received_number.Reads as received-number-reads
 
@@ -23,6 +22,9 @@ cast-column c = search needs
 mul-result : tie.Need-mul-result
 mul-result c = search needs
 
+mul-result-2 : tie.Need-mul-result-2
+mul-result-2 c = search needs
+
 index-1-result : tie.Need-index-1-result
 index-1-result c = rw (c .before .received-number .ensures) (received-below (c .before .before .args .received))
 
@@ -30,10 +32,13 @@ index-2-result : tie.Need-index-2-result
 index-2-result c = rw (c .connection-number .ensures) (connection-below (c .before .before .args .connection))
 
 returns : tie.Need-returns
-returns c = rw (c .before .before .received-number .ensures, c .before .connection-number .ensures) (right (c .before .before .before .args .received) (c .before .before .before .args .connection) .1)
+returns c =
+    let a = c .before .before .before .args in
+    rw (c .before .before .received-number .ensures, c .before .connection-number .ensures)
+    (right (a .received) (a .connection))
 
-pub local-terminator-spec : {M : Type 1} → statement M
-local-terminator-spec =
+pub cell-of-spec : {M : Type 1} → statement M
+cell-of-spec =
     tie.close
     (tie.spec
     received-number-requires
@@ -41,6 +46,7 @@ local-terminator-spec =
     connection-number-requires
     cast-column
     mul-result
+    mul-result-2
     index-1-result
     index-2-result
     returns)
