@@ -10,7 +10,8 @@ use lib.Seq.{length-take-le, take-at, drop-append-add, drop-drop}
 use Rattle.io.specs.Counts.{Counts}
 use Rattle.io.proofs.Counting.{counts}
 use Rattle.report.specs.declared.Lines.{Lines}
-use Rattle.report.specs.Text.{atFront, lineAt, serviceLines, fitting, linesAnswer, linesAfter}
+use Rattle.base.specs.Answers.{atFront}
+use Rattle.report.specs.Text.{lineAt, serviceLines, fitting, linesAnswer, linesAfter}
 use Rattle.report.specs.Put.{Put}
 
 -- nothing is put

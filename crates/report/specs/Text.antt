@@ -6,7 +6,8 @@ use Prim.Native.String.{String, [] as []ˢ, _∷_ as _∷ˢ_}
 use mathlib.Core.Bool.{cond}
 use mathlib.Core.List.{List, [], _∷_, _++_}
 use lib.Dec.{eqb, ltb}
-use lib.ListN.{length, getD, drop}
+use lib.ListN.{length, getD}
+use Rattle.base.specs.Answers.{atFront}
 use Rattle.io.specs.Digits.{digits}
 use Rattle.model.specs.declared.Counts.{Counts}
 use Rattle.report.specs.declared.Lines.{Lines}
@@ -71,10 +72,6 @@ serviceLines b zero = []
 serviceLines b (suc k) = serviceLines b k ++ lineAt b k
 
 -- ---- lines in lent bytes
-
--- "at the front; the rest stays"
-unfoldable pub atFront : List ℕ → List ℕ → List ℕ
-atFront xs room = xs ++ drop (length xs) room
 
 -- of a book b into a room of so many bytes: all services that b has, or as many as lines of the greatest length fit
 abbrev pub fitting : List ℕ → ℕ → ℕ
