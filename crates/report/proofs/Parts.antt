@@ -1,12 +1,14 @@
--- A book's lines in parts: what `print_services` writes part by part is the lines of the whole. Assumes nothing.
+-- A book's lines: what `print_services` writes part by part is the lines of the whole, and these are the lines of the
+-- services in the book. Assumes nothing.
 use mathlib.Core.Path.{_≡_, refl, sym, ap, _∙_}
-use mathlib.Core.List.{List, [], _∷_, _++_, append-assoc, append-nil}
+use mathlib.Core.List.{List, [], _∷_, _++_, map, append-assoc, append-nil}
 use Prim.Native.Nat.{ℕ, zero, suc, _+_, _-_, _*_, _/_, _%_, _≤_, _<_}
 use native.Mathlib.Nat.{add-zero, add-suc}
 use native.Mathlib.Omega.{arith}
 use lib.ListN.{length, getD, take, drop}
 use lib.Seq.{getD-take, getD-drop}
-use Rattle.report.specs.Text.{serviceLine, lineAt, serviceLines}
+use Rattle.model.specs.Runs.{Service, bookBytes}
+use Rattle.report.specs.Text.{serviceLine, lineAt, serviceLines, linesOf}
 
 -- service k behind the first j
 line-behind : (b : List ℕ) (j k : ℕ) → lineAt (drop (4 * j) b) k ≡ lineAt b (j + k)
@@ -44,3 +46,20 @@ lines-take b m (suc k) h =
 pub part-more : (b : List ℕ) (n k f : ℕ) → k + f ≤ n
     → serviceLines b k ++ serviceLines (take (4 * n - 4 * k) (drop (4 * k) b)) f ≡ serviceLines b (k + f)
 part-more b n k f h = rw (lines-take (drop (4 * k) b) (4 * n - 4 * k) f (omega arith)) (lines-join b k f)
+
+-- ---- the services that a book's bytes hold
+
+draw-back : (d : ℕ) → d < 65536 → 256 * (d / 256 % 256) + d % 256 ≡ d
+draw-back d h = omega arith
+
+-- The lines of a book's bytes, whatever room stands behind them, are those of its services.
+pub book-lines : (es : List Service) (room : List ℕ) → ((k : ℕ) → getD (map (λ (e : Service). e .draw) es) k 0 < 65536)
+    → serviceLines (bookBytes es ++ room) (length es) ≡ linesOf es
+unfolding bookBytes serviceLines linesOf lineAt
+book-lines [] room h = refl
+book-lines (e ∷ es) room h =
+    let n : 1 + length es ≡ suc (length es) = omega arith in
+    let b = bookBytes (e ∷ es) ++ room in
+    ap (serviceLines b) (sym n)
+    ∙ sym (lines-join b 1 (length es))
+    ∙ rw (draw-back (e .draw) (h 0), book-lines es room (λ k. h (suc k)))

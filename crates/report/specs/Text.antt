@@ -10,6 +10,7 @@ use lib.ListN.{length, getD}
 use Rattle.base.specs.Answers.{atFront}
 use Rattle.io.specs.Digits.{digits}
 use Rattle.model.specs.declared.Counts.{Counts}
+use Rattle.model.specs.Runs.{Service}
 use Rattle.report.specs.declared.Lines.{Lines}
 
 -- ---- letters and numbers
@@ -70,6 +71,11 @@ lineAt b k =
 unfoldable pub serviceLines : List ℕ → ℕ → List ℕ
 serviceLines b zero = []
 serviceLines b (suc k) = serviceLines b k ++ lineAt b k
+
+-- the lines of services
+unfoldable pub linesOf : List Service → List ℕ
+linesOf [] = []
+linesOf (e ∷ es) = serviceLine (e .draw) (e .packet) (e .site) ++ linesOf es
 
 -- ---- lines in lent bytes
 

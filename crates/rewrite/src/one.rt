@@ -1,5 +1,6 @@
 // One file: read, written back, compared, and told in one line. The totals go in by value and come back.
 use libc::STDOUT_FILENO;
+use model::Counts;
 use model::Run;
 use std::num::wrapping_add_u64;
 
@@ -29,6 +30,16 @@ pub fn no_files() -> Totals {
     }
 }
 
+// The counts beside a refusal.
+fn no_counts() -> Counts {
+    Counts {
+        accepted: 0,
+        pairs: 0,
+        serviced: 0,
+        owed: 0,
+    }
+}
+
 // Reads the file of this name and judges its bytes.
 pub fn rewrite_file(name: &[u8], totals: Totals) -> Totals {
     let fd = os::open_read(name);
@@ -49,8 +60,9 @@ fn judge(name: &[u8], bytes: &[u8], totals: Totals) -> Totals {
     let decoded = archive::read(bytes);
     let refusal = decoded.refusal;
     if refusal != 0 {
-        let is_printed = print_number(name, b": refused ", refusal as u64, b"\n");
-        let mut now = counted(totals, is_printed);
+        let is_named = print_line(name, b": ");
+        let is_printed = report::print_line(refusal, no_counts());
+        let mut now = counted(totals, is_named && is_printed);
         now.refused = wrapping_add_u64(totals.refused, 1);
         return now;
     }
