@@ -168,27 +168,9 @@ facts r room zero =
     }
 facts r room (suc k) = turned-facts r room k (progress r room k) (facts r room k)
 
--- ---- one by one, for a loop's arithmetic
+-- ---- the pairs, for a loop's arithmetic
 
 module _ (r : Run) (room : List ℕ) (k : ℕ) where
-  pub next-turns : progress r room k .next ≤ k
-  next-turns = omega (arith, facts r room k .turns)
-
-  pub draw-turns : progress r room k .draw ≤ k
-  draw-turns = omega (arith, facts r room k .turns)
-
-  pub serviced-turns : progress r room k .serviced ≤ k
-  serviced-turns = omega (arith, facts r room k .turns, facts r room k .serviced)
-
-  pub next-count : progress r room k .next ≤ r .count
-  next-count = facts r room k .sends
-
-  pub accepted-next : progress r room k .accepted ≤ progress r room k .next
-  accepted-next = facts r room k .accepted
-
-  pub book-kept : length (progress r room k .book) ≡ length room
-  book-kept = facts r room k .kept
-
   pub pairs-count : progress r room k .pairs ≤ setBits * r .count
   pairs-count =
       let p = progress r room k in omega (arith, facts r room k .sends, facts r room k .pairs, sizes-most r (p .next))

@@ -17,7 +17,7 @@ use Rattle.model.specs.declared.Run.{Run}
 use Rattle.model.specs.declared.AfterSend.{AfterSend}
 use Rattle.model.specs.declared.AfterRun.{AfterRun}
 use Rattle.model.specs.declared.Sent.the-variants.{the-data as Sent, Accepted, Refused as SendRefused}
-use Rattle.model.specs.declared.Ran.the-variants.{the-data as Ran, Nothing, Changed, Serviced, Refused as RunRefused}
+use Rattle.model.specs.declared.Ran.the-variants.{the-data as Ran, Nothing, Changed, Serviced}
 use Rattle.model.specs.Types.{sendAt}
 use Rattle.model.specs.Events.{runs}
 use Rattle.model.specs.Runs.{trySend}
@@ -104,10 +104,6 @@ module _ (r : Run) (p : Progress) where
   pub changed-turn : (v : ℕ) (a : AfterRun) → due r p ≡ false → v ≡ drawn (p .value) → a ≡ drawnRun r p
       → a .answer ≡ Changed → went p v (a .state) ≡ turned r p
   changed-turn v a t h f g = drew-turn v a Changed t h f g
-
-  pub no-run-turn : (v : ℕ) (a : AfterRun) (k : ℕ) → due r p ≡ false → v ≡ drawn (p .value) → a ≡ drawnRun r p
-      → a .answer ≡ RunRefused k → went p v (a .state) ≡ turned r p
-  no-run-turn v a k t h f g = drew-turn v a (RunRefused k) t h f g
 
   -- a service, with room for its entry and without
   pub serviced-turn : (v : ℕ) (a : AfterRun) (q s : ℕ) → due r p ≡ false → v ≡ drawn (p .value) → a ≡ drawnRun r p

@@ -26,7 +26,7 @@ use Rattle.model.specs.Events.{Event, Send, Run, final}
 use Rattle.model.specs.Owing.{owedPairs}
 use Rattle.model.specs.Runs.{Timed, Service, Played, unplayed, storedRefusal, bookRoom, sendPlayed, entered, trySend, advance, played, playedSingly}
 use Rattle.theorems.proofs.Networks.{valid-ok}
-use Rattle.theorems.proofs.RangeKept.{empty-shaped, empty-in-range, final-shaped, reached}
+use Rattle.theorems.proofs.RangeKept.{empty-shaped, empty-in-range, reached}
 use Rattle.theorems.proofs.Played.{AllNamed, singly-state, same-played, stored-network}
 use Rattle.theorems.proofs.PlayerCounts.{singly-counts}
 use Rattle.machine.specs.Progress.{Progress, due, answered, sendTurn, drew, drawnRun, drawTurn, turned, progress}
@@ -156,15 +156,9 @@ module _ (r : StoredRun) (room : List ℕ) where
     pub progress-in-range : (k : ℕ) → inRange n (progress r room k .state) ≡ true
     progress-in-range k = rw (progress-final k) (reached n (events (eventsTo r room k)))
 
-    pub progress-shaped : (k : ℕ) → Shaped (progress r room k .state)
-    progress-shaped k = rw (progress-final k) (final-shaped n (events (eventsTo r room k)) noState empty-shaped)
-
     -- the same of the variables of a loop
     pub in-range-of : (k : ℕ) (p : Progress) → p ≡ progress r room k → inRange n (p .state) ≡ true
     in-range-of k p e = rw e (progress-in-range k)
-
-    pub shaped-of : (k : ℕ) (p : Progress) → p ≡ progress r room k → Shaped (p .state)
-    shaped-of k p e = rw e (progress-shaped k)
 
     -- services and owed pairs make up the pairs
     pub progress-counts : (k : ℕ)

@@ -1,3 +1,4 @@
+pub mod Clock
 pub mod Idle
 pub mod Owing
 pub mod Play

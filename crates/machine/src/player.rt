@@ -107,9 +107,8 @@ fn play_run(
             pairs += sets::size(set);
             continue;
         }
-        let value = draws::draw(clock.value);
-        let named = draws::event_of(value, sites);
-        clock = ticked(clock, value, d + 1);
+        clock = ticked(clock);
+        let named = draws::event_of(clock.value, sites);
         let s = named.site;
         let code = named.code;
         let seen = state.sites[s];

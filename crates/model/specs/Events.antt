@@ -22,8 +22,8 @@ refusalThen n st own = orNext (networkRefusal n) (cond (inRange n st) own 13)
 abbrev pub runFault : Network → ℕ → ℕ → ℕ
 runFault n s code = cond (ltb s (n .sites) && ltb code codeCount) 0 9
 
--- "9 .. no such site"; "10: SEND: set empty or outside S"; "12: 255 packets already accepted"; "11: out-queue full": of SEND (s, X), from
--- the numbers that it looks at: S, D, the counter and the entries of the site's out-queue
+-- "9 .. no such site"; "10: SEND: set empty or outside S"; "12: 255 packets already accepted"; "11: out-queue full": of
+-- SEND (s, X), from the numbers that it looks at: S, D, the counter and the entries of the site's out-queue
 abbrev pub sendFaultBy : ℕ → ℕ → ℕ → ℕ → ℕ → ℕ → ℕ
 sendFaultBy S D counter entries s X =
     cond (ltb s S)
