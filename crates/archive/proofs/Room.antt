@@ -1,107 +1,100 @@
--- "Room beyond S sites or N sends belongs to no network or run: it is not looked at": the tests of a run say the same of
--- the run with its room at zero. Assumes nothing.
-use mathlib.Core.Path.{_≡_, refl, ap, ap₂, _∙_}
-use mathlib.Core.Bool.{Bool, true, false, not, _&&_, _||_}
-use mathlib.Core.List.{List}
-use Prim.Native.Nat.{ℕ, _+_, _-_, _*_, _≤_, _<_}
-use native.Mathlib.Nat.{mul-le-mul, le-refl}
+-- "Room beyond S sites or N sends belongs to no network or run: it is not looked at, and the reader leaves it zero": the
+-- writer answers and writes the same of a run and of the run with that room at zero, and a run that was read has it at
+-- zero. Assumes nothing.
+use mathlib.Core.Path.{_≡_, refl, ap, ap₂}
+use mathlib.Core.Bool.{Bool, true, false, cond}
+use mathlib.Core.List.{List, [], _∷_, _++_}
+use Prim.Native.Nat.{ℕ, zero, suc, _+_, _*_, _<_}
 use native.Mathlib.Omega.{arith}
-use borrow.Author.Tests.{leb-true, eqb-false}
-use lib.Dec.{eqb, ltb, leb}
-use lib.ListN.{getD}
-use Rattle.base.specs.Sizes.{sitesMost, portCount, sendsMost, noChannel}
-use Rattle.base.specs.All.{all, all-same}
-use Rattle.base.specs.Over.{over, over-below}
-use Rattle.model.specs.declared.Network.{Network}
-use Rattle.model.specs.declared.StoredSend.{StoredSend}
+use borrow.Author.Tests.{eqb-true}
+use lib.Dec.{eqb, ltb}
+use lib.ListN.{length, getD}
+use Rattle.base.specs.Sizes.{portCount}
+use Rattle.base.specs.Bools.{either-way}
+use Rattle.base.specs.Over.{over}
 use Rattle.model.specs.declared.Run.{Run}
 use Rattle.model.specs.Types.{sendD, sendAt}
-use Rattle.model.specs.Network.{channelByte, joined, routeOf, listOf, channelOk, channelsOk, portOk, listOk, routeOk, routesOk}
-use Rattle.model.specs.Network.{choice, choices}
-use Rattle.model.specs.Runs.{sendOk, sendsOk}
-use Rattle.checks.proofs.NetworkLaws.{place-below}
-use Rattle.format.specs.Format.{at, noChannels, noRoutes, noSends, trimmedNetwork, trimmed}
-use Rattle.model.specs.Runs.{bodyRefusal}
+use Rattle.model.specs.Network.{noChannels, noRoutes, trimmedNetwork}
+use Rattle.model.specs.Runs.{storedRefusal, noSends, trimmed}
+use Rattle.theorems.proofs.Trimmed.{channels-kept, routes-kept, send-kept, trimmed-stored}
+use Rattle.format.specs.Format.{at, wordBytes, sendBytes, each, headBytes, channelBytes, routeBytes, sendsBytes}
+use Rattle.format.specs.Format.{word, sitesPlace, countPlace, headLength, routesPlace, sendsPlace, sendOf, networkOf}
+use Rattle.format.specs.Format.{lengthOf, encode, runOf, noRun}
+use Rattle.format.specs.Refusals.{readRefusal, decode, writeRefusal, writeAnswer, written}
+use Rattle.archive.proofs.Passed.{stored-passes}
 
--- ---- a network with other lists that agree within S sites
+-- ---- the writer
 
-module _ (n : Network) (cs rs : List ℕ) (hc : (i : ℕ) → i < portCount * n .sites → at cs i ≡ at (n .channels) i) where
-  abbrev other : Network
-  other = record { sites = n .sites; depth = n .depth; tries = n .tries; channels = cs; routes = rs }
+each-same : (f g : ℕ → List ℕ) (n : ℕ) → ((i : ℕ) → i < n → f i ≡ g i) → each f n ≡ each g n
+unfolding each
+each-same f g zero h = refl
+each-same f g (suc n) h = ap₂ _++_ (each-same f g n (λ i l. h i (omega arith))) (h n (omega arith))
 
-  channel-same : (c : ℕ) → c < portCount * n .sites → channelOk other c ≡ channelOk n c
-  channel-same c l =
-      let a : all (λ d. not (eqb (at cs d) (at cs c))) c ≡ all (λ d. not (eqb (channelByte n d) (channelByte n c))) c
-      = all-same (λ d. not (eqb (at cs d) (at cs c))) (λ d. not (eqb (channelByte n d) (channelByte n c))) c
-      (λ d q. ap₂ (λ (x y : ℕ). not (eqb x y)) (hc d (omega arith)) (hc c l)) in
-      ap₂ (λ (x : ℕ) (y : Bool). eqb x noChannel || ltb x (portCount * n .sites) && y) (hc c l) a
+module _ (r : Run) where
+  trimmed-write : (room : ℕ) → writeRefusal (trimmed r) room ≡ writeRefusal r room
+  unfolding writeRefusal trimmed trimmedNetwork
+  trimmed-write room = rw (trimmed-stored r) refl
 
-  channels-same : channelsOk other ≡ channelsOk n
-  channels-same = all-same (channelOk other) (channelOk n) (portCount * n .sites) channel-same
+  pub trimmed-answer : (room : ℕ) → writeAnswer (trimmed r) room ≡ writeAnswer r room
+  unfolding writeAnswer trimmed trimmedNetwork
+  trimmed-answer room = rw (trimmed-write room) refl
 
-  port-same : (s p : ℕ) → s < n .sites → portOk other s p ≡ portOk n s p
-  port-same s p h = go (eqb p 0) (leb p portCount) refl refl
+  pub trimmed-encode : storedRefusal r ≡ 0 → encode (trimmed r) ≡ encode r
+  unfolding encode headBytes channelBytes routeBytes sendsBytes trimmed trimmedNetwork
+  trimmed-encode h =
+      let n = r .network in
+      let few = stored-passes r h .fit .few in
+      rw (
+        each-same (λ c. at (trimmedNetwork n .channels) c ∷ []) (λ c. at (n .channels) c ∷ []) (portCount * n .sites)
+            (λ c l. ap (λ (b : ℕ). b ∷ []) (channels-kept n few c l)),
+        each-same (λ k. wordBytes (at (trimmedNetwork n .routes) k)) (λ k. wordBytes (at (n .routes) k)) (n .sites * n .sites)
+            (λ k l. ap wordBytes (routes-kept n few k l)),
+        each-same (λ k. sendBytes (sendAt (trimmed r) k)) (λ k. sendBytes (sendAt r k)) (r .count)
+            (λ k l. ap sendBytes (send-kept r (stored-passes r h .fit .count) k l)),
+      ) refl
+
+  write-stored : (room : ℕ) → writeRefusal r room ≡ 0 → storedRefusal r ≡ 0
+  unfolding writeRefusal
+  write-stored room h = go (eqb (storedRefusal r) 0) refl h
     where
-      go : (z l : Bool) → eqb p 0 ≡ z → leb p portCount ≡ l → z || l && joined other s (p - 1) ≡ z || l && joined n s
-          (p - 1)
-      go true l e f = refl
-      go false false e f = refl
-      go false true e f =
-          let a = eqb-false p 0 e in
-          let b = leb-true p portCount f in
-          let c : 0 < p = omega arith in
-          ap (λ (x : ℕ). not (eqb x noChannel)) (hc (portCount * s + (p - 1)) (omega arith))
+      go : (b : Bool) → eqb (storedRefusal r) 0 ≡ b → cond b (cond (ltb room (lengthOf r)) 14 0) (storedRefusal r) ≡ 0
+          → storedRefusal r ≡ 0
+      go true e k = eqb-true (storedRefusal r) 0 e
+      go false e k = k
 
-  list-same : (s : ℕ) (l : List ℕ) → s < n .sites → listOk other s l ≡ listOk n s l
-  list-same s l h =
-      let a = all-same (λ k. portOk other s (choice l k)) (λ k. portOk n s (choice l k)) portCount
-      (λ k q. port-same s (choice l k) h) in
-      rw a refl
+  pub trimmed-written : (out : List ℕ) → written (trimmed r) out ≡ written r out
+  unfolding written
+  trimmed-written out =
+      let f = writeRefusal r (length out) in
+      rw (trimmed-write (length out))
+      (either-way (eqb f 0)
+      (λ e. rw (e, trimmed-encode (write-stored (length out) (eqb-true f 0 e))) refl) (λ e. rw e refl))
 
-  module _ (hr : (k : ℕ) → k < n .sites * n .sites → at rs k ≡ at (n .routes) k) where
-    route-same : (s t : ℕ) → s < n .sites → t < n .sites → routeOk other s t ≡ routeOk n s t
-    route-same s t hs ht =
-        ap (λ (y : Bool). eqb s t && eqb (routeOf other s t) 0 || not (eqb s t) && y) (list-same s (listOf other s t) hs)
-        ∙ ap (λ (x : ℕ). eqb s t && eqb x 0 || not (eqb s t) && listOk n s (choices x))
-        (hr (s * n .sites + t) (place-below s t (n .sites) (n .sites) hs ht (le-refl (n .sites))))
+-- ---- the reader
 
-    routes-same : routesOk other ≡ routesOk n
-    routes-same =
-        all-same (λ s. all (routeOk other s) (n .sites)) (λ s. all (routeOk n s) (n .sites)) (n .sites)
-        (λ s hs. all-same (routeOk other s) (routeOk n s) (n .sites) (λ t ht. route-same s t hs ht))
+over-again : {A : Type 0} (f : ℕ → A) (k : ℕ) (xs : List A) (d : A)
+    → over (λ m. getD (over f k xs) m d) k xs ≡ over f k xs
+unfolding over
+over-again f zero xs d = refl
+over-again f (suc k) [] d = refl
+over-again f (suc k) (x ∷ xs) d = ap (_∷_ (f zero)) (over-again (λ i. f (suc i)) k xs d)
 
--- ---- a run with another network of as many sites, and with sends that agree within N
+none-trimmed : trimmed noRun ≡ noRun
+unfolding trimmed trimmedNetwork over
+none-trimmed = refl
 
-module _ (r : Run) (m : Network) (es : List StoredSend) (hm : m .sites ≡ r .network .sites)
-    (he : (k : ℕ) → k < r .count → getD es k sendD ≡ sendAt r k) where
-  abbrev run : Run
-  run = record { network = m; seed = r .seed; draws = r .draws; count = r .count; sends = es }
+module _ (b : List ℕ) where
+  run-trimmed : trimmed (runOf b) ≡ runOf b
+  unfolding trimmed trimmedNetwork runOf networkOf
+  run-trimmed =
+      let S = at b sitesPlace in
+      rw (
+        over-again (λ c. at b (headLength + c)) (portCount * S) noChannels 0,
+        over-again (λ k. word b (routesPlace S + 2 * k)) (S * S) noRoutes 0,
+        over-again (λ k. sendOf b (sendsPlace S + 5 * k)) (at b countPlace) noSends sendD,
+      ) refl
 
-  send-same : (k : ℕ) → k < r .count → sendOk run k ≡ sendOk r k
-  send-same k l = rw (he k l, he (k - 1) (omega arith), hm) refl
-
-  sends-same : sendsOk run ≡ sendsOk r
-  sends-same = all-same (sendOk run) (sendOk r) (r .count) send-same
-
--- ---- room at zero
-
-pub trimmed-body : (r : Run) → r .network .sites ≤ sitesMost → r .count ≤ sendsMost
-    → bodyRefusal (trimmed r) ≡ bodyRefusal r
-unfolding bodyRefusal trimmed trimmedNetwork
-trimmed-body r few count =
-    let n = r .network in
-    let square : n .sites * n .sites ≤ sitesMost * sitesMost = mul-le-mul few few in
-    let cs = over (at (n .channels)) (portCount * n .sites) noChannels in
-    let rs = over (at (n .routes)) (n .sites * n .sites) noRoutes in
-    let hc : (i : ℕ) → i < portCount * n .sites → at cs i ≡ at (n .channels) i
-    = λ i l. over-below (at (n .channels)) (portCount * n .sites) noChannels i 0 l (omega arith) in
-    let hr : (k : ℕ) → k < n .sites * n .sites → at rs k ≡ at (n .routes) k
-    = λ k l. over-below (at (n .routes)) (n .sites * n .sites) noRoutes k 0 l (omega arith) in
-    let he : (k : ℕ) → k < r .count → getD (over (sendAt r) (r .count) noSends) k sendD ≡ sendAt r k
-    = λ k l. over-below (sendAt r) (r .count) noSends k sendD l (omega arith) in
-    rw (
-      channels-same n cs rs hc,
-      routes-same n cs rs hc hr,
-      sends-same r (trimmedNetwork n)
-          (over (sendAt r) (r .count) noSends) refl he,
-    ) refl
+  -- a run that was read, and the all-zero run that a refusal hands back
+  pub read-trimmed : trimmed (decode b .run) ≡ decode b .run
+  unfolding decode
+  read-trimmed = either-way (eqb (readRefusal b) 0) (λ e. rw e run-trimmed) (λ e. rw e none-trimmed)

@@ -13,10 +13,11 @@ use Rattle.base.specs.Sizes.{portCount}
 use Rattle.base.specs.Over.{over-below}
 use Rattle.model.specs.Types.{sendD}
 use Rattle.format.specs.Format.{Bytes, at, word, wordBytes, sendBytes, sendOf, headBytes, encode, lengthOf, sitesPlace, countPlace}
-use Rattle.format.specs.Format.{headLength, routesPlace, sendsPlace, noChannels, noRoutes, noSends, networkOf, runOf}
+use Rattle.format.specs.Format.{headLength, routesPlace, sendsPlace, networkOf, runOf}
 use Rattle.archive.specs.Code.{Head}
 use Rattle.format.specs.Refusals.{readRefusal}
-use Rattle.model.specs.Runs.{bodyRefusal}
+use Rattle.model.specs.Network.{noChannels, noRoutes}
+use Rattle.model.specs.Runs.{bodyRefusal, noSends}
 use Rattle.archive.proofs.Numbers.{high, low, first, second, third, fourth}
 use Rattle.archive.proofs.Parts.{length-encode, in-head, in-channels, in-routes, in-sends}
 use Rattle.archive.proofs.Passed.{head-passes}

@@ -20,17 +20,16 @@ use Rattle.sets.specs.Sets.{targets}
 use Rattle.model.specs.declared.StoredSend.{StoredSend}
 use Rattle.model.specs.declared.Run.{Run}
 use Rattle.model.specs.Types.{sendD, sendAt}
-use Rattle.model.specs.Network.{sizesOk}
-use Rattle.model.specs.Runs.{sendOk, storedRefusal}
+use Rattle.model.specs.Network.{sizesOk, noChannels, noRoutes, trimmedNetwork}
+use Rattle.model.specs.Runs.{sendOk, storedRefusal, noSends, trimmed}
+use Rattle.theorems.proofs.Trimmed.{trimmed-body}
 use Rattle.format.specs.Format.{at, word, quad, sendOf, headBytes, encode, lengthOf, versionPlace, sitesPlace, countPlace}
-use Rattle.format.specs.Format.{headLength, version, routesPlace, sendsPlace, lengthWith, channelsOf, routesOf, sendsOf, noChannels}
-use Rattle.format.specs.Format.{noRoutes, noSends, networkOf, runOf, trimmedNetwork, trimmed}
+use Rattle.format.specs.Format.{headLength, version, routesPlace, sendsPlace, lengthWith, channelsOf, routesOf, sendsOf, networkOf, runOf}
 use Rattle.format.specs.Refusals.{readRefusal, decode}
 use Rattle.model.specs.Runs.{bodyRefusal}
 use Rattle.archive.proofs.Numbers.{two, four}
 use Rattle.archive.proofs.Parts.{length-encode, in-head, in-channels, in-routes, in-sends}
 use Rattle.archive.proofs.Passed.{head-passes, head-by, body-passes, Stored, stored-passes, stored-by}
-use Rattle.archive.proofs.Room.{trimmed-body}
 use Rattle.archive.proofs.RoundTripBytes.{write-read}
 use Rattle.format.specs.Format.{Bytes, Fits}
 

@@ -13,8 +13,8 @@ use Rattle.sets.specs.Sets.{targets}
 use Rattle.model.specs.declared.StoredSend.{StoredSend}
 use Rattle.model.specs.declared.Run.{Run}
 use Rattle.model.specs.Types.{sendD, sendAt}
-use Rattle.model.specs.Runs.{sendOk, sendsOk}
-use Rattle.format.specs.Format.{at, word, sitesPlace, drawsPlace, countPlace, sendsPlace, noSends, networkOf, runOf}
+use Rattle.model.specs.Runs.{sendOk, sendsOk, noSends}
+use Rattle.format.specs.Format.{at, word, sitesPlace, drawsPlace, countPlace, sendsPlace, networkOf, runOf}
 use Rattle.archive.specs.Code.{drawBefore, sendAfter, sendIn, sendsFrom}
 
 pub draw-next : (f : ℕ → StoredSend) (k : ℕ) → f k .draw ≡ drawBefore f (k + 1)

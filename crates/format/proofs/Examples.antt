@@ -9,8 +9,9 @@ use Rattle.base.specs.All.{all}
 use Rattle.base.specs.Answers.{atFront}
 use Rattle.model.specs.declared.Run.{Run}
 use Rattle.model.specs.Types.{sendD}
+use Rattle.model.specs.Network.{noRoutes}
 use Rattle.model.specs.Runs.{storedRefusal}
-use Rattle.format.specs.Format.{noRoutes, each, headBytes, channelBytes, routeBytes, sendsBytes, encode, networkOf, runOf, noRun}
+use Rattle.format.specs.Format.{each, headBytes, channelBytes, routeBytes, sendsBytes, encode, networkOf, runOf, noRun}
 use Rattle.format.specs.Refusals.{readRefusal, headThen, decode, writeRefusal, written}
 use Rattle.model.specs.Runs.{bodyRefusal}
 

@@ -2,13 +2,15 @@
 -- bytes stand for. Bytes are numbers below 256. Which bytes and runs are turned down is said in Refusals.
 use mathlib.Core.List.{List, [], _∷_, _++_}
 use Prim.Native.Nat.{ℕ, zero, suc, _+_, _*_, _/_, _%_, _<_}
-use lib.ListN.{getD, replicate}
-use Rattle.base.specs.Sizes.{sitesMost, portCount, sendsMost}
+use lib.ListN.{getD}
+use Rattle.base.specs.Sizes.{portCount}
 use Rattle.base.specs.Over.{over}
 use Rattle.model.specs.declared.Network.{Network}
 use Rattle.model.specs.declared.StoredSend.{StoredSend}
 use Rattle.model.specs.declared.Run.{Run}
 use Rattle.model.specs.Types.{sendD, sendAt}
+use Rattle.model.specs.Network.{noChannels, noRoutes}
+use Rattle.model.specs.Runs.{noSends}
 
 -- ---- "All numbers big-endian"
 
@@ -118,15 +120,6 @@ encode r =
 
 -- ---- the run of some bytes; "Room beyond S sites or N sends .. the reader leaves it zero"
 
-abbrev pub noChannels : List ℕ
-noChannels = replicate (portCount * sitesMost) 0
-
-abbrev pub noRoutes : List ℕ
-noRoutes = replicate (sitesMost * sitesMost) 0
-
-abbrev pub noSends : List StoredSend
-noSends = replicate sendsMost sendD
-
 abbrev pub channelsOf : List ℕ → ℕ → List ℕ
 channelsOf b n = over (λ c. at b (headLength + c)) n noChannels
 
@@ -157,27 +150,6 @@ runOf b =
       draws = word b drawsPlace;
       count = at b countPlace;
       sends = sendsOf b (sendsPlace (at b sitesPlace)) (at b countPlace);
-    }
-
--- a run with its room beyond S sites and N sends at zero
-unfoldable pub trimmedNetwork : Network → Network
-trimmedNetwork n =
-    record {
-      sites = n .sites;
-      depth = n .depth;
-      tries = n .tries;
-      channels = over (at (n .channels)) (portCount * n .sites) noChannels;
-      routes = over (at (n .routes)) (n .sites * n .sites) noRoutes;
-    }
-
-unfoldable pub trimmed : Run → Run
-trimmed r =
-    record {
-      network = trimmedNetwork (r .network);
-      seed = r .seed;
-      draws = r .draws;
-      count = r .count;
-      sends = over (sendAt r) (r .count) noSends;
     }
 
 -- the run that a refusal hands back

@@ -12,9 +12,9 @@ use Rattle.base.specs.Over.{length-over}
 use Rattle.model.specs.declared.Counts.{Counts}
 use Rattle.model.specs.declared.Run.{Run}
 use Rattle.model.specs.Types.{sendD}
-use Rattle.model.specs.Runs.{storedRefusal, bookRoom, playedRun, countsOf}
+use Rattle.model.specs.Runs.{storedRefusal, noSends, bookRoom, playedRun, countsOf}
 use Rattle.format.specs.declared.Decoded.{Decoded}
-use Rattle.format.specs.Format.{runOf, sendOf, sendsPlace, at, sitesPlace, countPlace, noSends, noRun}
+use Rattle.format.specs.Format.{runOf, sendOf, sendsPlace, at, sitesPlace, countPlace, noRun}
 use Rattle.format.specs.Refusals.{readRefusal, decode}
 use Rattle.model.specs.Runs.{bodyRefusal}
 use Rattle.archive.proofs.Passed.{head-passes, stored-by}

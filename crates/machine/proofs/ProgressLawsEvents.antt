@@ -31,7 +31,6 @@ use Rattle.theorems.proofs.Played.{AllNamed, singly-state, same-played, stored-
 use Rattle.theorems.proofs.PlayerCounts.{singly-counts}
 use Rattle.machine.specs.Progress.{Progress, due, answered, sendTurn, drew, drawnRun, drawTurn, turned, progress}
 use Rattle.machine.proofs.ProgressLaws.{sizesTo, sizes-grow, facts}
-use Rattle.model.specs.Shapes.{Shaped}
 use Rattle.model.specs.Runs.{events}
 
 -- ---- the events of the first k turns, and their services

@@ -1,13 +1,13 @@
 -- Document 01, "Network and state": channels, route lists, and which networks are valid, as the refusal number 3, 6, 7 or none.
--- Room beyond S sites is not looked at.
-use Prim.Native.Nat.{ℕ, _+_, _-_, _*_, _/_, _%_}
+use Prim.Native.Nat.{ℕ, zero, suc, _+_, _-_, _*_, _/_, _%_}
 use mathlib.Core.List.{List, [], _∷_}
 use mathlib.Core.Bool.{Bool, cond, not, _&&_, _||_}
 use lib.Dec.{eqb, ltb, leb}
-use lib.ListN.{getD}
+use lib.ListN.{getD, replicate}
 use Rattle.base.specs.Sizes.{sitesMost, portCount, queueRoom, noChannel}
 use Rattle.base.specs.Bools.{implies}
 use Rattle.base.specs.All.{all}
+use Rattle.base.specs.Over.{over}
 use Rattle.model.specs.Types.{Network}
 
 -- "per site and port 1..4 a channel byte, 255 for none, else 4 x site + port - 1 of the input": that of output j + 1 of site s
@@ -86,3 +86,21 @@ joinsThen n next = cond (channelsOk n) (cond (routesOk n) next 7) 6
 -- "3: S, T or D outside its limits"; 6; 7; 0 for a valid network
 unfoldable pub networkRefusal : Network → ℕ
 networkRefusal n = cond (sizesOk n) (joinsThen n 0) 3
+
+-- "Room beyond S sites .. belongs to no network ..: it is not looked at": a network with that room at zero, of which every test
+-- and every event says the same
+abbrev pub noChannels : List ℕ
+noChannels = replicate (portCount * sitesMost) 0
+
+abbrev pub noRoutes : List ℕ
+noRoutes = replicate (sitesMost * sitesMost) 0
+
+unfoldable pub trimmedNetwork : Network → Network
+trimmedNetwork n =
+    record {
+      sites = n .sites;
+      depth = n .depth;
+      tries = n .tries;
+      channels = over (channelByte n) (portCount * n .sites) noChannels;
+      routes = over (λ m. getD (n .routes) m 0) (n .sites * n .sites) noRoutes;
+    }

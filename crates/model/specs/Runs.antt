@@ -3,17 +3,17 @@ use Prim.Native.Nat.{ℕ, zero, suc, _+_, _-_, _*_, _/_, _%_}
 use mathlib.Core.List.{List, [], _∷_, _++_, map}
 use mathlib.Core.Bool.{Bool, cond, _&&_, _||_}
 use lib.Dec.{eqb, ltb, leb}
-use lib.ListN.{getD, take, length}
+use lib.ListN.{getD, take, length, replicate}
 use Rattle.base.specs.Sizes.{sendsMost}
 use Rattle.base.specs.All.{all}
+use Rattle.base.specs.Over.{over}
 use Rattle.base.specs.Sums.{sum, upto}
 use Rattle.sets.specs.Sets.{targets, size}
 use Rattle.draws.specs.Draws.{valueAfter, drawnSite, drawnCode}
-use Rattle.model.specs.Types.{State, Network, StoredSend, Run as StoredRun, Sent, Accepted, SendRefused, Ran, AfterSend}
-use Rattle.model.specs.Types.{AfterRun, Counts}
-use Rattle.model.specs.Types.{noState, sendAt}
+use Rattle.model.specs.Types.{State, Network, StoredSend, Run as StoredRun, Sent, Accepted, SendRefused, Ran, AfterSend, AfterRun, Counts}
+use Rattle.model.specs.Types.{noState, sendD, sendAt}
 use Rattle.model.specs.Numbers.{answerOf, ranPacket, ranSite}
-use Rattle.model.specs.Network.{sizesOk, joinsThen}
+use Rattle.model.specs.Network.{sizesOk, joinsThen, trimmedNetwork}
 use Rattle.model.specs.Events.{Event, Send, Run, sendFault, runs, sends, ran, sent}
 use Rattle.model.specs.Owing.{owedPairs}
 
@@ -39,6 +39,21 @@ storedRefusal R =
     (cond (eqb (R .seed) 0) 4
     (cond (leb (R .count) sendsMost) (bodyRefusal R) 5))
     3
+
+-- "Room beyond S sites or N sends belongs to no network or run: it is not looked at, and the reader leaves it zero": a run with
+-- that room at zero
+abbrev pub noSends : List StoredSend
+noSends = replicate sendsMost sendD
+
+unfoldable pub trimmed : StoredRun → StoredRun
+trimmed R =
+    record {
+      network = trimmedNetwork (R .network);
+      seed = R .seed;
+      draws = R .draws;
+      count = R .count;
+      sends = over (sendAt R) (R .count) noSends;
+    }
 
 -- "A send marked d is applied before draw d (counted from 0), in stored order": the sends marked d
 unfoldable pub marked : ℕ → List StoredSend → List Event

@@ -43,7 +43,7 @@ input-tag S T k os i y h f =
     (implies (aborting ph) (splitting ph && not (anyRemote bs))) h in
     pick-at (isFree ph) (zeroInput y) used (w .1) .1 f
 
-seek-set : (n : Network) (st : State) (s : ℕ) → n .sites ≤ sitesMost → inRange n st ≡ true → s < n .sites → (i : ℕ)
+pub seek-set : (n : Network) (st : State) (s : ℕ) → n .sites ≤ sitesMost → inRange n st ≡ true → s < n .sites → (i : ℕ)
     → i < inputCount
     → let y = inAt (siteAt (st .sites) s) i in
     y .phase ≡ Seek → (0 < y .set) × (y .set < 2 ^ n .sites)

@@ -27,3 +27,5 @@ pub mod Answers
 pub mod Pairs
 pub mod Played
 pub mod PlayerCounts
+pub mod RoomLaws
+pub mod Trimmed

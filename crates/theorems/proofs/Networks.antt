@@ -32,6 +32,16 @@ passed n h =
     let b = first-of (channelsOk n) _ 6 0 (λ e. omega arith) (a .1) in
     (a .0, b .0, first-of (routesOk n) 0 7 0 (λ e. omega arith) (b .1) .0)
 
+-- S, T and D within their limits
+pub sizes-at : (n : Network) → sizesOk n ≡ true
+    → (1 ≤ n .sites) × (n .sites ≤ sitesMost) × (1 ≤ n .tries) × (1 ≤ n .depth) × (n .depth ≤ queueRoom)
+sizes-at n h =
+    let a = both _ (leb (n .depth) queueRoom) h in
+    let b = both _ (leb 1 (n .depth)) (a .0) in
+    let c = both _ (leb 1 (n .tries)) (b .0) in
+    let d = both (leb 1 (n .sites)) (leb (n .sites) sitesMost) (c .0) in
+    (leb-true _ _ (d .0), leb-true _ _ (d .1), leb-true _ _ (c .1), leb-true _ _ (b .1), leb-true _ _ (a .1))
+
 module _ (n : Network) (h : networkRefusal n ≡ 0) where
   channel-ok : (c : ℕ) → c < portCount * n .sites → (channelByte n c ≡ noChannel → ⊥)
       → (channelByte n c < portCount * n .sites) × ((d : ℕ) → d < c → channelByte n d ≡ channelByte n c → ⊥)
@@ -54,16 +64,9 @@ module _ (n : Network) (h : networkRefusal n ≡ 0) where
   there : {b : ℕ} → not (eqb b noChannel) ≡ true → b ≡ noChannel → ⊥
   there {b} e = eqb-false b noChannel (not-true (eqb b noChannel) e)
 
-  sizes : (1 ≤ n .sites) × (n .sites ≤ sitesMost) × (1 ≤ n .tries) × (1 ≤ n .depth) × (n .depth ≤ queueRoom)
-  sizes =
-      let a = both _ (leb (n .depth) queueRoom) (passed n h .0) in
-      let b = both _ (leb 1 (n .depth)) (a .0) in
-      let c = both _ (leb 1 (n .tries)) (b .0) in
-      let d = both (leb 1 (n .sites)) (leb (n .sites) sitesMost) (c .0) in
-      (leb-true _ _ (d .0), leb-true _ _ (d .1), leb-true _ _ (c .1), leb-true _ _ (b .1), leb-true _ _ (a .1))
-
   pub valid-ok : Valid n
   valid-ok =
+      let sizes = sizes-at n (passed n h .0) in
       record {
         some = sizes .0;
         few = sizes .1;

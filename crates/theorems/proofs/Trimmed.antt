@@ -1,0 +1,192 @@
+-- "Room beyond S sites or N sends belongs to no network or run: it is not looked at": the test of a network, RUN, SEND, the
+-- test of a stored run and the run played say the same of a network or run and of the one with that room at zero.
+-- Assumes nothing.
+use Prim.Native.Nat.{ℕ, zero, suc, _-_, _*_, _≤_, _<_}
+use mathlib.Core.Path.{_≡_, refl, sym, ap, _∙_}
+use mathlib.Core.List.{List, [], _∷_}
+use mathlib.Core.Bool.{true}
+use native.Mathlib.Decide.{decLt}
+use native.Mathlib.Nat.{mul-le-mul, le-of-suc-le-suc, not-suc-le-zero}
+use native.Mathlib.Omega.{arith}
+use borrow.Author.Tests.{leb-true, eqb-true}
+use lib.Dec.{eqb, ltb, leb}
+use lib.ListN.{getD, take, length, List·getD-eq-default}
+use Rattle.base.specs.Sizes.{sitesMost, portCount, sendsMost}
+use Rattle.base.specs.Bools.{both, either-way, first-of, second-of}
+use Rattle.base.specs.All.{all-at, all-same}
+use Rattle.base.specs.Over.{over, over-below}
+use Rattle.sets.specs.Sets.{targets}
+use Rattle.sets.proofs.Laws.{targets-at}
+use Rattle.theorems.specs.Names.{State, Network, StoredSend, Run as StoredRun, AfterRun, AfterSend}
+use Rattle.model.specs.Types.{sendD, sendAt}
+use Rattle.model.specs.Network.{channelByte, sizesOk, channelsOk, routesOk, joinsThen, networkRefusal}
+use Rattle.model.specs.Network.{noChannels, noRoutes, trimmedNetwork}
+use Rattle.model.specs.Range.{inRange}
+use Rattle.model.specs.Steps.{Stepped}
+use Rattle.model.specs.Events.{Event, Send, Run, runRefusal, sendRefusal, runs, ran, sent}
+use Rattle.model.specs.Runs.{sendOk, sendsOk, bodyRefusal, storedRefusal, noSends, trimmed}
+use Rattle.model.specs.Runs.{Timed, marked, sendsAt, scriptTo, script}
+use Rattle.model.specs.Runs.{Played, unplayed, sendPlayed, runPlayed, advanceSingly, playedSingly, playedRun}
+use Rattle.theorems.proofs.Networks.{sizes-at, valid-ok}
+use Rattle.theorems.proofs.Refusals.{run-passes}
+use Rattle.theorems.proofs.Demand3.{seek-set}
+use Rattle.theorems.proofs.RoomLaws.{joins-same, run-same}
+use Rattle.theorems.proofs.Played.{played-singly}
+
+-- ---- a network
+
+module _ (n : Network) (few : n .sites ≤ sitesMost) where
+  pub channels-kept : (m : ℕ) → m < portCount * n .sites → getD (trimmedNetwork n .channels) m 0 ≡ channelByte n m
+  unfolding trimmedNetwork
+  channels-kept m l = over-below (channelByte n) (portCount * n .sites) noChannels m 0 l (omega arith)
+
+  pub routes-kept : (m : ℕ) → m < n .sites * n .sites → getD (trimmedNetwork n .routes) m 0 ≡ getD (n .routes) m 0
+  unfolding trimmedNetwork
+  routes-kept m l =
+      let square : n .sites * n .sites ≤ sitesMost * sitesMost = mul-le-mul few few in
+      over-below (λ m. getD (n .routes) m 0) (n .sites * n .sites) noRoutes m 0 l (omega arith)
+
+  trimmed-joins : (next : ℕ) → joinsThen (trimmedNetwork n) next ≡ joinsThen n next
+  unfolding trimmedNetwork
+  trimmed-joins next =
+      joins-same n (trimmedNetwork n .channels) (trimmedNetwork n .routes) channels-kept routes-kept next
+
+pub trimmed-refusal : (n : Network) → networkRefusal (trimmedNetwork n) ≡ networkRefusal n
+unfolding networkRefusal trimmedNetwork
+trimmed-refusal n = either-way (sizesOk n) (λ e. rw e (trimmed-joins n (sizes-at n e .1) 0)) (λ e. rw e refl)
+
+-- ---- RUN and SEND
+
+run-refusal : (n : Network) (st : State) (s code : ℕ) → runRefusal (trimmedNetwork n) st s code ≡ runRefusal n st s code
+unfolding runRefusal inRange trimmedNetwork
+run-refusal n st s code = rw (trimmed-refusal n) refl
+
+send-refusal : (n : Network) (st : State) (s X : ℕ) → sendRefusal (trimmedNetwork n) st s X ≡ sendRefusal n st s X
+unfolding sendRefusal inRange trimmedNetwork
+send-refusal n st s X = rw (trimmed-refusal n) refl
+
+runs-same : (n : Network) (st : State) (s code : ℕ) → runRefusal n st s code ≡ 0
+    → runs (trimmedNetwork n) st s code ≡ runs n st s code
+unfolding trimmedNetwork
+runs-same n st s code h =
+    let w = run-passes n st s code h in
+    let few = valid-ok n (w .network) .few in
+    let n′ = trimmedNetwork n in
+    let left : Stepped → AfterRun =
+    λ r. record { answer = r .answer; state = record { sites = r .sites; counter = st .counter } } in
+    ap left
+    (run-same n (n′ .channels) (n′ .routes) (channels-kept n few) (routes-kept n few) s (w .site) (st .sites) few
+    (seek-set n st s few (w .range) (w .site)) code)
+
+pub trimmed-ran : (n : Network) (st : State) (s code : ℕ) → ran (trimmedNetwork n) st s code ≡ ran n st s code
+unfolding ran
+trimmed-ran n st s code =
+    rw (run-refusal n st s code)
+    (either-way (eqb (runRefusal n st s code) 0)
+    (λ e. rw e (runs-same n st s code (eqb-true (runRefusal n st s code) 0 e))) (λ e. rw e refl))
+
+pub trimmed-sent : (n : Network) (st : State) (s X : ℕ) → sent (trimmedNetwork n) st s X ≡ sent n st s X
+unfolding sent
+trimmed-sent n st s X = rw (send-refusal n st s X) refl
+
+-- ---- a stored run
+
+pub send-kept : (R : StoredRun) → R .count ≤ sendsMost → (m : ℕ) → m < R .count → sendAt (trimmed R) m ≡ sendAt R m
+unfolding trimmed
+send-kept R few m l = over-below (sendAt R) (R .count) noSends m sendD l (omega arith)
+
+trimmed-sends : (R : StoredRun) → R .count ≤ sendsMost → sendsOk (trimmed R) ≡ sendsOk R
+unfolding trimmed trimmedNetwork
+trimmed-sends R few =
+    all-same (sendOk (trimmed R)) (sendOk R) (R .count)
+    (λ m l. rw (send-kept R few m l, send-kept R few (m - 1) (omega arith)) refl)
+
+-- 6, 7 and 8, which reader and writer share
+pub trimmed-body : (R : StoredRun) → R .network .sites ≤ sitesMost → R .count ≤ sendsMost
+    → bodyRefusal (trimmed R) ≡ bodyRefusal R
+unfolding bodyRefusal trimmed
+trimmed-body R few count = rw (trimmed-sends R count) (trimmed-joins (R .network) few _)
+
+pub trimmed-stored : (R : StoredRun) → storedRefusal (trimmed R) ≡ storedRefusal R
+unfolding storedRefusal trimmed trimmedNetwork
+trimmed-stored R =
+    either-way (sizesOk (R .network))
+    (λ e.
+    either-way (leb (R .count) sendsMost)
+    (λ f. rw (e, f, trimmed-body R (sizes-at (R .network) e .1) (leb-true (R .count) sendsMost f)) refl)
+    (λ f. rw (e, f) refl))
+    (λ e. rw e refl)
+
+-- ---- a stored run, played
+
+-- a run that is not refused has its N sends: none of them is beyond the list
+
+sends-there : (R : StoredRun) → sendsOk R ≡ true → R .count ≤ length (R .sends)
+sends-there R h = go (decLt (length (R .sends)) (R .count))
+  where
+    go : Dec (length (R .sends) < R .count) → R .count ≤ length (R .sends)
+    go (no l) = omega arith
+    go (yes l) =
+        let S = R .network .sites in
+        let m = length (R .sends) in
+        let e : sendAt R m ≡ sendD = List·getD-eq-default (R .sends) sendD (omega arith) in
+        let a = both _ _ (both _ _ (all-at (sendOk R) m (R .count) l h) .0) in
+        let b = both (ltb (sendAt R m .site) S) (targets S (sendAt R m .set)) (a .0) in
+        absurd (omega (arith, targets-at S (sendAt R m .set) (b .1) .0, ap (λ (f : StoredSend). f .set) e))
+
+take-over : {A : Type 0} (l xs : List A) (d : A) (k : ℕ) → k ≤ length l → k ≤ length xs
+    → take k (over (λ m. getD l m d) k xs) ≡ take k l
+unfolding over
+take-over l xs d zero a b = refl
+take-over [] xs d (suc k) a b = absurd (not-suc-le-zero a)
+take-over (x ∷ l) [] d (suc k) a b = absurd (not-suc-le-zero b)
+take-over (x ∷ l) (y ∷ xs) d (suc k) a b = ap (_∷_ x) (take-over l xs d k (le-of-suc-le-suc a) (le-of-suc-le-suc b))
+
+module _ (R : StoredRun) (h : storedRefusal R ≡ 0) where
+  abbrev R′ : StoredRun
+  R′ = trimmed R
+
+  passed-sends : (R .count ≤ sendsMost) × (R .count ≤ length (R .sends))
+  unfolding storedRefusal bodyRefusal
+  passed-sends =
+      let a = first-of (sizesOk (R .network)) _ 3 0 (λ e. omega arith) h in
+      let b = second-of (eqb (R .seed) 0) 4 _ 0 (λ e. omega arith) (a .1) in
+      let c = first-of (leb (R .count) sendsMost) _ 5 0 (λ e. omega arith) (b .1) in
+      let d = first-of (channelsOk (R .network)) _ 6 0 (λ e. omega arith) (c .1) in
+      let f = first-of (routesOk (R .network)) _ 7 0 (λ e. omega arith) (d .1) in
+      let g = first-of (sendsOk R) 0 8 0 (λ e. omega arith) (f .1) in
+      (leb-true (R .count) sendsMost (c .0), sends-there R (g .0))
+
+  sends-at : (d : ℕ) → sendsAt R′ d ≡ sendsAt R d
+  unfolding trimmed
+  sends-at d = ap (marked d) (take-over (R .sends) noSends sendD (R .count) (passed-sends .1) (passed-sends .0))
+
+  -- the events that it stands for
+  script-to : (d : ℕ) → scriptTo R′ d ≡ scriptTo R d
+  unfolding scriptTo trimmed trimmedNetwork
+  script-to zero = refl
+  script-to (suc d) = rw (script-to d, sends-at d) refl
+
+  trimmed-script : script R′ ≡ script R
+  unfolding script trimmed
+  trimmed-script = rw (script-to (R .draws), sends-at (R .draws)) refl
+
+module _ (n : Network) where
+  step-same : (g : Played) (d : ℕ) (e : Event) → advanceSingly (trimmedNetwork n) g d e ≡ advanceSingly n g d e
+  step-same g d (Send s X) = ap (λ (w : AfterSend). sendPlayed g X w (w .answer)) (trimmed-sent n (g .state) s X)
+  step-same g d (Run s code) = ap (runPlayed g d) (trimmed-ran n (g .state) s code)
+
+  singly-same : (g : Played) (es : List Timed) → playedSingly (trimmedNetwork n) g es ≡ playedSingly n g es
+  unfolding playedSingly
+  singly-same g [] = refl
+  singly-same g (e ∷ es) =
+      ap (λ (w : Played). playedSingly (trimmedNetwork n) w es) (step-same g (e .draw) (e .event))
+      ∙ singly-same (advanceSingly n g (e .draw) (e .event)) es
+
+pub trimmed-played : (R : StoredRun) → storedRefusal R ≡ 0 → playedRun (trimmed R) ≡ playedRun R
+unfolding trimmed
+trimmed-played R h =
+    played-singly (trimmed R) (trimmed-stored R ∙ h)
+    ∙ ap (playedSingly (trimmedNetwork (R .network)) unplayed) (trimmed-script R h)
+    ∙ singly-same (R .network) unplayed (script R)
+    ∙ sym (played-singly R h)
