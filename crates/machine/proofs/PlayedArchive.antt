@@ -7,7 +7,7 @@ use mathlib.Core.List.{List, [], _∷_, _++_}
 use native.Mathlib.Omega.{arith}
 use borrow.Author.Tests.{eqb-true, eqb-false}
 use lib.Dec.{eqb, ltb}
-use lib.ListN.{getD, length, drop}
+use lib.ListN.{getD, length}
 use Rattle.base.specs.Answers.{atFront}
 use Rattle.base.specs.Sums.{sum, upto, upto-ext}
 use Rattle.sets.specs.Sets.{bit}

@@ -24,7 +24,7 @@ use Rattle.model.specs.Phases.{isFree, listening, connected, splitting, abortin
 use Rattle.model.specs.Range.{inputOk, outputOk, outQueueOk, inQueueOk, siteOk, placeOk, inRange, tagOk, zeroInput, zeroOutput, anyMark, anyRemote, fedBy}
 use Rattle.model.specs.NetInput.{Turn, Stay, To, allReady, hears, ready, inState, netInput}
 use Rattle.model.specs.Places.{Work, Rest, Cleared, Service, localOutput, deliver, channelOutput, outQueue, operator, timeout}
-use Rattle.model.specs.Steps.{Act, ownTurn, passTurn, workDone, setBoth, netOutput, act, ends}
+use Rattle.model.specs.Steps.{Act, ownTurn, passTurn, workDone, setBoth, netOutput, act}
 use Rattle.theorems.proofs.Networks.{Valid}
 use Rattle.machine.specs.Step.{ofAct, Runnable, Bytes, Passable, farAt, fourEnds}
 

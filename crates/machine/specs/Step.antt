@@ -14,7 +14,8 @@ use Rattle.model.specs.Types.{noInput, inputD, inAt, outAt, setSite}
 use Rattle.model.specs.Network.{channel, joined}
 use Rattle.model.specs.Numbers.{stateNumber}
 use Rattle.model.specs.Steps.{Act, Idle, Own, Serve, Pass, setFar}
-use Rattle.machine.specs.declared.step.Act.the-variants.{the-data as Did, Idle as didNothing, Own as didOwn, Serve as didServe, Pass as didPass}
+use Rattle.machine.specs.declared.step.Act.the-variants.{the-data as Did, Idle as didNothing, Own as didOwn}
+use Rattle.machine.specs.declared.step.Act.the-variants.{Serve as didServe, Pass as didPass}
 use Rattle.machine.specs.declared.step.Change.{Change}
 
 abbrev pub unchanged : Site → Change

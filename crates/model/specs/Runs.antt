@@ -10,7 +10,8 @@ use Rattle.base.specs.Over.{over}
 use Rattle.base.specs.Sums.{sum, upto}
 use Rattle.sets.specs.Sets.{targets, size}
 use Rattle.draws.specs.Draws.{valueAfter, drawnSite, drawnCode}
-use Rattle.model.specs.Types.{State, Network, StoredSend, Run as StoredRun, Sent, Accepted, SendRefused, Ran, AfterSend, AfterRun, Counts}
+use Rattle.model.specs.Types.{State, Network, StoredSend, Run as StoredRun, Sent, Accepted, SendRefused, Ran, AfterSend}
+use Rattle.model.specs.Types.{AfterRun, Counts}
 use Rattle.model.specs.Types.{noState, sendD, sendAt}
 use Rattle.model.specs.Numbers.{answerOf, ranPacket, ranSite}
 use Rattle.model.specs.Network.{sizesOk, joinsThen, trimmedNetwork}

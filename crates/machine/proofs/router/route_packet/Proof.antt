@@ -4,7 +4,7 @@ use Prim.Native.Nat.{ℕ, _<_}
 use native.Mathlib.Omega.{arith}
 use lib.Dec.{ltb}
 use borrow.Author.Tests.{eq-eqb, ne-eqb, lt-ltb}
-use Rattle.sets.specs.Sets.{only, lowest}
+use Rattle.sets.specs.Sets.{only}
 use Rattle.machine.specs.Router.{ofChoice}
 use Rattle.machine.proofs.Search.{own-busy, own-empty, route-single, route-busy, route-every, route-missing, every-of, missing-of, lowest-in, other-in}
 use borrow.Author.Needs.{needs}
