@@ -91,48 +91,47 @@ trimmed-sent n st s X = rw (send-refusal n st s X) refl
 
 -- ---- a stored run
 
-pub send-kept : (R : StoredRun) → R .count ≤ sendsMost → (m : ℕ) → m < R .count → sendAt (trimmed R) m ≡ sendAt R m
+pub send-kept : (r : StoredRun) → r .count ≤ sendsMost → (m : ℕ) → m < r .count → sendAt (trimmed r) m ≡ sendAt r m
 unfolding trimmed
-send-kept R few m l = over-below (sendAt R) (R .count) noSends m sendD l (omega arith)
+send-kept r few m l = over-below (sendAt r) (r .count) noSends m sendD l (omega arith)
 
-trimmed-sends : (R : StoredRun) → R .count ≤ sendsMost → sendsOk (trimmed R) ≡ sendsOk R
+trimmed-sends : (r : StoredRun) → r .count ≤ sendsMost → sendsOk (trimmed r) ≡ sendsOk r
 unfolding trimmed trimmedNetwork
-trimmed-sends R few =
-    all-same (sendOk (trimmed R)) (sendOk R) (R .count)
-    (λ m l. rw (send-kept R few m l, send-kept R few (m - 1) (omega arith)) refl)
+trimmed-sends r few =
+    all-same (sendOk (trimmed r)) (sendOk r) (r .count)
+    (λ m l. rw (send-kept r few m l, send-kept r few (m - 1) (omega arith)) refl)
 
--- 6, 7 and 8, which reader and writer share
-pub trimmed-body : (R : StoredRun) → R .network .sites ≤ sitesMost → R .count ≤ sendsMost
-    → bodyRefusal (trimmed R) ≡ bodyRefusal R
+-- 6, 7 and 8, which reader and writer share, behind the tests of S and N
+pub trimmed-body : (r : StoredRun) → r .network .sites ≤ sitesMost → r .count ≤ sendsMost
+    → bodyRefusal (trimmed r) ≡ bodyRefusal r
 unfolding bodyRefusal trimmed
-trimmed-body R few count = rw (trimmed-sends R count) (trimmed-joins (R .network) few _)
+trimmed-body r few count = rw (trimmed-sends r count) (trimmed-joins (r .network) few _)
 
-pub trimmed-stored : (R : StoredRun) → storedRefusal (trimmed R) ≡ storedRefusal R
+pub trimmed-stored : (r : StoredRun) → storedRefusal (trimmed r) ≡ storedRefusal r
 unfolding storedRefusal trimmed trimmedNetwork
-trimmed-stored R =
-    either-way (sizesOk (R .network))
+trimmed-stored r =
+    either-way (sizesOk (r .network))
     (λ e.
-    either-way (leb (R .count) sendsMost)
-    (λ f. rw (e, f, trimmed-body R (sizes-at (R .network) e .1) (leb-true (R .count) sendsMost f)) refl)
+    either-way (leb (r .count) sendsMost)
+    (λ f. rw (e, f, trimmed-body r (sizes-at (r .network) e .1) (leb-true (r .count) sendsMost f)) refl)
     (λ f. rw (e, f) refl))
     (λ e. rw e refl)
 
 -- ---- a stored run, played
 
 -- a run that is not refused has its N sends: none of them is beyond the list
-
-sends-there : (R : StoredRun) → sendsOk R ≡ true → R .count ≤ length (R .sends)
-sends-there R h = go (decLt (length (R .sends)) (R .count))
+sends-there : (r : StoredRun) → sendsOk r ≡ true → r .count ≤ length (r .sends)
+sends-there r h = go (decLt (length (r .sends)) (r .count))
   where
-    go : Dec (length (R .sends) < R .count) → R .count ≤ length (R .sends)
+    go : Dec (length (r .sends) < r .count) → r .count ≤ length (r .sends)
     go (no l) = omega arith
     go (yes l) =
-        let S = R .network .sites in
-        let m = length (R .sends) in
-        let e : sendAt R m ≡ sendD = List·getD-eq-default (R .sends) sendD (omega arith) in
-        let a = both _ _ (both _ _ (all-at (sendOk R) m (R .count) l h) .0) in
-        let b = both (ltb (sendAt R m .site) S) (targets S (sendAt R m .set)) (a .0) in
-        absurd (omega (arith, targets-at S (sendAt R m .set) (b .1) .0, ap (λ (f : StoredSend). f .set) e))
+        let S = r .network .sites in
+        let m = length (r .sends) in
+        let e : sendAt r m ≡ sendD = List·getD-eq-default (r .sends) sendD (omega arith) in
+        let a = both _ _ (both _ _ (all-at (sendOk r) m (r .count) l h) .0) in
+        let b = both (ltb (sendAt r m .site) S) (targets S (sendAt r m .set)) (a .0) in
+        absurd (omega (arith, targets-at S (sendAt r m .set) (b .1) .0, ap (λ (f : StoredSend). f .set) e))
 
 take-over : {A : Type 0} (l xs : List A) (d : A) (k : ℕ) → k ≤ length l → k ≤ length xs
     → take k (over (λ m. getD l m d) k xs) ≡ take k l
@@ -142,34 +141,34 @@ take-over [] xs d (suc k) a b = absurd (not-suc-le-zero a)
 take-over (x ∷ l) [] d (suc k) a b = absurd (not-suc-le-zero b)
 take-over (x ∷ l) (y ∷ xs) d (suc k) a b = ap (_∷_ x) (take-over l xs d k (le-of-suc-le-suc a) (le-of-suc-le-suc b))
 
-module _ (R : StoredRun) (h : storedRefusal R ≡ 0) where
-  abbrev R′ : StoredRun
-  R′ = trimmed R
+module _ (r : StoredRun) (h : storedRefusal r ≡ 0) where
+  abbrev r′ : StoredRun
+  r′ = trimmed r
 
-  passed-sends : (R .count ≤ sendsMost) × (R .count ≤ length (R .sends))
+  passed-sends : (r .count ≤ sendsMost) × (r .count ≤ length (r .sends))
   unfolding storedRefusal bodyRefusal
   passed-sends =
-      let a = first-of (sizesOk (R .network)) _ 3 0 (λ e. omega arith) h in
-      let b = second-of (eqb (R .seed) 0) 4 _ 0 (λ e. omega arith) (a .1) in
-      let c = first-of (leb (R .count) sendsMost) _ 5 0 (λ e. omega arith) (b .1) in
-      let d = first-of (channelsOk (R .network)) _ 6 0 (λ e. omega arith) (c .1) in
-      let f = first-of (routesOk (R .network)) _ 7 0 (λ e. omega arith) (d .1) in
-      let g = first-of (sendsOk R) 0 8 0 (λ e. omega arith) (f .1) in
-      (leb-true (R .count) sendsMost (c .0), sends-there R (g .0))
+      let a = first-of (sizesOk (r .network)) _ 3 0 (λ e. omega arith) h in
+      let b = second-of (eqb (r .seed) 0) 4 _ 0 (λ e. omega arith) (a .1) in
+      let c = first-of (leb (r .count) sendsMost) _ 5 0 (λ e. omega arith) (b .1) in
+      let d = first-of (channelsOk (r .network)) _ 6 0 (λ e. omega arith) (c .1) in
+      let f = first-of (routesOk (r .network)) _ 7 0 (λ e. omega arith) (d .1) in
+      let g = first-of (sendsOk r) 0 8 0 (λ e. omega arith) (f .1) in
+      (leb-true (r .count) sendsMost (c .0), sends-there r (g .0))
 
-  sends-at : (d : ℕ) → sendsAt R′ d ≡ sendsAt R d
+  sends-at : (d : ℕ) → sendsAt r′ d ≡ sendsAt r d
   unfolding trimmed
-  sends-at d = ap (marked d) (take-over (R .sends) noSends sendD (R .count) (passed-sends .1) (passed-sends .0))
+  sends-at d = ap (marked d) (take-over (r .sends) noSends sendD (r .count) (passed-sends .1) (passed-sends .0))
 
   -- the events that it stands for
-  script-to : (d : ℕ) → scriptTo R′ d ≡ scriptTo R d
+  script-to : (d : ℕ) → scriptTo r′ d ≡ scriptTo r d
   unfolding scriptTo trimmed trimmedNetwork
   script-to zero = refl
   script-to (suc d) = rw (script-to d, sends-at d) refl
 
-  trimmed-script : script R′ ≡ script R
+  trimmed-script : script r′ ≡ script r
   unfolding script trimmed
-  trimmed-script = rw (script-to (R .draws), sends-at (R .draws)) refl
+  trimmed-script = rw (script-to (r .draws), sends-at (r .draws)) refl
 
 module _ (n : Network) where
   step-same : (g : Played) (d : ℕ) (e : Event) → advanceSingly (trimmedNetwork n) g d e ≡ advanceSingly n g d e
@@ -183,10 +182,10 @@ module _ (n : Network) where
       ap (λ (w : Played). playedSingly (trimmedNetwork n) w es) (step-same g (e .draw) (e .event))
       ∙ singly-same (advanceSingly n g (e .draw) (e .event)) es
 
-pub trimmed-played : (R : StoredRun) → storedRefusal R ≡ 0 → playedRun (trimmed R) ≡ playedRun R
+pub trimmed-played : (r : StoredRun) → storedRefusal r ≡ 0 → playedRun (trimmed r) ≡ playedRun r
 unfolding trimmed
-trimmed-played R h =
-    played-singly (trimmed R) (trimmed-stored R ∙ h)
-    ∙ ap (playedSingly (trimmedNetwork (R .network)) unplayed) (trimmed-script R h)
-    ∙ singly-same (R .network) unplayed (script R)
-    ∙ sym (played-singly R h)
+trimmed-played r h =
+    played-singly (trimmed r) (trimmed-stored r ∙ h)
+    ∙ ap (playedSingly (trimmedNetwork (r .network)) unplayed) (trimmed-script r h)
+    ∙ singly-same (r .network) unplayed (script r)
+    ∙ sym (played-singly r h)
