@@ -1,6 +1,6 @@
-# Of scripts/settled.sh: reads the libraries' code, their proofs/Lib.antt and the theorems, and holds each public function
-# to its theorem. Public is each `pub fn`, `pub const fn` and `pub extern "C" fn`, also in an `impl` or a `mod`; what is
-# `pub(crate)` is not. Handed in: the names of the libraries, the exceptions, the further theorems.
+# Of scripts/settled.sh: reads the libraries' code, their proofs/Lib.antt and the theorems, and holds each public
+# function to its theorem. Public is each `pub fn`, `pub const fn` and `pub extern "C" fn`, also in an `impl` or a `mod`;
+# what is `pub(crate)` is not. Handed in: the names of the libraries, the exceptions, the further theorems.
 
 # every file as one text, without the comments that end with their line
 FNR == 1 { names[++files] = FILENAME }
@@ -27,7 +27,8 @@ END {
         } else if (settled[one] + 0 < public[one]) problem(one " has no theorem in crates/settled/proofs")
     }
     if (bad) exit 1
-    print "settled: " total - left_out " public functions of " crates " crates, each with its theorem; " left_out " exceptions"
+    said = total - left_out " public functions of " crates " crates, each with its theorem"
+    print "settled: " said "; " left_out " exceptions"
 }
 
 function problem(what) {
@@ -103,8 +104,8 @@ function theorems(file,    n, w, i, k, word, plain, bound, told) {
     }
 }
 
-# One theorem, its words up to the proof's first: it has to be that of a function, over the contract that bound[the-NAME]
-# gives. told: how often a word stands in the file.
+# One theorem, its words up to the proof's first: it has to be that of a function, over the contract that
+# bound[the-NAME] gives. told: how often a word stands in the file.
 function theorem(file, name, words, bound, told,    own, want, path, crate, n, part, one) {
     own = "the-" name
     want = "pub " name "-settled : Settles " own ".ended (λ M. " own ".clauses) (λ M. " own ".spec) " name "-settled ="
@@ -124,7 +125,8 @@ function theorem(file, name, words, bound, told,    own, want, path, crate, n, p
     one = crate "::" name
     if (has(further, crate "::" part[1] "::" name)) {
         if (!(one in any)) problem(file ": there is no function " one)
-    } else if (part[n] != name || (crate "::" part[1]) in by_hand) problem(file ": " own " is `" path "`, not the function " name)
+    } else if (part[n] != name || (crate "::" part[1]) in by_hand)
+        problem(file ": " own " is `" path "`, not the function " name)
     else if (!(one in public)) problem(file ": " one " is no public function")
     else if (!(path in cited)) {
         cited[path] = 1

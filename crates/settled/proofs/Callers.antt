@@ -25,7 +25,9 @@ play-settled = settled (λ κs a. beside value (beside (behind (inputs the-play.
 -- the answer, every byte of the lent `book`, every byte of the lent `beside`
 pub play-beside-settled : Settles the-play-beside.ended (λ M. the-play-beside.clauses) (λ M. the-play-beside.spec)
 play-beside-settled = settled
-    (λ κs a. beside value (beside (behind (inputs the-play-beside.ended κs .1 .0)) (beside (behind (inputs the-play-beside.ended κs .1 .1 .0)) value)))
+    (λ κs a.
+    let i = inputs the-play-beside.ended κs in
+    beside value (beside (behind (i .1 .0)) (beside (behind (i .1 .1 .0)) value)))
     (λ κs a x y p q i. (same (p .0) (q .0) i, (tt, (same (p .1) (q .1) i, (same (p .2) (q .2) i, tt)))))
 
 -- the second answer and the state after it

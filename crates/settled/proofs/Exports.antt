@@ -13,7 +13,9 @@ fennqualo-check-settled = settled (λ κs a x y p q. refl) (λ κs a x y p q i. 
 -- the answer, every byte of the lent `book`, every place of the lent `counts`
 pub fennqualo-play-settled : Settles the-fennqualo-play.ended (λ M. the-fennqualo-play.clauses) (λ M. the-fennqualo-play.spec)
 fennqualo-play-settled = settled
-    (λ κs a. beside value (beside (behind (inputs the-fennqualo-play.ended κs .1 .0)) (beside (behind (inputs the-fennqualo-play.ended κs .1 .1 .0)) value)))
+    (λ κs a.
+    let i = inputs the-fennqualo-play.ended κs in
+    beside value (beside (behind (i .1 .0)) (beside (behind (i .1 .1 .0)) value)))
     (λ κs a x y p q i. (same (p .0) (q .0) i, (tt, (same (p .1) (q .1) i, (same (p .2) (q .2) i, tt)))))
 
 -- the answer, and every byte of the lent `out`
