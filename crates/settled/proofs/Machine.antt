@@ -1,15 +1,15 @@
 -- Document 01, "How tight the contracts are": of every public function of `machine`, and of `clock::tick`, which changes
 -- the lent run clock, that its contract settles its outcome (specs/Outcomes.antt). Each statement names the function's own
--- contract as the checker makes it; the proofs are by `settled` and `same`. Assumes nothing.
+-- contract as the checker makes it. Assumes nothing.
 use mathlib.Core.Path.{refl}
-use Rattle.settled.specs.Outcomes.{Settles, settled, value, beside, behind, inputs, same}
+use Rattle.settled.specs.Outcomes.{Settles}
+use Rattle.settled.proofs.Shown.{settled, value, beside, behind, inputs, same}
 use Rattle.machine.proofs.empty_state as the-empty-state
 use Rattle.machine.proofs.run as the-run
 use Rattle.machine.proofs.send as the-send
 use Rattle.machine.proofs.play as the-play
 use Rattle.machine.proofs.LentClock as the-tick
 
--- ---- machine
 pub empty-state-settled : Settles the-empty-state.ended (λ M. the-empty-state.clauses) (λ M. the-empty-state.spec)
 empty-state-settled = settled (λ κs a x y p q. refl) (λ κs a x y p q i. (same p q i, x .1))
 
@@ -28,5 +28,5 @@ play-settled = settled (λ κs a. beside value (beside (behind (inputs the-play.
 
 -- every field of the lent `clock`; the answer is empty. `tick` is not exported: crate `machine` passes its contract on
 pub tick-settled : Settles the-tick.ended (λ M. the-tick.clauses) (λ M. the-tick.spec)
-tick-settled = settled (λ κs a. beside (behind (inputs the-tick.ended κs .0)) (beside value (beside value value)))
-    (λ κs a x y p q i. (x .0, (same p q i, (tt, (tt, tt)))))
+tick-settled = settled (λ κs a. beside (behind (inputs the-tick.ended κs .0)) value)
+    (λ κs a x y p q i. (x .0, (same p q i, tt)))

@@ -1,0 +1,2 @@
+-- Two draws in a row, by single RUNs.
+pub mod TwoDraws

@@ -1,0 +1,10 @@
+-- Document 01, "How tight the contracts are": of every public function of `base` that its contract settles its outcome
+-- (specs/Outcomes.antt). Each statement names the function's own contract as the checker makes it. Assumes nothing.
+use mathlib.Core.Path.{refl}
+use Rattle.settled.specs.Outcomes.{Settles}
+use Rattle.settled.proofs.Shown.{settled, same}
+use Rattle.base.proofs.wide as the-wide
+
+-- the contract says besides that the number is below 256
+pub wide-settled : Settles the-wide.ended (λ M. the-wide.clauses) (λ M. the-wide.spec)
+wide-settled = settled (λ κs a x y p q. refl) (λ κs a x y p q i. (same (p .0) (q .0) i, x .1))

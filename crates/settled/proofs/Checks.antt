@@ -1,0 +1,17 @@
+-- Document 01, "How tight the contracts are": of every public function of `checks` that its contract settles its outcome
+-- (specs/Outcomes.antt). Each statement names the function's own contract as the checker makes it. Assumes nothing.
+use mathlib.Core.Path.{refl}
+use Rattle.settled.specs.Outcomes.{Settles}
+use Rattle.settled.proofs.Shown.{settled, same}
+use Rattle.checks.proofs.network_refusal as the-network-refusal
+use Rattle.checks.proofs.is_in_range as the-is-in-range
+use Rattle.checks.proofs.event_refusal as the-event-refusal
+
+pub network-refusal-settled : Settles the-network-refusal.ended (λ M. the-network-refusal.clauses) (λ M. the-network-refusal.spec)
+network-refusal-settled = settled (λ κs a x y p q. refl) (λ κs a x y p q i. (same p q i, x .1))
+
+pub is-in-range-settled : Settles the-is-in-range.ended (λ M. the-is-in-range.clauses) (λ M. the-is-in-range.spec)
+is-in-range-settled = settled (λ κs a x y p q. refl) (λ κs a x y p q i. (same p q i, x .1))
+
+pub event-refusal-settled : Settles the-event-refusal.ended (λ M. the-event-refusal.clauses) (λ M. the-event-refusal.spec)
+event-refusal-settled = settled (λ κs a x y p q. refl) (λ κs a x y p q i. (same p q i, x .1))
