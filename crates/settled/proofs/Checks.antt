@@ -6,6 +6,7 @@ use Rattle.settled.proofs.Shown.{settled, same}
 use Rattle.checks.proofs.network_refusal as the-network-refusal
 use Rattle.checks.proofs.is_in_range as the-is-in-range
 use Rattle.checks.proofs.event_refusal as the-event-refusal
+use Rattle.checks.proofs.send_fault as the-send-fault
 
 pub network-refusal-settled : Settles the-network-refusal.ended (λ M. the-network-refusal.clauses) (λ M. the-network-refusal.spec)
 network-refusal-settled = settled (λ κs a x y p q. refl) (λ κs a x y p q i. (same p q i, x .1))
@@ -15,3 +16,6 @@ is-in-range-settled = settled (λ κs a x y p q. refl) (λ κs a x y p q i. (sam
 
 pub event-refusal-settled : Settles the-event-refusal.ended (λ M. the-event-refusal.clauses) (λ M. the-event-refusal.spec)
 event-refusal-settled = settled (λ κs a x y p q. refl) (λ κs a x y p q i. (same p q i, x .1))
+
+pub send-fault-settled : Settles the-send-fault.ended (λ M. the-send-fault.clauses) (λ M. the-send-fault.spec)
+send-fault-settled = settled (λ κs a x y p q. refl) (λ κs a x y p q i. (same p q i, x .1))
