@@ -26,7 +26,7 @@ use Rattle.model.specs.NetInput.{Turn, Stay, To, allReady, hears, ready, inStat
 use Rattle.model.specs.Places.{Work, Rest, Cleared, Service, localOutput, deliver, channelOutput, outQueue, operator, timeout}
 use Rattle.model.specs.Steps.{Act, ownTurn, passTurn, workDone, setBoth, netOutput, act}
 use Rattle.theorems.proofs.Networks.{Valid}
-use Rattle.machine.specs.Step.{ofAct, Runnable, Bytes, Passable, farAt, fourEnds}
+use Rattle.machine.specs.Step.{ofAct, Runnable, EndsWithin, Passable, farAt, fourEnds}
 
 -- ---- an output without a channel does nothing
 
@@ -143,7 +143,7 @@ module _ (n : Network) (val : Valid n) (s : ℕ) (x : Site) (hs : s < n .sites) 
       (λ h. cond-ok PassOk (eqb code 12) _ _ (λ h. own-ok (setBoth x (outAt x 0 .input)) (timeout (x .incoming) (x .outputs) (inAt x (outAt x 0 .input)))) (λ h e. absurd (clash (sym e)))))))
 
 -- the channels of a valid network end within the sites
-pub valid-bytes : (n : Network) → Valid n → (s : ℕ) → s < n .sites → Bytes n s
+pub valid-bytes : (n : Network) → Valid n → (s : ℕ) → s < n .sites → EndsWithin n s
 valid-bytes n val s hs j hj e = omega (arith, val .ends s j hs hj e, val .few)
 
 -- ---- a site of a state in range

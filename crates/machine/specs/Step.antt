@@ -35,9 +35,13 @@ ofAct n s x (Pass z j y) = record { site = z; input = y; byte = channel n s j; a
 abbrev pub storedBy : Did → State → ℕ → Change → AfterRun
 storedBy didNothing st s c = record { answer = Nothing; state = st }
 storedBy didOwn st s c = record { answer = Changed; state = record { sites = setSite (st .sites) s (c .site); counter = st .counter } }
-storedBy (didServe q) st s c = record { answer = Serviced q s; state = record { sites = setSite (st .sites) s (c .site); counter = st .counter } }
+storedBy (didServe q) st s c =
+    record { answer = Serviced q s; state = record { sites = setSite (st .sites) s (c .site); counter = st .counter } }
 storedBy didPass st s c =
-    record { answer = Changed; state = record { sites = setFar (setSite (st .sites) s (c .site)) (c .byte) (c .input); counter = st .counter } }
+    record {
+      answer = Changed;
+      state = record { sites = setFar (setSite (st .sites) s (c .site)) (c .byte) (c .input); counter = st .counter };
+    }
 
 abbrev pub stored : State → ℕ → Change → AfterRun
 stored st s c = storedBy (c .act) st s c
@@ -71,8 +75,8 @@ abbrev pub passed : State → ℕ → Site → ℕ → Input → State
 passed st s x b y = record { sites = setFar (setSite (st .sites) s x) b y; counter = st .counter }
 
 -- the channels of site s end within the array of sites
-abbrev pub Bytes : Network → ℕ → Type 0
-Bytes n s = (j : ℕ) → j < 4 → joined n s j ≡ true → channel n s j < 64
+abbrev pub EndsWithin : Network → ℕ → Type 0
+EndsWithin n s = (j : ℕ) → j < 4 → joined n s j ≡ true → channel n s j < 64
 
 abbrev pub isPass : Did → Bool
 isPass didNothing = false

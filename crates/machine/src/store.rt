@@ -2,7 +2,7 @@
 ghost use mathlib.Core.Path.{_≡_};
 ghost use Prim.Native.Nat.{_<_};
 ghost use Rattle.model.specs.Steps as steps;
-ghost use Rattle.machine.specs.Step.{stored, passed, fourEnds, Bytes, Passable};
+ghost use Rattle.machine.specs.Step.{stored, passed, fourEnds, EndsWithin, Passable};
 use crate::phases::free_input;
 use crate::step::Act;
 use crate::step::Change;
@@ -27,7 +27,7 @@ fn end_of(state: State, byte: u8) -> Input
 
 // The input at the end of channel j + 1 of site s; a free one where there is no channel.
 pub(crate) fn far_input(network: Network, state: State, s: usize, j: usize) -> Input
-    requires { ⌜ (s < 16) × (j < 4) ⌝ ∗ ⌜ Bytes network s ⌝ }
+    requires { ⌜ (s < 16) × (j < 4) ⌝ ∗ ⌜ EndsWithin network s ⌝ }
     ensures { λ r. ⌜ r ≡ steps.ends network (state .sites) s j ⌝ }
 {
     let byte = network.channels[4 * s + j];
@@ -39,7 +39,7 @@ pub(crate) fn far_input(network: Network, state: State, s: usize, j: usize) -> I
 
 // The inputs at the ends of the four channels of site s.
 pub(crate) fn far_inputs(network: Network, state: State, s: usize) -> [Input; base::PORTS]
-    requires { ⌜ s < 16 ⌝ ∗ ⌜ Bytes network s ⌝ }
+    requires { ⌜ s < 16 ⌝ ∗ ⌜ EndsWithin network s ⌝ }
     ensures { λ r. ⌜ r ≡ fourEnds (steps.ends network (state .sites) s) ⌝ }
 {
     let a = far_input(network, state, s, 0);
