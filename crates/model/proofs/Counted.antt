@@ -70,7 +70,10 @@ tally =
     ∷ []
 
 pub counted : map (λ pair. pair .0) tally ≡ map (λ pair. pair .1) tally
-unfolding tally row waiting ended cut chased at playedSingly owed ran sent runRefusal sendRefusal networkRefusal inRange all any over sum isum has plus minus sizeIn lowest trailingZeros firstPort gatherFrom gather spread orElse route hears give occupy marksOf seek inState localOutput deliver channelOutput outQueue operate cutAt netOutput act run enqueue
+unfolding tally row waiting ended cut chased at playedSingly owed ran sent runRefusal sendRefusal networkRefusal
+    inRange all any over sum isum has plus minus sizeIn lowest trailingZeros firstPort gatherFrom gather spread orElse
+    route hears give occupy marksOf seek inState localOutput deliver channelOutput outQueue operate cutAt netOutput
+    act run enqueue
 counted = refl
 
 -- ---- the numbers of the answers: a packet, a site and an accepted number that differ, none of them 0
@@ -96,5 +99,8 @@ number-rows =
     ∷ []
 
 pub numbers-read : map (λ pair. pair .0) number-rows ≡ map (λ pair. pair .1) number-rows
-unfolding number-rows orders numbered at acceptedSet timesAnswered serviced playedSingly bookBytes ran sent runRefusal sendRefusal networkRefusal inRange all any over sum isum upto has plus minus sizeIn lowest trailingZeros firstPort gatherFrom gather spread orElse route hears give occupy marksOf seek inState localOutput deliver channelOutput outQueue operate cutAt netOutput act run enqueue
+unfolding number-rows orders numbered at acceptedSet timesAnswered serviced playedSingly bookBytes ran sent runRefusal
+    sendRefusal networkRefusal inRange all any over sum isum upto has plus minus sizeIn lowest trailingZeros firstPort
+    gatherFrom gather spread orElse route hears give occupy marksOf seek inState localOutput deliver channelOutput
+    outQueue operate cutAt netOutput act run enqueue
 numbers-read = refl

@@ -1,4 +1,5 @@
--- Document 01, "Runs with known ends": P1 to P9, one table under one theorem. Each row is what the definitions compute beside what the document says.
+-- Document 01, "Runs with known ends": P1 to P9, one table under one theorem. Each row is what the definitions compute
+-- beside what the document says.
 use Prim.Native.Nat.{ℕ, zero, suc, _+_, _-_, _*_, _/_, _%_, _^_}
 use mathlib.Core.Path.{_≡_, refl}
 use mathlib.Core.List.{List, [], _∷_, _++_, map}
@@ -95,7 +96,10 @@ table =
     -- "P5 .. SEND 0 {0,1}; at site 0 codes 10, 0, 5, 12: input 0 is abort, output 1 holds abort."
     ∷ (look (final two noState p5) ∷ [], (6 ∷ 0 ∷ 2 ∷ []) ∷ [])
     -- "P6 from there 10, 0, 5, 11: services site 0, requeues {1}."
-    ∷ (answers two noState p6 ++ (front (final two noState p6) ∷ []), (0 ∷ 0 ∷ []) ∷ replicate 7 changed ++ ((0 ∷ 2 ∷ 0 ∷ 0 ∷ []) ∷ (1 ∷ 0 ∷ 2 ∷ []) ∷ []))
+    ∷ (
+      answers two noState p6 ++ (front (final two noState p6) ∷ []),
+      (0 ∷ 0 ∷ []) ∷ replicate 7 changed ++ ((0 ∷ 2 ∷ 0 ∷ 0 ∷ []) ∷ (1 ∷ 0 ∷ 2 ∷ []) ∷ []),
+    )
     -- "P7 as P5 up to 10, 0, 5, then 6, site 1's code 1, site 0's 10 and 0: output 0 holds keep-local, output 1 end."
     ∷ (look (final two noState p7) ∷ [], (0 ∷ 3 ∷ 1 ∷ []) ∷ [])
     -- "P8 D = 1: a second SEND at once is 11."
@@ -105,7 +109,10 @@ table =
     ∷ []
 
 pub examples : map (λ row. row .0) table ≡ map (λ row. row .1) table
-unfolding table drawn seedless look front p5 p6 p7 changed at answers final ran sent runRefusal sendRefusal networkRefusal inRange all any over sum has plus minus sizeIn lowest trailingZeros firstPort gatherFrom gather spread orElse route hears give occupy marksOf seek inState localOutput deliver channelOutput outQueue operate cutAt netOutput act run enqueue storedRefusal
+unfolding table drawn seedless look front p5 p6 p7 changed at answers final ran sent runRefusal sendRefusal
+    networkRefusal inRange all any over sum has plus minus sizeIn lowest trailingZeros firstPort gatherFrom gather
+    spread orElse route hears give occupy marksOf seek inState localOutput deliver channelOutput outQueue operate
+    cutAt netOutput act run enqueue storedRefusal
 examples = refl
 
 -- ---- run R: "00 18 01 01 03 01 00 00 00 01 00 02 01 FF FF FF FF 00 00 00 00 00 00 01", "accepted 1 pairs 1 serviced 0 owed 1"
@@ -120,7 +127,9 @@ unfolding runR script scriptTo marked valueAfter drawn
 runR-script = refl
 
 pub runR-counts : countsOf (playedRun runR) ≡ record { accepted = 1; pairs = 1; serviced = 0; owed = 1 }
-unfolding runR playedRun played script scriptTo marked valueAfter drawn owedPairs sum isum all any over has plus minus sizeIn lowest trailingZeros firstPort gatherFrom gather spread orElse route hears give occupy marksOf seek inState localOutput deliver channelOutput outQueue operate cutAt netOutput act run enqueue
+unfolding runR playedRun played script scriptTo marked valueAfter drawn owedPairs sum isum all any over has plus minus
+    sizeIn lowest trailingZeros firstPort gatherFrom gather spread orElse route hears give occupy marksOf seek inState
+    localOutput deliver channelOutput outQueue operate cutAt netOutput act run enqueue
 runR-counts = refl
 
 -- "d may equal the number of draws": run R with its send after the last draw
@@ -132,8 +141,9 @@ pub late-script : script lateRun
 unfolding lateRun script scriptTo marked valueAfter drawn
 late-script = refl
 
--- ---- a run worked out by hand, draw by draw: one site, T = 1, D = 1, 8 draws, four sends of {0} at draws 0, 0, 4 and 8, of which the second and
--- the last find the out-queue full. Its codes are 10, 0, 5, 10, 0, 5, 5, 11: draw 7 services packet 0; packet 1 is still owed.
+-- ---- a run worked out by hand, draw by draw: one site, T = 1, D = 1, 8 draws, four sends of {0} at draws 0, 0, 4 and 8, of
+-- which the second and the last find the out-queue full. Its codes are 10, 0, 5, 10, 0, 5, 5, 11: draw 7 services packet 0;
+-- packet 1 is still owed.
 
 pub handRun : StoredRun
 handRun =
@@ -155,9 +165,13 @@ unfolding runR handRun storedRefusal bodyRefusal all any
 played-runs = refl
 
 pub hand-book : bookBytes (playedRun handRun .book) ≡ 0 ∷ 7 ∷ 0 ∷ 0 ∷ []
-unfolding handRun bookBytes playedRun played script scriptTo marked valueAfter drawn owedPairs sum isum all any over has plus minus sizeIn lowest trailingZeros firstPort gatherFrom gather spread orElse route hears give occupy marksOf seek inState localOutput deliver channelOutput outQueue operate cutAt netOutput act run enqueue
+unfolding handRun bookBytes playedRun played script scriptTo marked valueAfter drawn owedPairs sum isum all any over
+    has plus minus sizeIn lowest trailingZeros firstPort gatherFrom gather spread orElse route hears give occupy
+    marksOf seek inState localOutput deliver channelOutput outQueue operate cutAt netOutput act run enqueue
 hand-book = refl
 
 pub hand-counts : countsOf (playedRun handRun) ≡ record { accepted = 2; pairs = 2; serviced = 1; owed = 1 }
-unfolding handRun playedRun played script scriptTo marked valueAfter drawn owedPairs sum isum all any over has plus minus sizeIn lowest trailingZeros firstPort gatherFrom gather spread orElse route hears give occupy marksOf seek inState localOutput deliver channelOutput outQueue operate cutAt netOutput act run enqueue
+unfolding handRun playedRun played script scriptTo marked valueAfter drawn owedPairs sum isum all any over has plus
+    minus sizeIn lowest trailingZeros firstPort gatherFrom gather spread orElse route hears give occupy marksOf seek
+    inState localOutput deliver channelOutput outQueue operate cutAt netOutput act run enqueue
 hand-counts = refl

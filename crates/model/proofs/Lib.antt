@@ -4,3 +4,10 @@ pub mod Counted
 pub mod RouterCases
 pub mod RangeCases
 pub mod RefusalCases
+pub mod Shown
+pub mod ReadyCases
+pub mod InputCases
+pub mod PlaceCases
+pub mod WorkCases
+pub mod OwingCases
+pub mod CodeCases

@@ -7,7 +7,11 @@ use mathlib.Core.List.{List, [], _∷_, map}
 use lib.ListN.{set, replicate}
 use Rattle.base.specs.Sizes.{noChannel}
 use Rattle.base.specs.All.{all, any}
-use Rattle.model.specs.Types.{Unicast, Passthru, AllRemote, SomeLocal, Handed, gotEnd, gotAbort, Terminator, tNone, tEnd, tAbort, tKeep, Phase, Free, Seek, Open, Wait, Done, Last, Aborted, FinAbort, Input, Output, OutEntry, InEntry, Site, State, Network, noMarks, noInput, noOutput, noState, siteAt, withOutQueue, withInQueue, setIn, setOut, setSite}
+use Rattle.model.specs.Types.{Unicast, Passthru, AllRemote, SomeLocal, Handed, gotEnd, gotAbort}
+use Rattle.model.specs.Types.{Terminator, tNone, tEnd, tAbort, tKeep}
+use Rattle.model.specs.Types.{Phase, Free, Seek, Open, Wait, Done, Last, Aborted, FinAbort}
+use Rattle.model.specs.Types.{Input, Output, OutEntry, InEntry, Site, State, Network, noMarks, noInput, noOutput, noState}
+use Rattle.model.specs.Types.{siteAt, withOutQueue, withInQueue, setIn, setOut, setSite}
 use Rattle.model.specs.Range.{inRange}
 
 -- two sites joined on ports 1 both ways: S = 2, T = 3, D = 2
@@ -203,5 +207,6 @@ cases =
     ∷ []
 
 pub in-range : map (λ c. inRange two (c .0 split)) cases ≡ map (λ c. c .1) cases
-unfolding cases split left right counted at input output outgoing incoming inp out empty leaving arrived none both zeroth first fourth ends inRange all any
+unfolding cases split left right counted at input output outgoing incoming inp out empty leaving arrived none both
+    zeroth first fourth ends inRange all any
 in-range = refl

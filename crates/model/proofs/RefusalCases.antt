@@ -151,5 +151,6 @@ refusals =
     ∷ []
 
 pub refused-by : map (λ c. refusalOf (c .0 .0) (c .0 .1) (c .0 .2)) refusals ≡ map (λ c. c .1) refusals
-unfolding refusals refusalOf net four three less second routes on channelsFrom rowsAfter ring one bad waits no-send runRefusal sendRefusal networkRefusal inRange all any
+unfolding refusals refusalOf net four three less second routes on channelsFrom rowsAfter ring one bad waits no-send
+    runRefusal sendRefusal networkRefusal inRange all any
 refused-by = refl

@@ -25,8 +25,12 @@ hub =
       sites = 4;
       depth = 1;
       tries = 3;
-      channels = 4 ∷ 8 ∷ 12 ∷ 5 ∷ 0 ∷ noChannel ∷ noChannel ∷ noChannel ∷ 1 ∷ noChannel ∷ noChannel ∷ noChannel ∷ 2 ∷ replicate 51 noChannel;
-      routes = 0 ∷ 5120 ∷ 8448 ∷ 4864 ∷ 4096 ∷ 0 ∷ 4096 ∷ 4096 ∷ 4096 ∷ 4096 ∷ 0 ∷ 4096 ∷ 4096 ∷ 4096 ∷ 4096 ∷ 0 ∷ replicate 240 0;
+      channels =
+          (4 ∷ 8 ∷ 12 ∷ 5 ∷ 0 ∷ noChannel ∷ noChannel ∷ noChannel ∷ [])
+          ++ (1 ∷ noChannel ∷ noChannel ∷ noChannel ∷ 2 ∷ replicate 51 noChannel);
+      routes =
+          (0 ∷ 5120 ∷ 8448 ∷ 4864 ∷ 4096 ∷ 0 ∷ 4096 ∷ 4096 ∷ [])
+          ++ (4096 ∷ 4096 ∷ 0 ∷ 4096 ∷ 4096 ∷ 4096 ∷ 4096 ∷ 0 ∷ replicate 240 0);
     }
 
 pub hub-valid : networkRefusal hub ≡ 0
@@ -57,16 +61,19 @@ routes =
     ∷ (at (0 ∷ 1 ∷ 0 ∷ 0 ∷ 0 ∷ []) 2, 1 ∷ 0 ∷ 0 ∷ 0 ∷ 0 ∷ 2 ∷ [])
     ∷ (at (0 ∷ 1 ∷ 0 ∷ 0 ∷ 1 ∷ []) 2, [])
     ∷ (at (0 ∷ 0 ∷ 0 ∷ 0 ∷ 0 ∷ []) 4, 1 ∷ 0 ∷ 0 ∷ 4 ∷ 0 ∷ 0 ∷ [])
-    -- "Two or more targets ..: split: each remote output gets its own targets, output 0 gets the whole X; some-local if s is in X, else all-remote."
+    -- "Two or more targets ..: split: each remote output gets its own targets, output 0 gets the whole X; some-local if s is
+    -- in X, else all-remote."
     ∷ (at (0 ∷ 0 ∷ 0 ∷ 0 ∷ 0 ∷ []) 6, 3 ∷ 6 ∷ 2 ∷ 4 ∷ 0 ∷ 0 ∷ [])
     ∷ (at (0 ∷ 0 ∷ 0 ∷ 0 ∷ 0 ∷ []) 7, 4 ∷ 7 ∷ 2 ∷ 4 ∷ 0 ∷ 0 ∷ [])
     ∷ (at (0 ∷ 0 ∷ 0 ∷ 0 ∷ 0 ∷ []) 14, 3 ∷ 14 ∷ 10 ∷ 4 ∷ 0 ∷ 0 ∷ [])
-    -- "empty or already chosen for this packet"; "where a single remote output was chosen and s isn't in X, passthru on it with X, output 0 not taken."
+    -- "empty or already chosen for this packet"; "where a single remote output was chosen and s isn't in X, passthru on it
+    -- with X, output 0 not taken."
     ∷ (at (0 ∷ 0 ∷ 0 ∷ 0 ∷ 0 ∷ []) 10, 2 ∷ 0 ∷ 10 ∷ 0 ∷ 0 ∷ 0 ∷ [])
     ∷ (at (0 ∷ 0 ∷ 1 ∷ 0 ∷ 0 ∷ []) 6, 2 ∷ 0 ∷ 6 ∷ 0 ∷ 0 ∷ 0 ∷ [])
     -- a single remote output and s in X: split
     ∷ (at (0 ∷ 0 ∷ 0 ∷ 0 ∷ 0 ∷ []) 11, 4 ∷ 11 ∷ 10 ∷ 0 ∷ 0 ∷ 0 ∷ [])
-    -- "Otherwise, with two or more targets: passthru of the whole X to the first empty output in the list of the lowest t other than s."
+    -- "Otherwise, with two or more targets: passthru of the whole X to the first empty output in the list of the lowest t
+    -- other than s."
     ∷ (at (1 ∷ 0 ∷ 0 ∷ 0 ∷ 0 ∷ []) 11, 2 ∷ 0 ∷ 11 ∷ 0 ∷ 0 ∷ 0 ∷ [])
     ∷ (at (1 ∷ 1 ∷ 0 ∷ 0 ∷ 0 ∷ []) 7, 2 ∷ 0 ∷ 0 ∷ 0 ∷ 0 ∷ 7 ∷ [])
     ∷ (at (0 ∷ 1 ∷ 1 ∷ 0 ∷ 0 ∷ []) 6, 2 ∷ 0 ∷ 0 ∷ 0 ∷ 0 ∷ 6 ∷ [])
@@ -74,7 +81,8 @@ routes =
     ∷ []
 
 pub routed : map (λ row. row .0) routes ≡ map (λ row. row .1) routes
-unfolding routes at chosen outputsOf firstPort gatherFrom gather spread orElse route sum has plus minus sizeIn lowest trailingZeros
+unfolding routes at chosen outputsOf firstPort gatherFrom gather spread orElse route sum has plus minus sizeIn lowest
+    trailingZeros
 routed = refl
 
 -- ---- a net-input that seeks, after some tries
@@ -86,7 +94,8 @@ shown (To y os) = stateNumber (y .phase) ∷ connectionOf (y .phase) ∷ y .trie
 
 seeking : ℕ → List ℕ → ℕ → List ℕ
 seeking tries us X =
-    shown (inState hub 0 1 (record { set = X; phase = Seek; outputs = noMarks; packet = 5; tries = tries }) (outputsOf us) (λ j. false) Seek)
+    let y : Input = record { set = X; phase = Seek; outputs = noMarks; packet = 5; tries = tries } in
+    shown (inState hub 0 1 y (outputsOf us) (λ j. false) Seek)
 
 pub asks : List (List ℕ × List ℕ)
 asks =
@@ -100,5 +109,6 @@ asks =
     ∷ []
 
 pub asked : map (λ row. row .0) asks ≡ map (λ row. row .1) asks
-unfolding asks seeking shown outputsOf occupy marksOf seek inState over firstPort gatherFrom gather spread orElse route sum has plus minus sizeIn lowest trailingZeros
+unfolding asks seeking shown outputsOf occupy marksOf seek inState over firstPort gatherFrom gather spread orElse
+    route sum has plus minus sizeIn lowest trailingZeros
 asked = refl
