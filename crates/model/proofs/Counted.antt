@@ -1,9 +1,9 @@
 -- Demand 3 on short runs, by computation: services and the places that owe, packet by packet and site by site, beside what
 -- document 01 asks. `once` says it of every run; here a rule that loses or doubles a target shows the wrong number.
-use Prim.Native.Nat.{ℕ, zero, suc, _+_, _*_}
+use Prim.Native.Nat.{ℕ, _+_}
 use mathlib.Core.Path.{_≡_, refl}
 use mathlib.Core.List.{List, [], _∷_, _++_, map}
-use lib.ListN.{getD, replicate}
+use lib.ListN.{replicate}
 use lib.Count.{trailingZeros}
 use Rattle.base.specs.Sizes.{noChannel}
 use Rattle.base.specs.All.{all, any}
@@ -17,9 +17,9 @@ use Rattle.model.specs.Router.{firstPort, gatherFrom, gather, spread, or
 use Rattle.model.specs.NetInput.{hears, give, occupy, marksOf, seek, inState}
 use Rattle.model.specs.Places.{localOutput, deliver, channelOutput, outQueue, operate, cutAt}
 use Rattle.model.specs.Steps.{netOutput, act, run, enqueue}
-use Rattle.model.specs.Events.{Event, Send, Run, ran, sent, runRefusal, sendRefusal, after, serviced, acceptedSet, timesAnswered}
+use Rattle.model.specs.Events.{Event, Send, Run, ran, sent, runRefusal, sendRefusal, serviced, acceptedSet, timesAnswered}
 use Rattle.model.specs.Owing.{owed}
-use Rattle.model.specs.Runs.{Timed, Service, unplayed, atDraw, playedSingly, inBook, inEntries, bookBytes}
+use Rattle.model.specs.Runs.{unplayed, atDraw, playedSingly, inBook, inEntries, bookBytes}
 use Rattle.model.proofs.Examples.{two, at}
 
 -- three sites in a ring, 0 to 1 to 2 to 0, all by ports 1

@@ -1,9 +1,9 @@
 -- Document 01, "Runs with known ends": P1 to P9, one table under one theorem. Each row is what the definitions compute
 -- beside what the document says.
-use Prim.Native.Nat.{ℕ, zero, suc, _+_, _-_, _*_, _/_, _%_, _^_}
+use Prim.Native.Nat.{ℕ, _+_, _-_}
 use mathlib.Core.Path.{_≡_, refl}
 use mathlib.Core.List.{List, [], _∷_, _++_, map}
-use lib.ListN.{getD, set, replicate, take}
+use lib.ListN.{set, replicate}
 use lib.Count.{trailingZeros}
 use Rattle.base.specs.Sizes.{noChannel}
 use Rattle.base.specs.All.{all, any}
@@ -11,7 +11,7 @@ use Rattle.base.specs.Over.{over}
 use Rattle.base.specs.Sums.{sum, isum}
 use Rattle.sets.specs.Sets.{has, plus, minus, sizeIn, lowest}
 use Rattle.draws.specs.Draws.{drawn, valueAfter, drawnSite, drawnCode}
-use Rattle.model.specs.Types.{Site, State, Network, StoredSend, Run as StoredRun, noState, siteAt, inAt, outAt, outEntry, sendD}
+use Rattle.model.specs.Types.{State, Network, Run as StoredRun, noState, siteAt, inAt, outAt, outEntry, sendD}
 use Rattle.model.specs.Numbers.{stateNumber, terminatorNumber, sentNumbers, ranNumbers}
 use Rattle.model.specs.Network.{networkRefusal}
 use Rattle.model.specs.Range.{inRange}

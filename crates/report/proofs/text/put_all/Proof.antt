@@ -1,9 +1,9 @@
 -- `text::put_all` meets its contract: a byte a turn. Assumes nothing.
 use mathlib.Core.Path.{_≡_, refl, sym, ap, _∙_}
-use mathlib.Core.List.{List, _++_}
+use mathlib.Core.List.{List}
 use Prim.Native.Nat.{ℕ, _+_, _-_, _≤_}
 use native.Mathlib.Numerals.{add-one}
-use lib.ListN.{length, length-set, set, take, drop, getD}
+use lib.ListN.{length, length-set, set, getD}
 use lib.Seq.{paste, paste-zero, paste-suc, take-length}
 use native.Mathlib.Omega.{arith}
 use Rattle.report.proofs.text.put_all.Statement.{statement}
