@@ -13,7 +13,7 @@ use Rattle.model.specs.Network.{joined, choice, choices, differs}
 -- the digits 0 to 15 that may stand in a list of site s: 0, and the ports with a channel
 abbrev pub portsOf : Network → ℕ → List Bool
 portsOf n s =
-    true ∷ joined n s 0 ∷ joined n s 1 ∷ joined n s 2 ∷ joined n s 3
+    true ∷ joined n s 1 ∷ joined n s 2 ∷ joined n s 3 ∷ joined n s 4
     ∷ false ∷ false ∷ false ∷ false ∷ false ∷ false ∷ false ∷ false ∷ false ∷ false ∷ false ∷ []
 
 -- listOk and routeOk with such a table for portOk

@@ -1,5 +1,5 @@
 -- What a turn that the code took, or did not take, says of RUN's act. Assumes nothing.
-use Prim.Native.Nat.{ℕ, suc}
+use Prim.Native.Nat.{ℕ}
 use mathlib.Core.Path.{_≡_, refl, sym, ap, _∙_}
 use mathlib.Core.List.{List}
 use mathlib.Core.Bool.{true, false}
@@ -52,9 +52,9 @@ module _ (f : OutQueue → Input → Site) (a : OutQueue) (b : Input) (r : Queue
 
 -- an output 1 to 4 with the input at the end of its channel
 module _ (x : Site) (j : ℕ) (a : Output) (b : Input) (r : ChannelTurn) where
-  pub channel-changed : (t : Turn Output Input) → r ≡ ofChannelTurn a b t → r .changed ≡ true → passTurn x j t ≡ Pass (setOut x (suc j) (r .output)) j (r .input)
+  pub channel-changed : (t : Turn Output Input) → r ≡ ofChannelTurn a b t → r .changed ≡ true → passTurn x j t ≡ Pass (setOut x j (r .output)) j (r .input)
   channel-changed Stay e h = absurd (clash (sym h ∙ ap (λ (w : ChannelTurn). w .changed) e))
-  channel-changed (To c d) e h = sym (ap (λ (w : ChannelTurn). Pass (setOut x (suc j) (w .output)) j (w .input)) e)
+  channel-changed (To c d) e h = sym (ap (λ (w : ChannelTurn). Pass (setOut x j (w .output)) j (w .input)) e)
 
   pub channel-stayed : (t : Turn Output Input) → r ≡ ofChannelTurn a b t → r .changed ≡ false → passTurn x j t ≡ Idle
   channel-stayed Stay e h = refl

@@ -6,7 +6,7 @@ use mathlib.Core.List.{List, [], _∷_}
 use mathlib.Core.Bool.{Bool, true, false, cond, _&&_, _||_}
 use native.Mathlib.Numerals.{add-one}
 use native.Mathlib.Omega.{arith}
-use borrow.Author.Tests.{lt-ltb, ltb-true, eqb-true}
+use borrow.Author.Tests.{le-leb, ltb-true, eqb-true}
 use lib.Dec.{eqb, ltb, leb}
 use lib.ListN.{length, getD}
 use Rattle.base.specs.Sizes.{sitesMost, packetsMost, sendsMost}
@@ -24,7 +24,7 @@ use Rattle.model.specs.declared.Run.{Run}
 use Rattle.model.specs.declared.Sent.the-variants.{the-data as Sent, Accepted, Refused as SendRefused}
 use Rattle.model.specs.declared.Ran.the-variants.{Nothing}
 use Rattle.model.specs.declared.AfterRun.{AfterRun}
-use Rattle.model.specs.Types.{sendAt, siteAt, inAt, mark, setSite, setIn, withOutQueue, pushOut}
+use Rattle.model.specs.Types.{sendAt, siteAt, inAt, setSite, setIn, withOutQueue, pushOut}
 use Rattle.model.specs.Network.{networkRefusal, endSite, endPort, joined, channel}
 use Rattle.model.specs.Steps.{act, ends, run, enqueue}
 use Rattle.model.specs.Events.{sendFaultBy, sendFault, runs, sends}
@@ -33,7 +33,7 @@ use Rattle.model.specs.Runs.{sendOk, storedRefusal, trySend, bookRoom, playedRu
 use Rattle.theorems.proofs.Networks.{Valid}
 use Rattle.machine.specs.declared.step.Act.the-variants.{the-data as Did, Idle as didNothing, Own as didOwn, Serve as didServe, Pass as didPass}
 use Rattle.machine.specs.declared.step.Change.{Change}
-use Rattle.machine.specs.Step.{ofAct, stored, storedBy, farAt}
+use Rattle.machine.specs.Step.{ofAct, stored, storedBy, farAt, thereAt}
 use Rattle.machine.specs.Idle.{nothingToDo, hasToWait}
 use Rattle.machine.specs.Play.{sendAnswer, bookIn}
 use Rattle.machine.specs.Progress.{Progress, due, went, enteredAt, drawnRun, turned, progress}
@@ -158,23 +158,23 @@ module _ (r : Run) (p : Progress) where
 
 module _ (n : Network) (val : Valid n) (st : List Site) (s : ℕ) (hs : s < n .sites) where
   -- a is the site that was read
-  end-read : (j b a : ℕ) (y : Input) → j < 4 → b ≡ channel n s j → a ≡ endSite b % sitesMost
-      → y ≡ inAt (siteAt st a) (endPort b + 1) → joined n s j ≡ true → y ≡ ends n st s j
+  end-read : (j b a : ℕ) (y : Input) → j < 4 → b ≡ channel n s (suc j) → a ≡ endSite b % sitesMost
+      → y ≡ inAt (siteAt st a) (endPort b) → joined n s (suc j) ≡ true → y ≡ ends n st s (suc j)
   end-read j b a y hj hb ha hy e =
-      let small : channel n s j < 64 = omega (arith, val .ends s j hs hj e, val .few) in
-      let low : endSite (channel n s j) % sitesMost ≡ endSite (channel n s j) = omega (arith, small) in
-      rw (hy, ha, hb, low, add-one (endPort (channel n s j)), lt-ltb j 4 hj, e) refl
+      let small : channel n s (suc j) < 64 = omega (arith, val .ends s j hs hj e, val .few) in
+      let low : endSite (channel n s (suc j)) % sitesMost ≡ endSite (channel n s (suc j)) = omega (arith, small) in
+      rw (hy, ha, hb, low, le-leb (suc j) 4 hj, e) refl
 
   abbrev byte : ℕ → ℕ
   byte k = getD (n .channels) k 0
 
   pub far-read : (a b c d : ℕ) (y z v w : Input) → a ≡ endSite (byte (4 * s)) % sitesMost
       → b ≡ endSite (byte (4 * s + 1)) % sitesMost → c ≡ endSite (byte (4 * s + 2)) % sitesMost
-      → d ≡ endSite (byte (4 * s + 3)) % sitesMost → y ≡ inAt (siteAt st a) (endPort (byte (4 * s)) + 1)
-      → z ≡ inAt (siteAt st b) (endPort (byte (4 * s + 1)) + 1)
-      → v ≡ inAt (siteAt st c) (endPort (byte (4 * s + 2)) + 1)
-      → w ≡ inAt (siteAt st d) (endPort (byte (4 * s + 3)) + 1) → (j : ℕ) → j < 4 → joined n s j ≡ true
-      → farAt (y ∷ z ∷ v ∷ w ∷ []) j ≡ ends n st s j
+      → d ≡ endSite (byte (4 * s + 3)) % sitesMost → y ≡ inAt (siteAt st a) (endPort (byte (4 * s)))
+      → z ≡ inAt (siteAt st b) (endPort (byte (4 * s + 1)))
+      → v ≡ inAt (siteAt st c) (endPort (byte (4 * s + 2)))
+      → w ≡ inAt (siteAt st d) (endPort (byte (4 * s + 3))) → (j : ℕ) → j < 4 → joined n s (suc j) ≡ true
+      → farAt (y ∷ z ∷ v ∷ w ∷ []) (suc j) ≡ ends n st s (suc j)
   far-read a b c d y z v w ha hb hc hd hy hz hv hw zero h e =
       let k : 4 * s ≡ 4 * s + 0 = omega arith in end-read 0 (byte (4 * s)) a y h (ap byte k) ha hy e
   far-read a b c d y z v w ha hb hc hd hy hz hv hw (suc zero) h e =
@@ -205,8 +205,8 @@ module _ (r : Run) (p : Progress) (v : ℕ) (e : DrawnEvent) (ok : networkRefusa
       nothing-turn r p v a nd hv (named-run r p v e a ok hv he f) refl
 
   -- what the loop sees of the channels: which there are, and the inputs at their ends
-  pub waiting : (there : List Bool) (far : List Input) → ((j : ℕ) → j < 4 → mark there j ≡ joined (r .network) (e .site) j)
-      → ((j : ℕ) → j < 4 → joined (r .network) (e .site) j ≡ true → farAt far j ≡ ends (r .network) (p .state .sites) (e .site) j)
+  pub waiting : (there : List Bool) (far : List Input) → ((j : ℕ) → j < 4 → thereAt there (suc j) ≡ joined (r .network) (e .site) (suc j))
+      → ((j : ℕ) → j < 4 → joined (r .network) (e .site) (suc j) ≡ true → farAt far (suc j) ≡ ends (r .network) (p .state .sites) (e .site) (suc j))
       → hasToWait x there far (e .code) ≡ true → went p v (p .state) ≡ turned r p
   unfolding run
   waiting there far hj hf h =
@@ -217,7 +217,7 @@ module _ (r : Run) (p : Progress) (v : ℕ) (e : DrawnEvent) (ok : networkRefusa
       nothing-turn r p v a nd hv (named-run r p v e a ok hv he f) refl
 
   -- c is what the step answers
-  module _ (far : List Input) (c : Change) (hf : (j : ℕ) → j < 4 → joined (r .network) (e .site) j ≡ true → farAt far j ≡ ends (r .network) (p .state .sites) (e .site) j)
+  module _ (far : List Input) (c : Change) (hf : (j : ℕ) → j < 4 → joined (r .network) (e .site) (suc j) ≡ true → farAt far (suc j) ≡ ends (r .network) (p .state .sites) (e .site) (suc j))
       (hc : c ≡ ofAct (r .network) (e .site) x (act (r .network) (e .site) x (farAt far) (e .code))) where
     is-drawn : (a : Did) → c .act ≡ a → storedBy a (p .state) (e .site) c ≡ drawnRun r p
     is-drawn a g =
@@ -256,12 +256,12 @@ module _ (r : Run) (p : Progress) (v : ℕ) (e : DrawnEvent) (ok : networkRefusa
         let b = c .byte in
         went p v
         (record {
-          sites = setSite l (endSite b) (setIn (siteAt l (endSite b)) (endPort b + 1) (c .input));
+          sites = setSite l (endSite b) (setIn (siteAt l (endSite b)) (b % 4 + 1) (c .input));
           counter = p .state .counter;
         })
         ≡ turned r p
     did-pass g =
-        rw (add-one (endPort (c .byte)))
+        rw (add-one (c .byte % 4))
         (changed-turn r p v (storedBy didPass (p .state) (e .site) c) nd hv (is-drawn didPass g) refl)
 
 -- ---- after the last turn

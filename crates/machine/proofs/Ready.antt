@@ -48,7 +48,7 @@ pub five : {A : Type 0} {a b c d e a′ b′ c′ d′ e′ : A} → a ≡ a′ 
 five p q r s t = rw (p, q, r, s, t) refl
 
 pub heard-at : (there : ℕ → Bool) (far : ℕ → Input) (os : List Output) (j : ℕ)
-    → (outOf os (suc j) .used && outOf os (suc j) .head && (there j && listening (far j .phase))) ≡ ready there far os (suc j)
+    → (outOf os (suc j) .used && outOf os (suc j) .head && (there (suc j) && listening (far (suc j) .phase))) ≡ ready there far os (suc j)
 unfolding hears
 heard-at there far os j = refl
 
@@ -58,14 +58,14 @@ local-at there far os = refl
 
 -- ---- two ways to tell which outputs 1 to 4 have a channel
 
-pub ready-there : (f g : ℕ → Bool) (far : ℕ → Input) (os : List Output) → ((j : ℕ) → j < 4 → f j ≡ g j) → (j : ℕ) → j < 5
+pub ready-there : (f g : ℕ → Bool) (far : ℕ → Input) (os : List Output) → ((j : ℕ) → j < 4 → f (suc j) ≡ g (suc j)) → (j : ℕ) → j < 5
     → ready f far os j ≡ ready g far os j
 unfolding hears
 ready-there f g far os same zero h = refl
 ready-there f g far os same (suc j) h =
-    ap (λ (b : Bool). outOf os (suc j) .used && outOf os (suc j) .head && (b && listening (far j .phase))) (same j (omega arith))
+    ap (λ (b : Bool). outOf os (suc j) .used && outOf os (suc j) .head && (b && listening (far (suc j) .phase))) (same j (omega arith))
 
-pub flags-there : (f g : ℕ → Bool) (far : ℕ → Input) (os : List Output) → ((j : ℕ) → j < 4 → f j ≡ g j)
+pub flags-there : (f g : ℕ → Bool) (far : ℕ → Input) (os : List Output) → ((j : ℕ) → j < 4 → f (suc j) ≡ g (suc j))
     → flags (ready f far os) ≡ flags (ready g far os)
 flags-there f g far os same =
     let at = ready-there f g far os same in
@@ -74,7 +74,7 @@ flags-there f g far os same =
 -- by the channels' bytes
 pub ends-read : (n : Network) (s a b c d : ℕ) → a ≡ getD (n .channels) (4 * s) 0 → b ≡ getD (n .channels) (4 * s + 1) 0
     → c ≡ getD (n .channels) (4 * s + 2) 0 → d ≡ getD (n .channels) (4 * s + 3) 0 → (j : ℕ) → j < 4
-    → mark (fourFlags (λ k. isChannel (getD (a ∷ b ∷ c ∷ d ∷ []) k 0))) j ≡ joined n s j
+    → mark (fourFlags (λ k. isChannel (getD (a ∷ b ∷ c ∷ d ∷ []) k 0))) j ≡ joined n s (suc j)
 ends-read n s a b c d ha hb hc hd zero h =
     let k : 4 * s ≡ 4 * s + 0 = omega arith in ap isChannel (ha ∙ ap (λ (i : ℕ). getD (n .channels) i 0) k)
 ends-read n s a b c d ha hb hc hd (suc zero) h = ap isChannel hb
@@ -90,7 +90,7 @@ unfolding netOutput
 output-zero n s x far = refl
 
 pub output-other : (n : Network) (s : ℕ) (x : Site) (far : ℕ → Input) (j : ℕ) → (j ≡ 0 → ⊥)
-    → netOutput n s x far j ≡ passTurn x (j - 1) (channelOutput (joined n s (j - 1)) (outAt x (j - 1 + 1)) (far (j - 1)))
+    → netOutput n s x far j ≡ passTurn x (suc (j - 1)) (channelOutput (joined n s (suc (j - 1))) (outAt x (j - 1 + 1)) (far (suc (j - 1))))
 unfolding netOutput
 output-other n s x far zero h = absurd (h refl)
 output-other n s x far (suc j) h = let e : suc j - 1 ≡ j = omega arith in rw (e, add-one j) refl

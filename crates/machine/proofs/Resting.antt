@@ -68,7 +68,8 @@ output-rests : (n : Network) (s : ℕ) (x : Site) (far : ℕ → Input) (j : ℕ
 unfolding netOutput
 output-rests n s x far zero h =
     ap (ownTurn (λ o q. setOut (withInQueue x q) 0 o)) (local-rests (n .depth) (outAt x 0) (x .incoming) h)
-output-rests n s x far (suc j) h = ap (passTurn x j) (channel-rests (joined n s j) (outAt x (suc j)) (far j) h)
+output-rests n s x far (suc j) h =
+    ap (passTurn x (suc j)) (channel-rests (joined n s (suc j)) (outAt x (suc j)) (far (suc j)) h)
 
 queue-rests : (q : OutQueue) (y : Input) → eqb (q .count) 0 ≡ true → outQueue q y ≡ Stay
 unfolding outQueue

@@ -45,14 +45,14 @@ unjoined o y =
 -- ---- two ways to see the far ends that agree on the channels that there are
 
 module _ (n : Network) (s : ℕ) (x : Site) (f g : ℕ → Input)
-    (same : (j : ℕ) → j < 4 → joined n s j ≡ true → f j ≡ g j) where
+    (same : (j : ℕ) → j < 4 → joined n s (suc j) ≡ true → f (suc j) ≡ g (suc j)) where
   ready-same : (os : List Output) (j : ℕ) → j < 5 → ready (joined n s) f os j ≡ ready (joined n s) g os j
   unfolding hears
   ready-same os zero h = refl
   ready-same os (suc j) h =
-      ap (λ (b : Bool). outOf os (suc j) .used && outOf os (suc j) .head && b) (go (joined n s j) refl)
+      ap (λ (b : Bool). outOf os (suc j) .used && outOf os (suc j) .head && b) (go (joined n s (suc j)) refl)
     where
-      go : (b : Bool) → joined n s j ≡ b → (b && listening (f j .phase)) ≡ (b && listening (g j .phase))
+      go : (b : Bool) → joined n s (suc j) ≡ b → (b && listening (f (suc j) .phase)) ≡ (b && listening (g (suc j) .phase))
       go true e = ap (λ (y : Input). listening (y .phase)) (same j (omega arith) e)
       go false e = refl
 
@@ -73,14 +73,14 @@ module _ (n : Network) (s : ℕ) (x : Site) (f g : ℕ → Input)
   output-same : (j : ℕ) → j < 5 → netOutput n s x f j ≡ netOutput n s x g j
   unfolding netOutput
   output-same zero h = refl
-  output-same (suc j) h = ap (passTurn x j) (go (joined n s j) refl)
+  output-same (suc j) h = ap (passTurn x (suc j)) (go (joined n s (suc j)) refl)
     where
       o : Output
       o = outAt x (suc j)
 
-      go : (b : Bool) → joined n s j ≡ b → channelOutput b o (f j) ≡ channelOutput b o (g j)
+      go : (b : Bool) → joined n s (suc j) ≡ b → channelOutput b o (f (suc j)) ≡ channelOutput b o (g (suc j))
       go true e = ap (channelOutput true o) (same j (omega arith) e)
-      go false e = unjoined o (f j) ∙ sym (unjoined o (g j))
+      go false e = unjoined o (f (suc j)) ∙ sym (unjoined o (g (suc j)))
 
   pub act-same : (code : ℕ) → act n s x f code ≡ act n s x g code
   unfolding act
@@ -92,7 +92,7 @@ module _ (n : Network) (s : ℕ) (x : Site) (f g : ℕ → Input)
       outs h = output-same (code - 5) (omega arith)
 
 -- the four ends as an array
-pub four-at : (f : ℕ → Input) (j : ℕ) → j < 4 → farAt (fourEnds f) j ≡ f j
+pub four-at : (f : ℕ → Input) (j : ℕ) → j < 4 → farAt (fourEnds f) (suc j) ≡ f (suc j)
 four-at f zero h = refl
 four-at f (suc zero) h = refl
 four-at f (suc (suc zero)) h = refl
@@ -114,21 +114,21 @@ module _ (n : Network) (val : Valid n) (s : ℕ) (x : Site) (hs : s < n .sites) 
   work-ok (Cleared a b) h = absurd (clash (sym h))
   work-ok (Service a b q) h = absurd (clash (sym h))
 
-  along : (j : ℕ) (t : Turn Output Input) → channel n s j < 64 → PassOk (passTurn x j t)
+  along : (j : ℕ) (t : Turn Output Input) → channel n s (suc j) < 64 → PassOk (passTurn x (suc j) t)
   along j Stay l h = absurd (clash (sym h))
   along j (To o y) l h = l
 
-  channel-ok : (j : ℕ) (o : Output) (y : Input) → j < 4 → PassOk (passTurn x j (channelOutput (joined n s j) o y))
-  channel-ok j o y hj = go (joined n s j) refl
+  channel-ok : (j : ℕ) (o : Output) (y : Input) → j < 4 → PassOk (passTurn x (suc j) (channelOutput (joined n s (suc j)) o y))
+  channel-ok j o y hj = go (joined n s (suc j)) refl
     where
-      go : (b : Bool) → joined n s j ≡ b → PassOk (passTurn x j (channelOutput b o y))
+      go : (b : Bool) → joined n s (suc j) ≡ b → PassOk (passTurn x (suc j) (channelOutput b o y))
       go true e = along j (channelOutput true o y) (omega (arith, val .ends s j hs hj e, val .few))
       go false e = rw (unjoined o y) (λ h. absurd (clash (sym h)))
 
   output-ok : (far : ℕ → Input) (j : ℕ) → j < 5 → PassOk (netOutput n s x far j)
   unfolding netOutput
   output-ok far zero h = own-ok (λ o q. setOut (withInQueue x q) 0 o) (localOutput (n .depth) (outAt x 0) (x .incoming))
-  output-ok far (suc j) h = channel-ok j (outAt x (suc j)) (far j) (omega arith)
+  output-ok far (suc j) h = channel-ok j (outAt x (suc j)) (far (suc j)) (omega arith)
 
   pub act-passable : (far : ℕ → Input) (code : ℕ) → PassOk (act n s x far code)
   unfolding act

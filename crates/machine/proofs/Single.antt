@@ -1,5 +1,5 @@
 -- The single events by their refusals, as the code tests them, and RUN by the change that it stores. Assumes nothing.
-use Prim.Native.Nat.{ℕ, _<_}
+use Prim.Native.Nat.{suc, ℕ, _<_}
 use mathlib.Core.Path.{_≡_, refl, ap, _∙_}
 use mathlib.Core.List.{List}
 use mathlib.Core.Bool.{Bool, true, false, cond, _&&_}
@@ -90,7 +90,7 @@ run-stored n st s code =
 
 -- the same with other inputs in the places of channels that there are not
 pub run-heard : (n : Network) (st : State) (s code : ℕ) (far : List Input)
-    → ((j : ℕ) → j < 4 → joined n s j ≡ true → farAt far j ≡ ends n (st .sites) s j)
+    → ((j : ℕ) → j < 4 → joined n s (suc j) ≡ true → farAt far (suc j) ≡ ends n (st .sites) s (suc j))
     → stored st s (ofAct n s (siteAt (st .sites) s) (act n s (siteAt (st .sites) s) (farAt far) code)) ≡ runs n st s code
 unfolding run
 run-heard n st s code far same =

@@ -20,7 +20,7 @@ use Rattle.model.specs.Phases.{isFree, listening}
 use Rattle.model.specs.NetInput.{Turn, Stay, allReady, ready, inState, netInput}
 use Rattle.model.specs.Places.{deliver, channelOutput}
 use Rattle.model.specs.Steps.{Idle, ownTurn, passTurn, setBoth, netOutput, act}
-use Rattle.machine.specs.Step.{farAt}
+use Rattle.machine.specs.Step.{farAt, thereAt}
 use Rattle.machine.specs.Idle.{stands, inputWaits, outputWaits, hasToWait}
 use Rattle.machine.proofs.Ready.{ready-there}
 
@@ -70,38 +70,38 @@ output-waits there o y h =
 -- ---- there tells which outputs 1 to 4 of site s have a channel
 
 module _ (n : Network) (s : ℕ) (x : Site) (there : List Bool) (far : List Input)
-    (same : (j : ℕ) → j < 4 → mark there j ≡ joined n s j) where
+    (same : (j : ℕ) → j < 4 → thereAt there (suc j) ≡ joined n s (suc j)) where
   all-by : (os : List Output) (bs : List Bool)
-      → allReady (ready (mark there) (farAt far) os) bs ≡ allReady (ready (joined n s) (farAt far) os) bs
+      → allReady (ready (thereAt there) (farAt far) os) bs ≡ allReady (ready (joined n s) (farAt far) os) bs
   all-by os bs =
-      all-same (λ j. implies (mark bs j) (ready (mark there) (farAt far) os j))
+      all-same (λ j. implies (mark bs j) (ready (thereAt there) (farAt far) os j))
       (λ j. implies (mark bs j) (ready (joined n s) (farAt far) os j)) 5
-      (λ j h. ap (λ (b : Bool). implies (mark bs j) b) (ready-there (mark there) (joined n s) (farAt far) os same j h))
+      (λ j h. ap (λ (b : Bool). implies (mark bs j) b) (ready-there (thereAt there) (joined n s) (farAt far) os same j h))
 
   input-waits : (i : ℕ) (y : Input) (os : List Output) → inputWaits y os there far ≡ true
       → netInput n s i y os (ready (joined n s) (farAt far) os) ≡ Stay
   unfolding inputWaits
   input-waits i y os h =
       stands-stays n s i y os (ready (joined n s) (farAt far) os) (y .phase)
-      (sym (ap₂ (λ (a b : Bool). stands (y .phase) a b) (all-by os (y .outputs)) (ready-there (mark there) (joined n s) (farAt far) os same 0 (omega arith))) ∙ h)
+      (sym (ap₂ (λ (a b : Bool). stands (y .phase) a b) (all-by os (y .outputs)) (ready-there (thereAt there) (joined n s) (farAt far) os same 0 (omega arith))) ∙ h)
 
-  passes : (j : ℕ) → j < 4 → outputWaits (mark there j) (outAt x (suc j)) (farAt far j) ≡ true
+  passes : (j : ℕ) → j < 4 → outputWaits (thereAt there (suc j)) (outAt x (suc j)) (farAt far (suc j)) ≡ true
       → netOutput n s x (farAt far) (suc j) ≡ Idle
   unfolding netOutput
   passes j l h =
-      ap (passTurn x j)
-      (output-waits (joined n s j) (outAt x (suc j)) (farAt far j)
-      (ap (λ (b : Bool). outputWaits b (outAt x (suc j)) (farAt far j)) (sym (same j l)) ∙ h))
+      ap (passTurn x (suc j))
+      (output-waits (joined n s (suc j)) (outAt x (suc j)) (farAt far (suc j))
+      (ap (λ (b : Bool). outputWaits b (outAt x (suc j)) (farAt far (suc j))) (sym (same j l)) ∙ h))
 
   abbrev rests : ℕ → Type 0
   rests code = act n s x (farAt far) code ≡ Idle
 
   -- the outputs 1 to 4, by their codes
   by-code : (code : ℕ) (a b c d : Bool) → eqb code 6 ≡ a → eqb code 7 ≡ b → eqb code 8 ≡ c → eqb code 9 ≡ d
-      → cond a (outputWaits (mark there 0) (outAt x 1) (farAt far 0))
-      (cond b (outputWaits (mark there 1) (outAt x 2) (farAt far 1))
-      (cond c (outputWaits (mark there 2) (outAt x 3) (farAt far 2))
-      (cond d (outputWaits (mark there 3) (outAt x 4) (farAt far 3)) false))) ≡ true
+      → cond a (outputWaits (thereAt there 1) (outAt x 1) (farAt far 1))
+      (cond b (outputWaits (thereAt there 2) (outAt x 2) (farAt far 2))
+      (cond c (outputWaits (thereAt there 3) (outAt x 3) (farAt far 3))
+      (cond d (outputWaits (thereAt there 4) (outAt x 4) (farAt far 4)) false))) ≡ true
       → rests code
   unfolding act
   by-code code true b c d e f g k h = subst rests (sym (eqb-true code 6 e)) (passes 0 (omega arith) h)

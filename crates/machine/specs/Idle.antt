@@ -8,11 +8,11 @@ use Rattle.model.specs.declared.Phase.the-variants.{the-data as Phase, Free, Se
 use Rattle.model.specs.declared.Input.{Input}
 use Rattle.model.specs.declared.Output.{Output}
 use Rattle.model.specs.declared.Site.{Site}
-use Rattle.model.specs.Types.{inAt, outAt, inEntry, mark}
+use Rattle.model.specs.Types.{inAt, outAt, inEntry}
 use Rattle.model.specs.Phases.{isFree, listening, isNone}
 use Rattle.model.specs.NetInput.{allReady, ready}
 use Rattle.model.specs.Places.{stalled}
-use Rattle.machine.specs.Step.{farAt}
+use Rattle.machine.specs.Step.{farAt, thereAt}
 
 -- net-inputs in free and in abort have no rule
 abbrev pub quiet : Phase → Bool
@@ -52,7 +52,7 @@ stands (FinAbort c r) all own = not own
 
 unfoldable pub inputWaits : Input → List Output → List Bool → List Input → Bool
 inputWaits y os there far =
-    stands (y .phase) (allReady (ready (mark there) (farAt far) os) (y .outputs)) (ready (mark there) (farAt far) os 0)
+    stands (y .phase) (allReady (ready (thereAt there) (farAt far) os) (y .outputs)) (ready (thereAt there) (farAt far) os 0)
 
 -- an output 1 to 4 whose channel's input does not take what it has
 abbrev pub outputWaits : Bool → Output → Input → Bool
@@ -61,7 +61,7 @@ outputWaits there o y = not there || (not (o .head) && not (isFree (y .phase)) |
 unfoldable pub hasToWait : Site → List Bool → List Input → ℕ → Bool
 hasToWait x there far code =
     cond (ltb code 5) (inputWaits (inAt x code) (x .outputs) there far)
-    (cond (eqb code 6) (outputWaits (mark there 0) (outAt x 1) (farAt far 0))
-    (cond (eqb code 7) (outputWaits (mark there 1) (outAt x 2) (farAt far 1))
-    (cond (eqb code 8) (outputWaits (mark there 2) (outAt x 3) (farAt far 2))
-    (cond (eqb code 9) (outputWaits (mark there 3) (outAt x 4) (farAt far 3)) false))))
+    (cond (eqb code 6) (outputWaits (thereAt there 1) (outAt x 1) (farAt far 1))
+    (cond (eqb code 7) (outputWaits (thereAt there 2) (outAt x 2) (farAt far 2))
+    (cond (eqb code 8) (outputWaits (thereAt there 3) (outAt x 3) (farAt far 3))
+    (cond (eqb code 9) (outputWaits (thereAt there 4) (outAt x 4) (farAt far 4)) false))))

@@ -1,5 +1,5 @@
 -- RUN's act as the struct that the code returns, and what a site must be for it to run.
-use Prim.Native.Nat.{ℕ, _^_, _≤_, _<_}
+use Prim.Native.Nat.{ℕ, suc, zero, _^_, _≤_, _<_}
 use mathlib.Core.Path.{_≡_}
 use mathlib.Core.List.{List, [], _∷_}
 use mathlib.Core.Bool.{Bool, true, false}
@@ -46,9 +46,14 @@ storedBy didPass st s c =
 abbrev pub stored : State → ℕ → Change → AfterRun
 stored st s c = storedBy (c .act) st s c
 
--- the inputs at the ends of the channels, as an array
+-- of the ports 1 to 4, as arrays: the inputs at the ends of the channels, and which have one
 abbrev pub farAt : List Input → ℕ → Input
-farAt l j = getD l j inputD
+farAt l zero = inputD
+farAt l (suc j) = getD l j inputD
+
+abbrev pub thereAt : List Bool → ℕ → Bool
+thereAt l zero = false
+thereAt l (suc j) = getD l j false
 
 abbrev pub flags : (ℕ → Bool) → List Bool
 flags f = f 0 ∷ f 1 ∷ f 2 ∷ f 3 ∷ f 4 ∷ []
@@ -68,7 +73,7 @@ pub record Runnable (n : Network) (s : ℕ) (x : Site) : Type 0 where
 
 -- the ends of the four channels as an array
 abbrev pub fourEnds : (ℕ → Input) → List Input
-fourEnds f = f 0 ∷ f 1 ∷ f 2 ∷ f 3 ∷ []
+fourEnds f = f 1 ∷ f 2 ∷ f 3 ∷ f 4 ∷ []
 
 -- the two stores of an input passed on
 abbrev pub passed : State → ℕ → Site → ℕ → Input → State
@@ -76,7 +81,7 @@ passed st s x b y = record { sites = setFar (setSite (st .sites) s x) b y; count
 
 -- the channels of site s end within the array of sites
 abbrev pub EndsWithin : Network → ℕ → Type 0
-EndsWithin n s = (j : ℕ) → j < 4 → joined n s j ≡ true → channel n s j < 64
+EndsWithin n s = (j : ℕ) → j < 4 → joined n s (suc j) ≡ true → channel n s (suc j) < 64
 
 abbrev pub isPass : Did → Bool
 isPass didNothing = false

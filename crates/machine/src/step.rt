@@ -1,6 +1,6 @@
 // RUN on a site by value: what the event sees in (the site, the inputs at the ends of its channels), what becomes of it out.
 ghost use mathlib.Core.Path.{_≡_};
-ghost use Prim.Native.Nat.{_<_, _≤_};
+ghost use Prim.Native.Nat.{suc, _<_, _≤_};
 ghost use mathlib.Core.Bool.{true, _&&_};
 ghost use Prim.Native.Nat.{_+_};
 ghost use lib.ListN.{getD};
@@ -10,7 +10,7 @@ ghost use Rattle.model.specs.Network as net;
 ghost use Rattle.model.specs.NetInput as rule;
 ghost use Rattle.model.specs.Places as places;
 ghost use Rattle.model.specs.Steps as steps;
-ghost use Rattle.machine.specs.Step.{ofAct, unchanged, changed, farAt, flags, fourFlags, Runnable};
+ghost use Rattle.machine.specs.Step.{ofAct, unchanged, changed, farAt, thereAt, flags, fourFlags, Runnable};
 use crate::inputs::net_input;
 use crate::phases::free_input;
 use crate::phases::is_listening;
@@ -103,7 +103,7 @@ pub(crate) fn ready_outputs(
     far: [Input; base::PORTS],
     outputs: [Output; base::OUTPUTS],
 ) -> [bool; base::OUTPUTS]
-    ensures { λ r. ⌜ r ≡ flags (rule.ready (spec.mark there) (farAt far) outputs) ⌝ }
+    ensures { λ r. ⌜ r ≡ flags (rule.ready (thereAt there) (farAt far) outputs) ⌝ }
 {
     [
         is_ready(outputs[0]),
@@ -169,7 +169,7 @@ fn channel_step(
     j: usize,
 ) -> Change
     requires { ⌜ (s < 16) × (j < 4) ⌝ }
-    ensures { λ r. ⌜ r ≡ ofAct network s site (steps.passTurn site j (places.channelOutput (net.joined network s j) (spec.outAt site (j + 1)) (farAt far j))) ⌝ }
+    ensures { λ r. ⌜ r ≡ ofAct network s site (steps.passTurn site (suc j) (places.channelOutput (net.joined network s (suc j)) (spec.outAt site (j + 1)) (farAt far (suc j)))) ⌝ }
 {
     let output = site.outputs[j + 1];
     let input = far[j];

@@ -1,6 +1,6 @@
 // What RUN sees of a state, and what it leaves of it: the site, then the far input into the changed sites.
 ghost use mathlib.Core.Path.{_≡_};
-ghost use Prim.Native.Nat.{_<_};
+ghost use Prim.Native.Nat.{suc, _<_};
 ghost use Rattle.model.specs.Steps as steps;
 ghost use Rattle.machine.specs.Step.{stored, passed, fourEnds, EndsWithin, Passable};
 use crate::phases::free_input;
@@ -28,7 +28,7 @@ fn end_of(state: State, byte: u8) -> Input
 // The input at the end of channel j + 1 of site s; a free one where there is no channel.
 pub(crate) fn far_input(network: Network, state: State, s: usize, j: usize) -> Input
     requires { ⌜ (s < 16) × (j < 4) ⌝ ∗ ⌜ EndsWithin network s ⌝ }
-    ensures { λ r. ⌜ r ≡ steps.ends network (state .sites) s j ⌝ }
+    ensures { λ r. ⌜ r ≡ steps.ends network (state .sites) s (suc j) ⌝ }
 {
     let byte = network.channels[4 * s + j];
     if is_channel(byte) {

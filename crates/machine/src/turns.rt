@@ -40,7 +40,7 @@ pub(crate) fn end_site(byte: u8) -> usize
 
 // Of that site's net-inputs the one at the channel's end.
 pub(crate) fn end_input(inputs: [Input; base::INPUTS], byte: u8) -> Input
-    ensures { λ r. ⌜ r ≡ getD inputs (endPort byte + 1) inputD ⌝ }
+    ensures { λ r. ⌜ r ≡ getD inputs (endPort byte) inputD ⌝ }
 {
     input_of(inputs, base::wide(byte) % 4 + 1)
 }

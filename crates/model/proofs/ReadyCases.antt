@@ -14,7 +14,8 @@ use Rattle.model.proofs.Shown.{inp, out, alone}
 -- outputs 0 to 4, 1 for one that is ready; which of the ports 1 to 4 have a channel; the state of the input at the end of each
 abbrev readies : List Bool → List Phase → List Output → List ℕ
 readies cs phs os =
-    map (λ j. count (ready (λ m. getD cs m false) (λ m. inp (getD phs m Free) alone) os j)) (0 ∷ 1 ∷ 2 ∷ 3 ∷ 4 ∷ [])
+    map (λ j. count (ready (λ j. getD (false ∷ cs) j false) (λ j. inp (getD (Free ∷ phs) j Free) alone) os j))
+    (0 ∷ 1 ∷ 2 ∷ 3 ∷ 4 ∷ [])
 
 abbrev joins : List Bool
 joins = replicate 4 true

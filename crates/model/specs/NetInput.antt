@@ -21,11 +21,11 @@ pub data Turn (A B : Type 0) : Type 0 where
   To : A → B → Turn A B
 
 -- "An output is ready when it is in use, its head is taken, and either it is output 0 or its channel's input is open or abort.
--- Outputs 1 to 4 without a channel are never ready": output j of os; there j tells whether output j + 1 has a channel, far j is
--- the input at its end
+-- Outputs 1 to 4 without a channel are never ready": output j of os; there j tells whether output j has a channel, far j is the
+-- input at its end
 unfoldable pub hears : (ℕ → Bool) → (ℕ → Input) → ℕ → Bool
 hears there far zero = true
-hears there far (suc j) = there j && listening (far j .phase)
+hears there far (suc j) = there (suc j) && listening (far (suc j) .phase)
 
 abbrev pub ready : (ℕ → Bool) → (ℕ → Input) → List Output → ℕ → Bool
 ready there far os j = outOf os j .used && outOf os j .head && hears there far j

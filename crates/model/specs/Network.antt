@@ -1,5 +1,5 @@
 -- Document 01, "Network and state": channels, route lists, and which networks are valid, as the refusal number 3, 6, 7 or none.
-use Prim.Native.Nat.{ℕ, _+_, _-_, _*_, _/_, _%_}
+use Prim.Native.Nat.{ℕ, zero, suc, _+_, _-_, _*_, _/_, _%_}
 use mathlib.Core.List.{List, [], _∷_}
 use mathlib.Core.Bool.{Bool, cond, not, _&&_, _||_}
 use lib.Dec.{eqb, ltb, leb}
@@ -10,12 +10,14 @@ use Rattle.base.specs.All.{all}
 use Rattle.base.specs.Over.{over}
 use Rattle.model.specs.Types.{Network}
 
--- "per site and port 1..4 a channel byte, 255 for none, else 4 x site + port - 1 of the input": that of output j + 1 of site s
+-- "per site and port 1..4 a channel byte, 255 for none, else 4 x site + port - 1 of the input": that of
+-- port j of site s; port 0 is local and has none
 abbrev pub channelByte : Network → ℕ → ℕ
 channelByte n m = getD (n .channels) m 0
 
 abbrev pub channel : Network → ℕ → ℕ → ℕ
-channel n s j = channelByte n (portCount * s + j)
+channel n s zero = noChannel
+channel n s (suc j) = channelByte n (portCount * s + j)
 
 -- whether such a byte stands for a channel, and output j + 1 of site s has one
 abbrev pub isChannel : ℕ → Bool
@@ -24,12 +26,12 @@ isChannel b = not (eqb b noChannel)
 abbrev pub joined : Network → ℕ → ℕ → Bool
 joined n s j = isChannel (channel n s j)
 
--- the site at a channel's end, and one less than the input's port there
+-- the site at a channel's end, and the input's port there
 abbrev pub endSite : ℕ → ℕ
 endSite b = b / portCount
 
 abbrev pub endPort : ℕ → ℕ
-endPort b = b % portCount
+endPort b = suc (b % portCount)
 
 -- "for each from-site and to-site a 2-byte route, four hex digits, the first choice highest"
 abbrev pub routeOf : Network → ℕ → ℕ → ℕ
@@ -60,7 +62,7 @@ abbrev pub choice : List ℕ → ℕ → ℕ
 choice l m = getD l m 0
 
 abbrev pub portOk : Network → ℕ → ℕ → Bool
-portOk n s j = eqb j 0 || leb j portCount && joined n s (j - 1)
+portOk n s j = eqb j 0 || leb j portCount && joined n s j
 
 abbrev pub differs : List ℕ → ℕ → Bool
 differs l m = eqb (choice l m) 0 || all (λ m′. not (eqb (choice l m′) (choice l m))) m

@@ -4,7 +4,7 @@
 use Prim.Native.Nat.{ℕ, zero, suc, _-_}
 use mathlib.Core.List.{List}
 use mathlib.Core.Bool.{false, cond, _&&_}
-use lib.Dec.{eqb, ltb}
+use lib.Dec.{eqb, ltb, leb}
 use lib.ListN.{set}
 use Rattle.base.specs.Sizes.{portCount}
 use Rattle.model.specs.Types.{Input, Output, Site, Network, Ran, Nothing, Changed, Serviced}
@@ -16,13 +16,13 @@ use Rattle.model.specs.Places.{localOutput, channelOutput, outQueue, Wor
 
 -- the input at the end of a channel with the byte b, and the sites with that input changed
 abbrev pub farEnd : List Site → ℕ → Input
-farEnd xs b = inAt (siteAt xs (endSite b)) (suc (endPort b))
+farEnd xs b = inAt (siteAt xs (endSite b)) (endPort b)
 
 abbrev pub setFar : List Site → ℕ → Input → List Site
-setFar xs b y = setSite xs (endSite b) (setIn (siteAt xs (endSite b)) (suc (endPort b)) y)
+setFar xs b y = setSite xs (endSite b) (setIn (siteAt xs (endSite b)) (endPort b) y)
 
 -- What RUN decides: nothing; its site becomes x; the same and a service of packet q; x, and the input at the end of its channel
--- j + 1 becomes y.
+-- j becomes y.
 pub data Act : Type 0 where
   Idle : Act
   Own : Site → Act
@@ -35,7 +35,7 @@ ownTurn site (To a b) = Own (site a b)
 
 abbrev pub passTurn : Site → ℕ → Turn Output Input → Act
 passTurn x j Stay = Idle
-passTurn x j (To o y) = Pass (setOut x (suc j) o) j y
+passTurn x j (To o y) = Pass (setOut x j o) j y
 
 abbrev pub workDone : Site → Work → Act
 workDone x Rest = Idle
@@ -46,10 +46,10 @@ workDone x (Service iq oq q) = Serve (withOutQueue (withInQueue x iq) oq) q
 abbrev pub setBoth : Site → ℕ → Input → List Output → Site
 setBoth x i y os = withInputs (withOutputs x os) (set (x .inputs) i y)
 
--- net-output j of site x; far j is the input at the end of channel j + 1
+-- net-output j of site x; far j is the input at the end of its channel
 unfoldable pub netOutput : Network → ℕ → Site → (ℕ → Input) → ℕ → Act
 netOutput n s x far zero = ownTurn (λ o iq. setOut (withInQueue x iq) 0 o) (localOutput (n .depth) (outAt x 0) (x .incoming))
-netOutput n s x far (suc j) = passTurn x j (channelOutput (joined n s j) (outAt x (suc j)) (far j))
+netOutput n s x far (suc j) = passTurn x (suc j) (channelOutput (joined n s (suc j)) (outAt x (suc j)) (far (suc j)))
 
 -- "Codes 0 to 4 are the net-inputs, 5 to 9 the net-outputs 0 to 4, 10 the out-queue, 11 the operator, 12 the timeout."
 unfoldable pub act : Network → ℕ → Site → (ℕ → Input) → ℕ → Act
@@ -65,7 +65,7 @@ act n s x far code =
 
 -- the inputs at the ends of a site's channels; where there is none a free one, which no rule looks at
 abbrev pub ends : Network → List Site → ℕ → ℕ → Input
-ends n xs s j = cond (ltb j portCount && joined n s j) (farEnd xs (channel n s j)) noInput
+ends n xs s j = cond (leb j portCount && joined n s j) (farEnd xs (channel n s j)) noInput
 
 -- "The answer is 2 with packet and site where the operator serviced, else 1 if anything in the state changed, else 0."
 pub record Stepped : Type 0 where

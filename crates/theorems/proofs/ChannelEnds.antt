@@ -80,17 +80,17 @@ module _ (n : Network) (st : List Site) (u k : ℕ) (r : Received) (inv : Inv n 
         quiet = ok .quiet;
       }
 
-  pub told-inv : ((s j : ℕ) → s < n .sites → j < portCount → joined n s j ≡ true
-      → due (outAt (siteAt st s) (suc j)) ≡ true → endSite (channel n s j) ≡ u → endPort (channel n s j) ≡ k → ⊥)
+  pub told-inv : ((s j : ℕ) → s < n .sites → j < portCount → joined n s (suc j) ≡ true
+      → due (outAt (siteAt st s) (suc j)) ≡ true → endSite (channel n s (suc j)) ≡ u → endPort (channel n s (suc j)) ≡ suc k → ⊥)
       → Inv n (setSite st u told)
   told-inv alone =
       inv-set n st u told inv told-ok
       (λ s j hs hj hb.
-      let b = channel n s j in
+      let b = channel n s (suc j) in
       rw (proj-set (λ (x : Site). outAt x (suc j)) st u s told siteD refl)
       (λ hh.
-      let ne : endSite b ≡ u → suc (endPort b) ≡ suc k → ⊥ = λ a c. alone s j hs hj hb hh a (omega arith) in
-      rw (in-other st u (suc k) (endSite b) (suc (endPort b)) (received r far) ne) (inv .link s j hs hj hb hh)))
+      let ne : endSite b ≡ u → endPort b ≡ suc k → ⊥ = λ a c. alone s j hs hj hb hh a c in
+      rw (in-other st u (suc k) (endSite b) (endPort b) (received r far) ne) (inv .link s j hs hj hb hh)))
 
   pub told-owed : (p t : ℕ)
       → owed (setSite st u told) p t ≡ owed st p t + owesAs (asTerminator r) u p t (far .packet) (far .set)
@@ -113,16 +113,16 @@ module _ (n : Network) (st : List Site) (s j : ℕ) (inv : Inv n st) (hs : s < s
   abbrev headed : Site
   headed = setOut (siteAt st s) (suc j) (outHead o)
 
-  headed-link : claim (farEnd st (channel n s j)) ≡ tagOut o → Link n (setSite st s headed)
+  headed-link : claim (farEnd st (channel n s (suc j))) ≡ tagOut o → Link n (setSite st s headed)
   headed-link hc s′ j′ hs′ hj′ hb′ =
-      let b = channel n s′ j′ in
-      rw (proj-set (λ (x : Site). inAt x (suc (endPort b))) st s (endSite b) headed siteD refl)
+      let b = channel n s′ (suc j′) in
+      rw (proj-set (λ (x : Site). inAt x (endPort b)) st s (endSite b) headed siteD refl)
       (go (ℕ-discrete s′ s) (ℕ-discrete j′ j))
     where
       Goal : ℕ → ℕ → Type 0
       Goal a c =
           due (outAt (siteAt (setSite st s headed) a) (suc c)) ≡ true
-          → claim (farEnd st (channel n a c)) ≡ tagOut (outAt (siteAt (setSite st s headed) a) (suc c))
+          → claim (farEnd st (channel n a (suc c))) ≡ tagOut (outAt (siteAt (setSite st s headed) a) (suc c))
 
       other : (s′ ≡ s → suc j′ ≡ suc j → ⊥) → Goal s′ j′
       other ne = rw (out-other st s (suc j) s′ (suc j′) (outHead o) ne) (inv .link s′ j′ hs′ hj′ hb′)
@@ -135,7 +135,7 @@ module _ (n : Network) (st : List Site) (s j : ℕ) (inv : Inv n st) (hs : s < s
       go (no a) d = other (λ e f. a e)
       go (yes a) (no c) = other (λ e f. c (omega arith))
 
-  pub headed-kept : claim (farEnd st (channel n s j)) ≡ tagOut o → Kept n st (setSite st s headed) (λ p t. 0)
+  pub headed-kept : claim (farEnd st (channel n s (suc j))) ≡ tagOut o → Kept n st (setSite st s headed) (λ p t. 0)
   headed-kept hc =
       let len : suc j < length (siteAt st s .outputs) = omega (arith, inv .site s hs .outs) in
       record {

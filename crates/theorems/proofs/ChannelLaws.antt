@@ -1,6 +1,6 @@
 -- The rules of net-outputs 1 to 4, which change an output and the input at the end of its channel, keep the invariant
 -- and what is owed. Assumes a valid network.
-use Prim.Native.Nat.{ℕ, suc, _<_}
+use Prim.Native.Nat.{ℕ, suc, _<_, _%_}
 use mathlib.Core.Path.{_≡_, refl, sym, ap, _∙_, subst, subst₂}
 use mathlib.Core.List.{List}
 use mathlib.Core.Bool.{true, false, _&&_}
@@ -36,7 +36,7 @@ terminator-some gotAbort = refl
 module _ (n : Network) (val : Valid n) (st : List Site) (inv : Inv n st) (s j : ℕ) (hs : s < n .sites)
     (hj : j < portCount) where
   abbrev b : ℕ
-  b = channel n s j
+  b = channel n s (suc j)
 
   abbrev x : Site
   x = siteAt st s
@@ -46,12 +46,12 @@ module _ (n : Network) (val : Valid n) (st : List Site) (inv : Inv n st) (s j : 
 
   -- the input at the end, whatever becomes of the output
   far-same : (v : Output) → farEnd (setSite st s (setOut x (suc j) v)) b ≡ farEnd st b
-  far-same v = proj-set (λ (z : Site). inAt z (suc (endPort b))) st s (endSite b) (setOut x (suc j) v) siteD refl
+  far-same v = proj-set (λ (z : Site). inAt z (endPort b)) st s (endSite b) (setOut x (suc j) v) siteD refl
 
   s16 : s < sitesMost
   s16 = omega (arith, val .few)
 
-  module _ (hb : joined n s j ≡ true) where
+  module _ (hb : joined n s (suc j) ≡ true) where
     u16 : endSite b < sitesMost
     u16 = omega (arith, val .ends s j hs hj hb, val .few)
 
@@ -68,25 +68,25 @@ module _ (n : Network) (val : Valid n) (st : List Site) (inv : Inv n st) (s j : 
         let gone =
         good-kept n st s x₁ inv (λ p t. owesOutput s p t o) s16
         (gone-good s x j v (inv .site s s16) (omega arith) unfed bare none) in
-        let alone : (s′ j′ : ℕ) → s′ < n .sites → j′ < portCount → joined n s′ j′ ≡ true
-        → due (outAt (siteAt st₁ s′) (suc j′)) ≡ true → endSite (channel n s′ j′) ≡ u
-        → endPort (channel n s′ j′) ≡ endPort b → ⊥ =
+        let alone : (s′ j′ : ℕ) → s′ < n .sites → j′ < portCount → joined n s′ (suc j′) ≡ true
+        → due (outAt (siteAt st₁ s′) (suc j′)) ≡ true → endSite (channel n s′ (suc j′)) ≡ u
+        → endPort (channel n s′ (suc j′)) ≡ endPort b → ⊥ =
         λ s′ j′ hs′ hj′ hb′ hh′ eu ek.
         let e = val .apart s j s′ j′ hs hj hs′ hj′ hb (omega arith) in
         let h : due (outAt (siteAt st₁ s) (suc j)) ≡ true =
         subst₂ (λ a c. due (outAt (siteAt st₁ a) (suc c)) ≡ true) (sym (e .0)) (sym (e .1)) hh′ in
         clash (sym h ∙ ap due (out-same n st inv s s16 (suc j) v (omega arith)) ∙ none) in
-        let k : endPort b < portCount = omega arith in
+        let k : b % portCount < portCount = omega arith in
         let l : listening (farEnd st₁ b .phase) ≡ true = rw (far-same v) hl in
         subst (λ (z : Input). Kept n st (setFar st₁ b (received r z)) (λ p t. 0)) (far-same v)
         (record {
-          inv = told-inv n st₁ u (endPort b) r (gone .inv) u16 k l alone;
+          inv = told-inv n st₁ u (b % portCount) r (gone .inv) u16 k l alone;
           total =
               λ p t.
               omega (
                 arith,
                 gone .total p t,
-                told-owed n st₁ u (endPort b) r (gone .inv) u16 k l p t,
+                told-owed n st₁ u (b % portCount) r (gone .inv) u16 k l p t,
                 ap (λ (k : Terminator). owesAs k s p t (o .packet) (o .set)) hk,
                 terminator-site r s u p t (o .packet) (o .set),
                 ap (λ (z : Input). owesAs (asTerminator r) u p t (z .packet) (z .set)) (far-same v),
@@ -100,7 +100,7 @@ module _ (n : Network) (val : Valid n) (st : List Site) (inv : Inv n st) (s j : 
         Kept n st (setSite st₁ s (setOut (siteAt st₁ s) (suc j) (outHead (outAt (siteAt st₁ s) (suc j))))) (λ p t. 0)
     head-kept hf =
         let u = endSite b in
-        let k = suc (endPort b) in
+        let k = endPort b in
         let y = farEnd st b in
         let v = seeking (o .packet) (o .set) in
         let x₁ = setIn (siteAt st u) k v in
@@ -117,42 +117,42 @@ module _ (n : Network) (val : Valid n) (st : List Site) (inv : Inv n st) (s j : 
         record { inv = headed .inv; total = λ p t. omega (arith, sought .total p t, headed .total p t) }
 
   -- the rules; y is the input at the end of the channel, if there is one
-  module _ (y : Input) (ye : joined n s j ≡ true → y ≡ farEnd st b) where
+  module _ (y : Input) (ye : joined n s (suc j) ≡ true → y ≡ farEnd st b) where
     abbrev TurnOk : Turn Output Input → Type 0
-    TurnOk r = StepOk n st (patch n st s (passTurn x j r))
+    TurnOk r = StepOk n st (patch n st s (passTurn x (suc j) r))
 
-    termOn-ok : (r : Received) → due o ≡ true → o .terminator ≡ asTerminator r → TurnOk (termOn (joined n s j) y r)
+    termOn-ok : (r : Received) → due o ≡ true → o .terminator ≡ asTerminator r → TurnOk (termOn (joined n s (suc j)) y r)
     termOn-ok r hh hk =
-        cond-ok TurnOk (joined n s j && listening (y .phase)) _ _
+        cond-ok TurnOk (joined n s (suc j) && listening (y .phase)) _ _
         (λ h.
-        let w = both (joined n s j) (listening (y .phase)) h in
+        let w = both (joined n s (suc j)) (listening (y .phase)) h in
         let e = ye (w .0) in
         let l : listening (farEnd st b .phase) ≡ true = rw (← e) (w .1) in
         subst (λ (z : Input). Kept n st (setFar (setSite st s (setOut x (suc j) noOutput)) b (received r z)) (λ p t. 0))
         (sym e) (term-kept (w .0) r noOutput hh hk l refl refl))
         (λ h. still n st inv)
 
-    headOn-ok : TurnOk (headOn (joined n s j) o y)
+    headOn-ok : TurnOk (headOn (joined n s (suc j)) o y)
     headOn-ok =
-        cond-ok TurnOk (joined n s j && isFree (y .phase)) _ _
+        cond-ok TurnOk (joined n s (suc j) && isFree (y .phase)) _ _
         (λ h.
-        let w = both (joined n s j) (isFree (y .phase)) h in
+        let w = both (joined n s (suc j)) (isFree (y .phase)) h in
         let v = seeking (o .packet) (o .set) in
         subst (λ (l : List Site). Kept n st l (λ p t. 0))
         (sym
         (modify-swap st s (endSite b) (λ z. setOut z (suc j) (outHead (outAt z (suc j))))
-        (λ z. setIn z (suc (endPort b)) v) siteD (λ e a. refl)))
+        (λ z. setIn z (endPort b) v) siteD (λ e a. refl)))
         (head-kept (w .0) (rw (← ye (w .0)) (w .1))))
         (λ h. still n st inv)
 
-    deliver-ok : (k : Terminator) → due o ≡ true → o .terminator ≡ k → TurnOk (deliver (joined n s j) y k)
+    deliver-ok : (k : Terminator) → due o ≡ true → o .terminator ≡ k → TurnOk (deliver (joined n s (suc j)) y k)
     unfolding deliver
     deliver-ok tNone hh e = still n st inv
     deliver-ok tEnd hh e = termOn-ok gotEnd hh e
     deliver-ok tAbort hh e = termOn-ok gotAbort hh e
     deliver-ok tKeep hh e = still n st inv
 
-    pub channelOutput-ok : TurnOk (channelOutput (joined n s j) o y)
+    pub channelOutput-ok : TurnOk (channelOutput (joined n s (suc j)) o y)
     unfolding channelOutput
     channelOutput-ok =
         cond-ok TurnOk (o .used) _ _

@@ -1,7 +1,7 @@
 -- What every reached state has, and what a rule that moves one site owes for it to stay so: at each site and over each
 -- channel, a terminator that is to come, and the place that waits for it, speak of the same packet and set.
 -- Assumes nothing.
-use Prim.Native.Nat.{ℕ, suc, _+_, _≤_, _<_}
+use Prim.Native.Nat.{ℕ, suc, _+_, _≤_, _<_, _%_}
 use mathlib.Core.Path.{_≡_, refl, _∙_}
 use mathlib.Core.List.{List, [], _∷_}
 use mathlib.Core.Bool.{Bool, true, false, cond, not}
@@ -13,7 +13,7 @@ use Rattle.base.specs.Sums.{upto, isum-set}
 use Rattle.theorems.specs.Names.{Connection, gotEnd, Terminator, tNone, tEnd, Phase, Free, Seek, Open, Wait, Done, Last}
 use Rattle.theorems.specs.Names.{Aborted, FinAbort, Input, Output, OutQueue, InQueue, Site, Network, Serviced}
 use Rattle.model.specs.Types.{inputD, siteD, noOutput, siteAt, inAt, outAt, mark, outEntry, setSite}
-use Rattle.model.specs.Network.{channel, joined, endSite, endPort}
+use Rattle.model.specs.Network.{channel, joined, endSite}
 use Rattle.model.specs.Phases.{splits}
 use Rattle.model.specs.NetInput.{table}
 use Rattle.model.specs.Places.{lastOf, lastLacks}
@@ -126,8 +126,8 @@ pub record SiteOk (s : ℕ) (x : Site) : Type 0 where
 -- over a channel: where the head is taken the input at the end waits for that packet and set
 abbrev pub Link : Network → List Site → Type 0
 Link n st =
-    (s j : ℕ) → s < n .sites → j < portCount → joined n s j ≡ true → due (outAt (siteAt st s) (suc j)) ≡ true
-    → claim (farEnd st (channel n s j)) ≡ tagOut (outAt (siteAt st s) (suc j))
+    (s j : ℕ) → s < n .sites → j < portCount → joined n s (suc j) ≡ true → due (outAt (siteAt st s) (suc j)) ≡ true
+    → claim (farEnd st (channel n s (suc j))) ≡ tagOut (outAt (siteAt st s) (suc j))
 
 pub record Inv (n : Network) (st : List Site) : Type 0 where
   pub sixteen : length st ≡ sitesMost
@@ -182,7 +182,7 @@ module _ (n : Network) (st : List Site) (s : ℕ) (x′ : Site) (inv : Inv n st)
   keep-link g u j hu hj hb hh =
       let k : (w : ℕ) → Keeps (siteAt st w) (siteAt (setSite st s x′) w) = rel-set Keeps st s x′ siteD keeps-refl g in
       let e = k u .outputs j hh in
-      k (endSite (channel n u j)) .inputs (endPort (channel n u j)) _ _ (inv .link u j hu hj hb (e .0) ∙ e .1)
+      k (endSite (channel n u (suc j))) .inputs (channel n u (suc j) % portCount) _ _ (inv .link u j hu hj hb (e .0) ∙ e .1)
 
   -- the site and the links are looked after, each by itself
   pub inv-set : SiteOk s x′ → Link n (setSite st s x′) → Inv n (setSite st s x′)

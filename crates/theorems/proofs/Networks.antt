@@ -1,5 +1,5 @@
 -- What a valid network is known by: the test of a network (3, 6, 7), taken apart. Assumes nothing.
-use Prim.Native.Nat.{ℕ, _+_, _*_, _≤_, _<_}
+use Prim.Native.Nat.{ℕ, _+_, _*_, _≤_, _<_, suc}
 use mathlib.Core.Path.{_≡_, sym, _∙_}
 use mathlib.Core.Bool.{true, not}
 use mathlib.Core.Logic.{⊎-elim}
@@ -20,9 +20,9 @@ pub record Valid (n : Network) : Type 0 where
   pub deep : n .depth ≤ queueRoom
   pub room : 1 ≤ n .depth
   -- a channel ends at an input of the network, and no two end at the same one
-  pub ends : (s j : ℕ) → s < n .sites → j < portCount → joined n s j ≡ true → channel n s j < portCount * n .sites
-  pub apart : (s j s′ j′ : ℕ) → s < n .sites → j < portCount → s′ < n .sites → j′ < portCount → joined n s j ≡ true
-      → channel n s j ≡ channel n s′ j′ → (s ≡ s′) × (j ≡ j′)
+  pub ends : (s j : ℕ) → s < n .sites → j < portCount → joined n s (suc j) ≡ true → channel n s (suc j) < portCount * n .sites
+  pub apart : (s j s′ j′ : ℕ) → s < n .sites → j < portCount → s′ < n .sites → j′ < portCount → joined n s (suc j) ≡ true
+      → channel n s (suc j) ≡ channel n s′ (suc j′) → (s ≡ s′) × (j ≡ j′)
 
 -- the three tests of a network that is not refused
 pub passed : (n : Network) → networkRefusal n ≡ 0 → (sizesOk n ≡ true) × (channelsOk n ≡ true) × (routesOk n ≡ true)

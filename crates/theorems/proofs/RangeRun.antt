@@ -6,7 +6,7 @@ use mathlib.Core.List.{List}
 use mathlib.Core.Bool.{Bool, true, false, _&&_}
 use native.Mathlib.Nat.{le-of-suc-le-suc}
 use native.Mathlib.Omega.{arith}
-use borrow.Author.Tests.{ltb-true, lt-ltb}
+use borrow.Author.Tests.{ltb-true, le-leb}
 use lib.Dec.{eqb, ltb}
 use lib.ListN.{getD, set, length, length-set}
 use lib.Seq.{getD-set-same}
@@ -41,7 +41,7 @@ pub record SiteTo (n : Network) (k : ℕ) (x x′ : Site) : Type 0 where
 
 -- the same where channel j + 1 passes something on, and the input at its end, which was y
 pub record PassTo (n : Network) (s k : ℕ) (x x′ : Site) (j : ℕ) (y y′ : Input) : Type 0 where
-  pub there : joined n s j ≡ true
+  pub there : joined n s (suc j) ≡ true
   pub inn : SiteIn n k x′
   pub inputs : x′ .inputs ≡ x .inputs
   pub moved : x′ .outputs ≡ x .outputs → ⊥
@@ -51,7 +51,8 @@ abbrev pub ActIn : Network → ℕ → ℕ → Site → (ℕ → Input) → Act 
 ActIn n s k x far Idle = Unit {0}
 ActIn n s k x far (Own x′) = SiteTo n k x x′
 ActIn n s k x far (Serve x′ q) = SiteTo n k x x′ × (q < k)
-ActIn n s k x far (Pass x′ j y) = (j < portCount) × PassTo n s k x x′ j (far j) y
+ActIn n s k x far (Pass x′ zero y) = ⊥
+ActIn n s k x far (Pass x′ (suc j) y) = (j < portCount) × PassTo n s k x x′ j (far (suc j)) y
 
 module _ (n : Network) (val : Valid n) (s : ℕ) (hs : s < n .sites) (k : ℕ) (x : Site) (ok : SiteIn n k x)
     (far : ℕ → Input) where
@@ -114,8 +115,8 @@ module _ (n : Network) (val : Valid n) (s : ℕ) (hs : s < n .sites) (k : ℕ) (
       }
 
   pass-act : (j : ℕ) → j < portCount → (r : Turn Output Input)
-      → TurnIn (λ v y. (joined n s j ≡ true) × OutputTo n k (suc j) (outAt x (suc j)) v × InputTo n k (far j) y) r
-      → Decided (passTurn x j r)
+      → TurnIn (λ v y. (joined n s (suc j) ≡ true) × OutputTo n k (suc j) (outAt x (suc j)) v × InputTo n k (far (suc j)) y) r
+      → Decided (passTurn x (suc j) r)
   pass-act j hj Stay h = tt
   pass-act j hj (To v y) h = (
     hj,
@@ -134,8 +135,8 @@ module _ (n : Network) (val : Valid n) (s : ℕ) (hs : s < n .sites) (k : ℕ) (
       local-act (localOutput (n .depth) (outAt x 0) (x .incoming))
       (localOutput-in n k (val .deep) (outAt x 0) (x .incoming) (ok .outs 0) (ok .incoming))
   output-act (suc j) hj =
-      pass-act j (le-of-suc-le-suc hj) (channelOutput (joined n s j) (outAt x (suc j)) (far j))
-      (channelOutput-in n k (joined n s j) (suc j) (outAt x (suc j)) (far j) (ok .outs (suc j)))
+      pass-act j (le-of-suc-le-suc hj) (channelOutput (joined n s (suc j)) (outAt x (suc j)) (far (suc j)))
+      (channelOutput-in n k (joined n s (suc j)) (suc j) (outAt x (suc j)) (far (suc j)) (ok .outs (suc j)))
 
   -- queues changed
   queue-act : (r : Turn OutQueue Input)
@@ -206,9 +207,9 @@ module _ (n : Network) (val : Valid n) (k : ℕ) (st : List Site) (h : SitesIn n
 
   -- over channel j + 1
   module _ (x : Site) (j : ℕ) (y : Input) (hj : j < portCount)
-      (g : PassTo n s k (siteAt st s) x j (ends n st s j) y) where
+      (g : PassTo n s k (siteAt st s) x j (ends n st s (suc j)) y) where
     abbrev b : ℕ
-    b = channel n s j
+    b = channel n s (suc j)
 
     abbrev st₁ : List Site
     st₁ = setSite st s x
@@ -217,18 +218,18 @@ module _ (n : Network) (val : Valid n) (k : ℕ) (st : List Site) (h : SitesIn n
     end-below = omega (arith, val .ends s j hs hj (g .there))
 
     -- the input at its end, which the own site's change leaves
-    same-end : inAt (siteAt st₁ (endSite b)) (suc (endPort b)) ≡ ends n st s j
+    same-end : inAt (siteAt st₁ (endSite b)) (endPort b) ≡ ends n st s (suc j)
     same-end =
-        ap (λ l. getD l (suc (endPort b)) inputD)
+        ap (λ l. getD l (endPort b) inputD)
         (proj-set (λ (w : Site). w .inputs) st s (endSite b) x siteD (g .inputs))
-        ∙ rw (lt-ltb j portCount hj, g .there) refl
+        ∙ rw (le-leb (suc j) portCount hj, g .there) refl
 
     pass-range : SitesIn n k (setFar st₁ b y)
     pass-range =
         let h₁ = sites-set n k st s x h hs (g .inn) in
         let z = siteAt st₁ (endSite b) in
         let ok = h₁ .inside (endSite b) end-below in
-        let p = suc (endPort b) in
+        let p = endPort b in
         sites-set n k st₁ (endSite b) (setIn z p y) h₁ end-below
         (in-set n k z ok p y
         (g .far p (outAt z) (subst (λ (w : Input). InputIn n k p (outAt z) w) same-end (ok .ins p))))
@@ -236,7 +237,7 @@ module _ (n : Network) (val : Valid n) (k : ℕ) (st : List Site) (h : SitesIn n
     pass-moved : setFar st₁ b y ≡ st → ⊥
     pass-moved e =
         let z = siteAt st₁ (endSite b) in
-        let u = proj-set (λ (w : Site). w .outputs) st₁ (endSite b) s (setIn z (suc (endPort b)) y) siteD refl in
+        let u = proj-set (λ (w : Site). w .outputs) st₁ (endSite b) s (setIn z (endPort b) y) siteD refl in
         g .moved
         (sym (u ∙ ap (λ (w : Site). w .outputs) (getD-set-same st s x siteD room)) ∙ ap (λ l. siteAt l s .outputs) e)
 
@@ -244,7 +245,8 @@ module _ (n : Network) (val : Valid n) (k : ℕ) (st : List Site) (h : SitesIn n
   patch-in Idle g = record { range = h; told = refl }
   patch-in (Own x) g = record { range = own-range x g; told = own-moved x g }
   patch-in (Serve x q) g = record { range = own-range x (g .0); told = (own-moved x (g .0), g .1, refl) }
-  patch-in (Pass x j y) g = record { range = pass-range x j y (g .0) (g .1); told = pass-moved x j y (g .0) (g .1) }
+  patch-in (Pass x zero y) g = absurd g
+  patch-in (Pass x (suc j) y) g = record { range = pass-range x j y (g .0) (g .1); told = pass-moved x j y (g .0) (g .1) }
 
   pub run-in : (code : ℕ) → StepIn n s k st (run n st s code)
   unfolding run

@@ -34,13 +34,14 @@ abbrev OnPort : Act → Type 0
 OnPort Idle = Unit {0}
 OnPort (Own x) = Unit {0}
 OnPort (Serve x q) = Unit {0}
-OnPort (Pass x j y) = j < portCount
+OnPort (Pass x zero y) = ⊥
+OnPort (Pass x (suc j) y) = j < portCount
 
 own-on : {A B : Type 0} (site : A → B → Site) (r : Turn A B) → OnPort (ownTurn site r)
 own-on site Stay = tt
 own-on site (To a b) = tt
 
-pass-on : (x : Site) (j : ℕ) → j < portCount → (r : Turn Output Input) → OnPort (passTurn x j r)
+pass-on : (x : Site) (j : ℕ) → j < portCount → (r : Turn Output Input) → OnPort (passTurn x (suc j) r)
 pass-on x j hj Stay = tt
 pass-on x j hj (To o y) = hj
 
@@ -53,7 +54,7 @@ output-on : (n : Network) (s : ℕ) (x : Site) (far : ℕ → Input) (j : ℕ) �
 unfolding netOutput
 output-on n s x far zero hj =
     own-on (λ o iq. setOut (withInQueue x iq) 0 o) (localOutput (n .depth) (outAt x 0) (x .incoming))
-output-on n s x far (suc j) hj = pass-on x j hj (channelOutput (joined n s j) (outAt x (suc j)) (far j))
+output-on n s x far (suc j) hj = pass-on x j hj (channelOutput (joined n s (suc j)) (outAt x (suc j)) (far (suc j)))
 
 act-on : (n : Network) (s : ℕ) (x : Site) (far : ℕ → Input) (code : ℕ) → OnPort (act n s x far code)
 unfolding act
@@ -81,7 +82,7 @@ module _ (n : Network) (cs rs : List ℕ) (hc : (m : ℕ) → m < portCount * n 
   abbrev pub other : Network
   other = record { sites = n .sites; depth = n .depth; tries = n .tries; channels = cs; routes = rs }
 
-  channel-at : (s j : ℕ) → s < n .sites → j < portCount → channel other s j ≡ channel n s j
+  channel-at : (s j : ℕ) → s < n .sites → j < portCount → channel other s (suc j) ≡ channel n s (suc j)
   channel-at s j hs hj = hc (portCount * s + j) (omega arith)
 
   channel-same : (m : ℕ) → m < portCount * n .sites → channelOk other m ≡ channelOk n m
@@ -95,17 +96,9 @@ module _ (n : Network) (cs rs : List ℕ) (hc : (m : ℕ) → m < portCount * n 
   channels-same = all-same (channelOk other) (channelOk n) (portCount * n .sites) channel-same
 
   port-same : (s j : ℕ) → s < n .sites → portOk other s j ≡ portOk n s j
-  port-same s j h = go (eqb j 0) (leb j portCount) refl refl
-    where
-      go : (z l : Bool) → eqb j 0 ≡ z → leb j portCount ≡ l
-          → z || l && joined other s (j - 1) ≡ z || l && joined n s (j - 1)
-      go true l e f = refl
-      go false false e f = refl
-      go false true e f =
-          let a = eqb-false j 0 e in
-          let b = leb-true j portCount f in
-          let c : 0 < j = omega arith in
-          ap (λ (b : ℕ). not (eqb b noChannel)) (channel-at s (j - 1) h (omega arith))
+  port-same s zero h = refl
+  port-same s (suc j) h =
+      either-way (leb (suc j) portCount) (λ e. rw (channel-at s j h (leb-true (suc j) portCount e)) refl) (λ e. rw e refl)
 
   list-same : (s : ℕ) (l : List ℕ) → s < n .sites → listOk other s l ≡ listOk n s l
   list-same s l h =
@@ -165,12 +158,13 @@ module _ (n : Network) (cs rs : List ℕ) (hc : (m : ℕ) → m < portCount * n 
       -- the inputs at the ends of its channels, and which outputs are ready
       module _ (xs : List Site) where
         ends-same : (j : ℕ) → ends other xs s j ≡ ends n xs s j
-        ends-same j =
-            either-way (ltb j portCount)
+        ends-same zero = refl
+        ends-same (suc j) =
+            either-way (leb (suc j) portCount)
             (λ e.
             rw e
             (ap (λ (b : ℕ). cond (not (eqb b noChannel)) (farEnd xs b) noInput)
-            (channel-at s j hs (ltb-true j portCount e))))
+            (channel-at s j hs (leb-true (suc j) portCount e))))
             (λ e. rw e refl)
 
         -- beyond output 4 there is no input that listens
@@ -178,11 +172,11 @@ module _ (n : Network) (cs rs : List ℕ) (hc : (m : ℕ) → m < portCount * n 
         unfolding hears
         hears-same zero = refl
         hears-same (suc j) =
-            either-way (ltb j portCount)
+            either-way (leb (suc j) portCount)
             (λ e.
-            ap (λ (b : ℕ). not (eqb b noChannel) && listening (ends n xs s j .phase))
-            (channel-at s j hs (ltb-true j portCount e)))
-            (λ e. rw e (and-false (joined other s j) ∙ sym (and-false (joined n s j))))
+            ap (λ (b : ℕ). not (eqb b noChannel) && listening (ends n xs s (suc j) .phase))
+            (channel-at s j hs (leb-true (suc j) portCount e)))
+            (λ e. rw e (and-false (joined other s (suc j)) ∙ sym (and-false (joined n s (suc j)))))
 
         ready-same : (os : List Output)
             → ready (joined other s) (ends other xs s) os ≡ ready (joined n s) (ends n xs s) os
@@ -231,7 +225,8 @@ module _ (n : Network) (cs rs : List ℕ) (hc : (m : ℕ) → m < portCount * n 
         patch-same Idle h = refl
         patch-same (Own x) h = refl
         patch-same (Serve x q) h = refl
-        patch-same (Pass x j y) h = rw (channel-at s j hs h) refl
+        patch-same (Pass x zero y) h = absurd h
+        patch-same (Pass x (suc j) y) h = rw (channel-at s j hs h) refl
 
         pub run-same : n .sites ≤ sitesMost
             → ((i : ℕ) → i < inputCount → let y = inAt (siteAt xs s) i in

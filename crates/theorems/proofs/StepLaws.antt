@@ -5,7 +5,7 @@ use mathlib.Core.List.{List}
 use mathlib.Core.Bool.{false}
 use native.Mathlib.Omega.{arith}
 use native.Mathlib.Nat.{le-of-suc-le-suc}
-use borrow.Author.Tests.{lt-ltb, ltb-true}
+use borrow.Author.Tests.{le-leb, ltb-true}
 use lib.Dec.{eqb, ltb}
 use Rattle.base.specs.Sizes.{sitesMost, inputCount, outputCount, portCount, queueRoom}
 use Rattle.base.specs.Bools.{cond-ok}
@@ -40,7 +40,7 @@ module _ (n : Network) (val : Valid n) (st : List Site) (inv : Inv n st) (s : �
       own-kept n st s inv s16 (netOutput n s x (ends n st s) zero) (localOutput-ok s x ok (n .depth) (val .deep))
   netOutput-ok (suc j) hj =
       let l : j < portCount = le-of-suc-le-suc hj in
-      channelOutput-ok n val st inv s j hs l (ends n st s j) (λ h. rw (lt-ltb j portCount l, h) refl)
+      channelOutput-ok n val st inv s j hs l (ends n st s (suc j)) (λ h. rw (le-leb (suc j) portCount l, h) refl)
 
   -- an input in seek has a set that is not empty and lies within the network's sites
   pub run-ok : ((i : ℕ) → i < inputCount → inAt x i .phase ≡ Seek

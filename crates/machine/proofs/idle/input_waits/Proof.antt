@@ -1,7 +1,6 @@
 use mathlib.Core.Path.{refl}
-use Rattle.model.specs.Types.{mark}
 use Rattle.model.specs.NetInput.{ready}
-use Rattle.machine.specs.Step.{farAt}
+use Rattle.machine.specs.Step.{farAt, thereAt}
 use Rattle.machine.specs.Idle.{inputWaits}
 use Rattle.machine.proofs.Ready.{all-flags}
 use borrow.Author.Needs.{needs}
@@ -27,7 +26,7 @@ is-standing-requires c κs = search needs
 
 returns : tie.Need-returns
 unfolding inputWaits
-returns c = rw (c .is-standing .ensures, c .before .all-ready .ensures, c .before .before .ready-outputs .ensures, all-flags (ready (mark (c .before .before .before .before .args .there)) (farAt (c .before .before .before .before .args .far)) (c .before .before .before .before .args .outputs)) (c .before .before .before .before .args .input .outputs)) refl
+returns c = rw (c .is-standing .ensures, c .before .all-ready .ensures, c .before .before .ready-outputs .ensures, all-flags (ready (thereAt (c .before .before .before .before .args .there)) (farAt (c .before .before .before .before .args .far)) (c .before .before .before .before .args .outputs)) (c .before .before .before .before .args .input .outputs)) refl
 
 pub input-waits-spec : {M : Type 1} → statement M
 input-waits-spec =

@@ -2,7 +2,7 @@ use mathlib.Core.Bool.{Bool}
 use Rattle.model.specs.Network.{joined}
 use Rattle.machine.proofs.Ready.{ends-read}
 use mathlib.Core.Path.{_≡_, refl, sym, ap, _∙_}
-use Prim.Native.Nat.{ℕ, _+_, _≤_, _-_, _<_}
+use Prim.Native.Nat.{suc, ℕ, _+_, _≤_, _-_, _<_}
 use native.Mathlib.Omega.{arith}
 use borrow.Author.Needs.{needs}
 use Rattle.sets.proofs.LawsBit.{size-most}
@@ -438,7 +438,7 @@ loop-again-4 c =
     let nm = named-below r p (c .before .before .before .before .before .before .before .before .before .before .before .before .before .before .before .before .before .before .before .before .before .before .before .before .ticked .result .value) (c .before .before .before .before .before .before .before .before .before .before .before .before .before .before .before .before .before .before .before .before .before .before .before .event-of .result) ok (c .before .before .before .before .before .before .before .before .before .before .before .before .before .before .before .before .before .before .before .before .before .before .before .event-of .ensures) in
     let far = c .before .before .before .before .before .before .before .before .before .before .before .before .before .before .before .before .end-input .result ∷ c .before .before .before .before .before .before .before .before .before .before .before .before .end-input2 .result ∷ c .before .before .before .before .before .before .before .before .end-input3 .result ∷ c .before .before .before .before .end-input4 .result ∷ [] in
     let fr = far-read (c .before .before .before .before .before .before .before .before .before .before .before .before .before .before .before .before .before .before .before .before .before .before .before .before .before .before .before .before .before .before .before .before .before .before .args .network) val (c .before .before .before .before .before .before .before .before .before .before .before .before .before .before .before .before .before .before .before .before .before .before .before .before .before .before .before .before .before .before .loop .state .sites) (c .before .before .before .before .before .before .before .before .before .before .before .before .before .before .before .before .before .before .before .before .before .before .before .event-of .result .site) (nm .0) (c .before .before .before .before .before .before .before .before .before .before .before .before .before .before .before .before .before .before .before .end-site .result) (c .before .before .before .before .before .before .before .before .before .before .before .before .before .before .before .end-site2 .result) (c .before .before .before .before .before .before .before .before .before .before .before .end-site3 .result) (c .before .before .before .before .before .before .before .end-site4 .result) (c .before .before .before .before .before .before .before .before .before .before .before .before .before .before .before .before .end-input .result) (c .before .before .before .before .before .before .before .before .before .before .before .before .end-input2 .result) (c .before .before .before .before .before .before .before .before .end-input3 .result) (c .before .before .before .before .end-input4 .result) (c .before .before .before .before .before .before .before .before .before .before .before .before .before .before .before .before .before .before .before .end-site .ensures .0) (c .before .before .before .before .before .before .before .before .before .before .before .before .before .before .before .end-site2 .ensures .0) (c .before .before .before .before .before .before .before .before .before .before .before .end-site3 .ensures .0) (c .before .before .before .before .before .before .before .end-site4 .ensures .0) (c .before .before .before .before .before .before .before .before .before .before .before .before .before .before .before .before .end-input .ensures) (c .before .before .before .before .before .before .before .before .before .before .before .before .end-input2 .ensures) (c .before .before .before .before .before .before .before .before .end-input3 .ensures) (c .before .before .before .before .end-input4 .ensures) in
-    let hj : (j : ℕ) → j < 4 → mark (c .before .before .before .are-ends .result) j ≡ joined (c .before .before .before .before .before .before .before .before .before .before .before .before .before .before .before .before .before .before .before .before .before .before .before .before .before .before .before .before .before .before .before .before .before .before .args .network) (c .before .before .before .before .before .before .before .before .before .before .before .before .before .before .before .before .before .before .before .before .before .before .before .event-of .result .site) j = λ j h. ap (λ (l : List Bool). mark l j) (c .before .before .before .are-ends .ensures) ∙ ends-read (c .before .before .before .before .before .before .before .before .before .before .before .before .before .before .before .before .before .before .before .before .before .before .before .before .before .before .before .before .before .before .before .before .before .before .args .network) (c .before .before .before .before .before .before .before .before .before .before .before .before .before .before .before .before .before .before .before .before .before .before .before .event-of .result .site) _ _ _ _ refl refl refl refl j h in
+    let hj : (j : ℕ) → j < 4 → mark (c .before .before .before .are-ends .result) j ≡ joined (c .before .before .before .before .before .before .before .before .before .before .before .before .before .before .before .before .before .before .before .before .before .before .before .before .before .before .before .before .before .before .before .before .before .before .args .network) (c .before .before .before .before .before .before .before .before .before .before .before .before .before .before .before .before .before .before .before .before .before .before .before .event-of .result .site) (suc j) = λ j h. ap (λ (l : List Bool). mark l j) (c .before .before .before .are-ends .ensures) ∙ ends-read (c .before .before .before .before .before .before .before .before .before .before .before .before .before .before .before .before .before .before .before .before .before .before .before .before .before .before .before .before .before .before .before .before .before .before .args .network) (c .before .before .before .before .before .before .before .before .before .before .before .before .before .before .before .before .before .before .before .before .before .before .before .event-of .result .site) _ _ _ _ refl refl refl refl j h in
     let td : c .before .before .before .before .before .before .before .before .before .before .before .before .before .before .before .before .before .before .before .before .before .before .before .before .ticked .result .draw ≡ c .before .before .before .before .before .before .before .before .before .before .before .before .before .before .before .before .before .before .before .before .before .before .before .before .before .before .before .before .before .before .loop .clock .draw + 1 =
     omega (arith, ap (λ k. k .draw) (c .before .before .before .before .before .before .before .before .before .before .before .before .before .before .before .before .before .before .before .before .before .before .before .before .ticked .ensures), draw-below r _ (c .before .before .before .before .before .before .before .before .before .before .before .before .before .before .before .before .before .before .before .before .before .before .before .before .before .before .before .before .before .before .before .before .before .before .pre .0) (c .before .before .before .before .before .before .before .before .before .before .before .before .before .before .before .before .before .before .before .before .before .before .before .before .before .before .before .before .before .before .loop .turn) p (c .before .before .before .before .before .before .before .before .before .before .before .before .before .before .before .before .before .before .before .before .before .before .before .before .before .before .before .before .before .before .loop .inv .2) (omega (arith, c .before .before .before .before .before .before .before .before .before .before .before .before .before .before .before .before .before .before .before .before .before .before .before .before .before .before .before .before .before .loop-test .taken, c .before .before .before .before .before .before .before .before .before .before .before .before .before .before .before .before .before .before .before .before .before .before .before .before .before .before .before .before .before .before .loop .inv .1)) t, c .before .before .before .before .before .before .before .before .before .before .before .before .before .before .before .before .before .before .before .before .before .before .before .before .before .before .before .before .before .before .before .before .before .before .fits .draws) in
     (omega (arith, c .before .before .before .before .before .before .before .before .before .before .before .before .before .before .before .before .before .before .before .before .before .before .before .before .before .before .before .before .before .loop-test .taken), c .before .before .before .before .before .before .before .before .before .before .before .before .before .before .before .before .before .before .before .before .before .before .before .before .before .before .before .before .before .before .loop .inv .1, one-turn r _ (c .before .before .before .before .before .before .before .before .before .before .before .before .before .before .before .before .before .before .before .before .before .before .before .before .before .before .before .before .before .before .loop .turn) p _ (c .before .before .before .before .before .before .before .before .before .before .before .before .before .before .before .before .before .before .before .before .before .before .before .before .before .before .before .before .before .before .loop .inv .2) (rw td (waiting r p (c .before .before .before .before .before .before .before .before .before .before .before .before .before .before .before .before .before .before .before .before .before .before .before .before .ticked .result .value) (c .before .before .before .before .before .before .before .before .before .before .before .before .before .before .before .before .before .before .before .before .before .before .before .event-of .result) ok t (ap (λ k. k .value) (c .before .before .before .before .before .before .before .before .before .before .before .before .before .before .before .before .before .before .before .before .before .before .before .before .ticked .ensures)) (c .before .before .before .before .before .before .before .before .before .before .before .before .before .before .before .before .before .before .before .before .before .before .before .event-of .ensures) (c .before .before .before .are-ends .result) far hj fr (sym (c .before .has-to-wait .ensures) ∙ c .if3 .taken))))

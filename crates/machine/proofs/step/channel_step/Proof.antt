@@ -1,5 +1,5 @@
 use mathlib.Core.Path.{refl}
-use Prim.Native.Nat.{_+_}
+use Prim.Native.Nat.{suc, _+_}
 use native.Mathlib.Numerals.{add-one}
 use Rattle.model.specs.Types.{outAt}
 use Rattle.model.specs.Network.{joined}
@@ -59,10 +59,10 @@ returns c =
     let a = c .before .before .before .before .before .before .before .before .args in
     let x = a .t3 in
     let o = outAt x (a .j + 1) in
-    let y = farAt (a .t4) (a .j) in
+    let y = farAt (a .t4) (suc (a .j)) in
     let e = rw (c .before .before .before .before .is-channel .ensures) at (c .before .before .before .channel-output .ensures) in
-    let w = channelOutput (joined (a .t1) (a .s) (a .j)) o y in
-    rw (channel-changed x (a .j) o y (c .before .before .before .channel-output .result) w e (c .if1 .taken), add-one (a .j)) refl
+    let w = channelOutput (joined (a .t1) (a .s) (suc (a .j))) o y in
+    rw (channel-changed x (suc (a .j)) o y (c .before .before .before .channel-output .result) w e (c .if1 .taken), add-one (a .j)) refl
 
 stays-requires : tie.Need-stays-requires
 stays-requires c κs = search needs
@@ -72,10 +72,10 @@ returns-2 c =
     let a = c .before .before .before .before .before .before .before .before .before .args in
     let x = a .t3 in
     let o = outAt x (a .j + 1) in
-    let y = farAt (a .t4) (a .j) in
+    let y = farAt (a .t4) (suc (a .j)) in
     let e = rw (c .before .before .before .before .before .is-channel .ensures) at (c .before .before .before .before .channel-output .ensures) in
-    let w = channelOutput (joined (a .t1) (a .s) (a .j)) o y in
-    rw (c .stays .ensures, channel-stayed x (a .j) o y (c .before .before .before .before .channel-output .result) w e (c .before .if1 .left)) refl
+    let w = channelOutput (joined (a .t1) (a .s) (suc (a .j))) o y in
+    rw (c .stays .ensures, channel-stayed x (suc (a .j)) o y (c .before .before .before .before .channel-output .result) w e (c .before .if1 .left)) refl
 
 pub channel-step-spec : {M : Type 1} → statement M
 channel-step-spec =

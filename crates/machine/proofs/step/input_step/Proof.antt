@@ -1,5 +1,5 @@
 use mathlib.Core.Path.{_≡_, refl, ap, _∙_}
-use Prim.Native.Nat.{ℕ, _<_}
+use Prim.Native.Nat.{suc, ℕ, _<_}
 use mathlib.Core.List.{List}
 use mathlib.Core.Bool.{Bool}
 use native.Mathlib.Omega.{arith}
@@ -7,7 +7,7 @@ use Rattle.model.specs.Types.{inAt, mark}
 use Rattle.model.specs.Network.{joined}
 use Rattle.model.specs.NetInput.{netInput, ready}
 use Rattle.model.specs.Steps.{setBoth}
-use Rattle.machine.specs.Step.{farAt, flags}
+use Rattle.machine.specs.Step.{farAt, flags, thereAt}
 use Rattle.machine.proofs.Lifts.{input-changed, input-stayed}
 use Rattle.machine.proofs.Ready.{by-flags, flags-there, ends-read}
 use borrow.Author.Needs.{needs}
@@ -83,8 +83,8 @@ returns c =
     let a = c .before .before .before .before .before .before .before .before .before .before .before .before .before .args in
     let x = a .t3 in
     let f = ready (joined (a .t1) (a .s)) (farAt (a .far)) (x .outputs) in
-    let same : (j : ℕ) → j < 4 → mark (c .before .before .before .before .before .before .are-ends .result) j ≡ joined (a .t1) (a .s) j = λ j h. ap (λ (l : List Bool). mark l j) (c .before .before .before .before .before .before .are-ends .ensures) ∙ ends-read (a .t1) (a .s) _ _ _ _ refl refl refl refl j h in
-    let e : c .before .before .before .before .before .ready-outputs .result ≡ flags f = c .before .before .before .before .before .ready-outputs .ensures ∙ flags-there (mark (c .before .before .before .before .before .before .are-ends .result)) (joined (a .t1) (a .s)) (farAt (a .far)) (x .outputs) same in
+    let same : (j : ℕ) → j < 4 → mark (c .before .before .before .before .before .before .are-ends .result) j ≡ joined (a .t1) (a .s) (suc j) = λ j h. ap (λ (l : List Bool). mark l j) (c .before .before .before .before .before .before .are-ends .ensures) ∙ ends-read (a .t1) (a .s) _ _ _ _ refl refl refl refl j h in
+    let e : c .before .before .before .before .before .ready-outputs .result ≡ flags f = c .before .before .before .before .before .ready-outputs .ensures ∙ flags-there (thereAt (c .before .before .before .before .before .before .are-ends .result)) (joined (a .t1) (a .s)) (farAt (a .far)) (x .outputs) same in
     rw (c .owns .ensures, input-changed (setBoth x (a .i)) (inAt x (a .i)) (x .outputs) (c .before .before .before .before .net-input .result) (netInput (a .t1) (a .s) (a .i) (inAt x (a .i)) (x .outputs) f) (c .before .before .before .before .net-input .ensures ∙ rw (e, by-flags (a .t1) (a .s) (a .i) (inAt x (a .i)) (x .outputs) f (inAt x (a .i) .phase)) refl) (c .before .if1 .taken)) refl
 
 stays-requires : tie.Need-stays-requires
@@ -95,8 +95,8 @@ returns-2 c =
     let a = c .before .before .before .before .before .before .before .before .before .before .before .before .before .args in
     let x = a .t3 in
     let f = ready (joined (a .t1) (a .s)) (farAt (a .far)) (x .outputs) in
-    let same : (j : ℕ) → j < 4 → mark (c .before .before .before .before .before .before .are-ends .result) j ≡ joined (a .t1) (a .s) j = λ j h. ap (λ (l : List Bool). mark l j) (c .before .before .before .before .before .before .are-ends .ensures) ∙ ends-read (a .t1) (a .s) _ _ _ _ refl refl refl refl j h in
-    let e : c .before .before .before .before .before .ready-outputs .result ≡ flags f = c .before .before .before .before .before .ready-outputs .ensures ∙ flags-there (mark (c .before .before .before .before .before .before .are-ends .result)) (joined (a .t1) (a .s)) (farAt (a .far)) (x .outputs) same in
+    let same : (j : ℕ) → j < 4 → mark (c .before .before .before .before .before .before .are-ends .result) j ≡ joined (a .t1) (a .s) (suc j) = λ j h. ap (λ (l : List Bool). mark l j) (c .before .before .before .before .before .before .are-ends .ensures) ∙ ends-read (a .t1) (a .s) _ _ _ _ refl refl refl refl j h in
+    let e : c .before .before .before .before .before .ready-outputs .result ≡ flags f = c .before .before .before .before .before .ready-outputs .ensures ∙ flags-there (thereAt (c .before .before .before .before .before .before .are-ends .result)) (joined (a .t1) (a .s)) (farAt (a .far)) (x .outputs) same in
     rw (c .stays .ensures, input-stayed (setBoth x (a .i)) (inAt x (a .i)) (x .outputs) (c .before .before .before .before .net-input .result) (netInput (a .t1) (a .s) (a .i) (inAt x (a .i)) (x .outputs) f) (c .before .before .before .before .net-input .ensures ∙ rw (e, by-flags (a .t1) (a .s) (a .i) (inAt x (a .i)) (x .outputs) f (inAt x (a .i) .phase)) refl) (c .before .if1 .left)) refl
 
 pub input-step-spec : {M : Type 1} → statement M

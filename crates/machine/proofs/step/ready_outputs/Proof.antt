@@ -1,6 +1,5 @@
 use mathlib.Core.Path.{_∙_}
-use Rattle.model.specs.Types.{mark}
-use Rattle.machine.specs.Step.{farAt}
+use Rattle.machine.specs.Step.{farAt, thereAt}
 use Rattle.machine.proofs.Ready.{five, heard-at, local-at}
 use borrow.Author.Needs.{needs}
 use Rattle.machine.proofs.step.ready_outputs.Statement.{statement}
@@ -65,7 +64,7 @@ is-heard-requires-4 : tie.Need-is-heard-requires-4
 is-heard-requires-4 c κs = search needs
 
 returns : tie.Need-returns
-returns c = let there = mark (c .before .before .before .before .before .before .before .before .before .before .before .before .before .before .args .t1) in let far = farAt (c .before .before .before .before .before .before .before .before .before .before .before .before .before .before .args .t2) in let os = c .before .before .before .before .before .before .before .before .before .before .before .before .before .before .args .t3 in five (c .before .before .before .before .before .before .before .before .before .before .before .before .is-ready .ensures ∙ local-at there far os) (c .before .before .before .before .before .before .before .before .before .is-heard .ensures ∙ heard-at there far os 0) (c .before .before .before .before .before .before .is-heard2 .ensures ∙ heard-at there far os 1) (c .before .before .before .is-heard3 .ensures ∙ heard-at there far os 2) (c .is-heard4 .ensures ∙ heard-at there far os 3)
+returns c = let there = thereAt (c .before .before .before .before .before .before .before .before .before .before .before .before .before .before .args .t1) in let far = farAt (c .before .before .before .before .before .before .before .before .before .before .before .before .before .before .args .t2) in let os = c .before .before .before .before .before .before .before .before .before .before .before .before .before .before .args .t3 in five (c .before .before .before .before .before .before .before .before .before .before .before .before .is-ready .ensures ∙ local-at there far os) (c .before .before .before .before .before .before .before .before .before .is-heard .ensures ∙ heard-at there far os 0) (c .before .before .before .before .before .before .is-heard2 .ensures ∙ heard-at there far os 1) (c .before .before .before .is-heard3 .ensures ∙ heard-at there far os 2) (c .is-heard4 .ensures ∙ heard-at there far os 3)
 
 pub ready-outputs-spec : {M : Type 1} → statement M
 ready-outputs-spec =

@@ -1,6 +1,7 @@
+use Prim.Native.Nat.{suc}
 use mathlib.Core.Path.{refl, sym, _∙_}
 use native.Mathlib.Omega.{arith}
-use borrow.Author.Tests.{lt-ltb}
+use borrow.Author.Tests.{le-leb}
 use borrow.Author.Needs.{needs}
 use Rattle.machine.proofs.store.far_input.Statement.{statement}
 use Rattle.machine.proofs.store.far_input.Tie as tie
@@ -26,13 +27,13 @@ end-of-requires : tie.Need-end-of-requires
 end-of-requires c κs = c .before .before .before .pre .1 (c .before .before .before .args .j) (omega arith) (sym (c .before .is-channel .ensures) ∙ c .if1 .taken)
 
 returns : tie.Need-returns
-returns c = rw (c .end-of .ensures, lt-ltb (c .before .before .before .before .args .j) 4 (omega arith), ← c .before .before .is-channel .ensures, c .before .if1 .taken) refl
+returns c = rw (c .end-of .ensures, le-leb (suc (c .before .before .before .before .args .j)) 4 (omega arith), ← c .before .before .is-channel .ensures, c .before .if1 .taken) refl
 
 free-input-requires : tie.Need-free-input-requires
 free-input-requires c κs = search needs
 
 returns-2 : tie.Need-returns-2
-returns-2 c = rw (c .free-input .ensures, lt-ltb (c .before .before .before .before .args .j) 4 (omega arith), ← c .before .before .is-channel .ensures, c .before .if1 .left) refl
+returns-2 c = rw (c .free-input .ensures, le-leb (suc (c .before .before .before .before .args .j)) 4 (omega arith), ← c .before .before .is-channel .ensures, c .before .if1 .left) refl
 
 pub far-input-spec : {M : Type 1} → statement M
 far-input-spec =

@@ -1,4 +1,5 @@
 use mathlib.Core.Path.{refl}
+use native.Mathlib.Numerals.{add-one}
 use borrow.Author.Needs.{needs}
 use Rattle.machine.proofs.turns.end_input.Statement.{statement}
 use Rattle.machine.proofs.turns.end_input.Tie as tie
@@ -17,7 +18,7 @@ input-of-requires : tie.Need-input-of-requires
 input-of-requires c κs = search needs
 
 returns : tie.Need-returns
-returns c = rw (c .input-of .ensures, c .before .wide .ensures .0) refl
+returns c = rw (c .input-of .ensures, c .before .wide .ensures .0, add-one) refl
 
 pub end-input-spec : {M : Type 1} → statement M
 end-input-spec = tie.close (tie.spec wide-requires add-input-of input-of-requires returns)
