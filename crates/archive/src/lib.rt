@@ -1,6 +1,6 @@
-// The archive, version 1: reader and writer of the stored run. specs/Format.antt has the bytes, specs/Refusals.antt what
-// reader and writer answer; proofs/RoundTripBytes.antt and proofs/RoundTripRuns.antt show that the two are inverse:
-// `write-read`, `read-write`, `exactly`. The public functions take any slice, of any length, and any run.
+// The archive, version 1: reader and writer of the stored run. Crate format has the bytes and what reader and writer
+// answer; proofs/RoundTripBytes.antt and proofs/RoundTripRuns.antt show that the two are inverse: `write-read`,
+// `read-write`, `exactly`. The public functions take any slice, of any length, and any run.
 ghost use mathlib.Core.Path.{_≡_};
 ghost use Prim.Native.Nat.{_<_};
 ghost use Rattle.format.specs.Format.{lengthWith};
@@ -9,6 +9,8 @@ mod reader;
 mod sends;
 mod writer;
 
+pub use format::Decoded;
+pub use format::Written;
 pub use reader::check;
 pub use reader::read;
 pub use writer::write;
