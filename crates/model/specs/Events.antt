@@ -47,8 +47,8 @@ sendRefusal n st s X = refusalThen n st (sendFault n st s X)
 -- number."
 abbrev pub runs : Network → State → ℕ → ℕ → AfterRun
 runs n st s code =
-    let r = run n (st .sites) s code in
-    record { answer = r .answer; state = record { sites = r .sites; counter = st .counter } }
+    let w = run n (st .sites) s code in
+    record { answer = w .answer; state = record { sites = w .sites; counter = st .counter } }
 
 abbrev pub sends : State → ℕ → ℕ → AfterSend
 sends st s X =

@@ -10,8 +10,8 @@ use Rattle.base.specs.All.{all}
 use Rattle.base.specs.Over.{over}
 use Rattle.model.specs.Types.{Network}
 
--- "per site and port 1..4 a channel byte, 255 for none, else 4 x site + port - 1 of the input": that of
--- port j of site s; port 0 is local and has none
+-- "per site and port 1..4 a channel byte, 255 for none, else 4 x site + port - 1 of the input": that of port j of site s;
+-- "port 0 is local" and has none
 abbrev pub channelByte : Network → ℕ → ℕ
 channelByte n m = getD (n .channels) m 0
 
@@ -19,7 +19,7 @@ abbrev pub channel : Network → ℕ → ℕ → ℕ
 channel n s zero = noChannel
 channel n s (suc j) = channelByte n (portCount * s + j)
 
--- whether such a byte stands for a channel, and output j + 1 of site s has one
+-- whether such a byte stands for a channel, and whether port j of site s has one
 abbrev pub isChannel : ℕ → Bool
 isChannel b = not (eqb b noChannel)
 

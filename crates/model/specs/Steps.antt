@@ -21,8 +21,8 @@ farEnd xs b = inAt (siteAt xs (endSite b)) (endPort b)
 abbrev pub setFar : List Site → ℕ → Input → List Site
 setFar xs b y = setSite xs (endSite b) (setIn (siteAt xs (endSite b)) (endPort b) y)
 
--- What RUN decides: nothing; its site becomes x; the same and a service of packet q; x, and the input at the end of its channel
--- j becomes y.
+-- What RUN decides: nothing; its site becomes x; the same and a service of packet q; x, and the input at the end of port j's
+-- channel becomes y.
 pub data Act : Type 0 where
   Idle : Act
   Own : Site → Act
@@ -31,7 +31,7 @@ pub data Act : Type 0 where
 
 abbrev pub ownTurn : {A B : Type 0} → (A → B → Site) → Turn A B → Act
 ownTurn site Stay = Idle
-ownTurn site (To a b) = Own (site a b)
+ownTurn site (To one other) = Own (site one other)
 
 abbrev pub passTurn : Site → ℕ → Turn Output Input → Act
 passTurn x j Stay = Idle

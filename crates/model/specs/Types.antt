@@ -4,13 +4,14 @@
 -- The letters of all definitions in this folder:
 --   n  a network           S, T, D  its sites, tries and depth   R  a stored run            d  a draw's number
 --   st a state             xs  the sites of a state              x  one site                k  the counter
---   s  the own site        t   another site, or a target         e, es  events              v  a draw's value
+--   s  the own site        t   another site, or a target         v  a draw's value          w  an answer, or what an event leaves
 --   y  a net-input         i   its number, 0 to 4                ph a phase                 bs marks, one an output
 --   o  a net-output        j   its number, 0 to 4 (a port: 1 to 4)                          os a site's net-outputs
 --   oq an out-queue        u   an entry of it                    iq an in-queue             a  an entry of it
 --   q  a place's packet    p   a packet that is asked for        X, Y  sets of sites        b  a channel's byte
 --   c  a connection        r   what was received                 h  a terminator            f  a refusal's number
 --   m  a place in a list   l   a list                            g  how far a run has come
+--   e, es  events, and what stands for one: a stored send, a service
 use Prim.Native.Nat.{ℕ, _+_, _-_}
 use mathlib.Core.List.{List, [], _∷_, _++_}
 use mathlib.Core.Bool.{Bool, true, false}
