@@ -14,7 +14,7 @@ cd "$(dirname "$0")/.."
 unseen="settled timing"
 
 # Libraries without a function, types, definitions and theorems alone; they are looked at all the same.
-bare="theorems format"
+bare="model theorems format"
 
 # Functions without a theorem: what is read and written lies outside the machine in which a contract is stated.
 exceptions="report::read_seen report::print_services report::print_line"

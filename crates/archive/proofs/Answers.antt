@@ -7,8 +7,8 @@ use native.Mathlib.Omega.{arith}
 use borrow.Author.Tests.{eq-eqb, ne-eqb, le-leb, lt-leb, lt-ltb, le-ltb}
 use lib.ListN.{length}
 use Rattle.base.specs.Sizes.{sendsMost}
-use Rattle.model.specs.declared.Network.{Network}
-use Rattle.model.specs.declared.Run.{Run}
+use Rattle.types.specs.declared.Network.{Network}
+use Rattle.types.specs.declared.Run.{Run}
 use Rattle.model.specs.Network.{sizesOk, channelsOk, routesOk, networkRefusal}
 use Rattle.model.specs.Runs.{sendsOk, storedRefusal}
 use Rattle.theorems.proofs.Networks.{passed}

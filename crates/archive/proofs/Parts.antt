@@ -9,8 +9,8 @@ use native.Mathlib.Omega.{arith}
 use lib.ListN.{length, getD, length-append, List·getD-append}
 use lib.Seq.{getD-append-add}
 use Rattle.base.specs.Sizes.{portCount}
-use Rattle.model.specs.declared.Run.{Run}
-use Rattle.model.specs.declared.StoredSend.{StoredSend}
+use Rattle.types.specs.declared.Run.{Run}
+use Rattle.types.specs.declared.StoredSend.{StoredSend}
 use Rattle.model.specs.Types.{sendD, sendAt}
 use Rattle.format.specs.Format.{at, wordBytes, sendBytes, each, headBytes, channelBytes, routeBytes, sendsBytes, encode, lengthOf}
 use Rattle.format.specs.Format.{headLength, routesPlace, sendsPlace}

@@ -10,7 +10,7 @@ use lib.Dec.{eqb, leb}
 use lib.ListN.{length}
 use Rattle.base.specs.Sizes.{sitesMost, queueRoom, sendsMost}
 use Rattle.base.specs.Bools.{both, first-of, second-of}
-use Rattle.model.specs.declared.Run.{Run}
+use Rattle.types.specs.declared.Run.{Run}
 use Rattle.model.specs.Network.{sizesOk, channelsOk, routesOk}
 use Rattle.model.specs.Runs.{sendsOk, storedRefusal}
 use Rattle.checks.proofs.NetworkLaws.{sizes-few}

@@ -10,8 +10,8 @@ use lib.ListN.{length, getD, set, take, drop, length-append, take-append-drop}
 use lib.Seq.{sets, sets-eq, length-sets, length-take-le, take-at, drop-append-add, drop-drop}
 use Rattle.base.specs.Sizes.{portCount}
 use Rattle.base.specs.Answers.{atFront}
-use Rattle.model.specs.declared.StoredSend.{StoredSend}
-use Rattle.model.specs.declared.Run.{Run}
+use Rattle.types.specs.declared.StoredSend.{StoredSend}
+use Rattle.types.specs.declared.Run.{Run}
 use Rattle.model.specs.Types.{sendD}
 use Rattle.format.specs.Format.{at, headLength, routesPlace, sendsPlace, lengthOf, wordBytes, sendBytes, each, headWith, headBytes}
 use Rattle.format.specs.Format.{channelBytes, routeBytes, sendsBytes, encode}

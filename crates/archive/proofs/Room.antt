@@ -12,7 +12,7 @@ use lib.ListN.{length, getD}
 use Rattle.base.specs.Sizes.{portCount}
 use Rattle.base.specs.Bools.{either-way}
 use Rattle.base.specs.Over.{over}
-use Rattle.model.specs.declared.Run.{Run}
+use Rattle.types.specs.declared.Run.{Run}
 use Rattle.model.specs.Types.{sendD, sendAt}
 use Rattle.model.specs.Network.{noChannels, noRoutes, trimmedNetwork}
 use Rattle.model.specs.Runs.{storedRefusal, noSends, trimmed}

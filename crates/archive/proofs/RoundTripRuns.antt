@@ -17,8 +17,8 @@ use Rattle.base.specs.All.{all-at}
 use Rattle.base.specs.Over.{over, over-same}
 use Rattle.base.specs.Lists.{same-at}
 use Rattle.sets.specs.Sets.{targets}
-use Rattle.model.specs.declared.StoredSend.{StoredSend}
-use Rattle.model.specs.declared.Run.{Run}
+use Rattle.types.specs.declared.StoredSend.{StoredSend}
+use Rattle.types.specs.declared.Run.{Run}
 use Rattle.model.specs.Types.{sendD, sendAt}
 use Rattle.model.specs.Network.{sizesOk, noChannels, noRoutes, trimmedNetwork}
 use Rattle.model.specs.Runs.{sendOk, storedRefusal, noSends, trimmed}

@@ -10,8 +10,8 @@ use Rattle.base.specs.Sizes.{sendsMost}
 use Rattle.base.specs.All.{all, all-same}
 use Rattle.base.specs.Over.{over-below}
 use Rattle.sets.specs.Sets.{targets}
-use Rattle.model.specs.declared.StoredSend.{StoredSend}
-use Rattle.model.specs.declared.Run.{Run}
+use Rattle.types.specs.declared.StoredSend.{StoredSend}
+use Rattle.types.specs.declared.Run.{Run}
 use Rattle.model.specs.Types.{sendD, sendAt}
 use Rattle.model.specs.Runs.{sendOk, sendsOk, noSends}
 use Rattle.format.specs.Format.{at, word, sitesPlace, drawsPlace, countPlace, sendsPlace, networkOf, runOf}

@@ -8,8 +8,8 @@ use lib.Dec.{eqb, ltb, leb}
 use lib.ListN.{length, take, drop}
 use Rattle.base.specs.Sizes.{sitesMost, queueRoom, sendsMost}
 use Rattle.sets.specs.Sets.{targets}
-use Rattle.model.specs.declared.StoredSend.{StoredSend}
-use Rattle.model.specs.declared.Run.{Run}
+use Rattle.types.specs.declared.StoredSend.{StoredSend}
+use Rattle.types.specs.declared.Run.{Run}
 use Rattle.model.specs.Network.{sizesOk}
 use Rattle.format.specs.Format.{at, word, quad, versionPlace, sitesPlace, countPlace, headLength, version, lengthWith, sendOf, networkOf}
 

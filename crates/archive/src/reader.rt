@@ -10,9 +10,9 @@ ghost use Rattle.format.specs.Refusals.{headThen, readRefusal, decode};
 ghost use Rattle.model.specs.Runs.{bodyRefusal};
 ghost use Rattle.archive.specs.Code.{Head, sendIn, sendsFrom};
 use format::Decoded;
-use model::Network;
-use model::Run;
-use model::StoredSend;
+use types::Network;
+use types::Run;
+use types::StoredSend;
 
 // Two bytes, the higher first.
 fn word_at(b: &[u8], i: usize) -> u16

@@ -4,8 +4,8 @@ ghost use Prim.Native.Nat.{_≤_};
 ghost use Rattle.base.specs.Sizes.{sendsMost};
 ghost use Rattle.model.specs.Runs.{sendsOk};
 ghost use Rattle.archive.specs.Code.{sendAfter};
-use model::Run;
-use model::StoredSend;
+use types::Run;
+use types::StoredSend;
 
 // The send's site, set and draw number possible, and its draw number not below the last.
 pub(crate) fn send_ok(send: StoredSend, sites: usize, draws: u16, last: u16) -> bool

@@ -8,8 +8,8 @@ ghost use Rattle.format.specs.Format.{headLength, lengthOf, wordBytes, headWith
 ghost use Rattle.format.specs.Refusals.{writeAnswer, written};
 ghost use Rattle.archive.specs.Code.{put, Fit};
 use format::Written;
-use model::Run;
-use model::StoredSend;
+use types::Run;
+use types::StoredSend;
 
 // 3 to 8, or 0.
 fn stored_refusal(run: Run) -> u8

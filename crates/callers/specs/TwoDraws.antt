@@ -1,9 +1,9 @@
 -- Document 01, "Draws and the stored run": two draws in a row by single RUNs. Assumes nothing.
 use Prim.Native.Nat.{ℕ}
 use Rattle.draws.specs.Draws.{drawn, eventOf}
-use Rattle.model.specs.declared.AfterRun.{AfterRun}
-use Rattle.model.specs.declared.Network.{Network}
-use Rattle.model.specs.declared.State.{State}
+use Rattle.types.specs.declared.AfterRun.{AfterRun}
+use Rattle.types.specs.declared.Network.{Network}
+use Rattle.types.specs.declared.State.{State}
 use Rattle.model.specs.Events.{ran}
 
 -- "the event is RUN (m / 13, m mod 13)": the RUN that a value names

@@ -7,11 +7,11 @@ ghost use Rattle.model.specs.Events as events;
 ghost use Rattle.machine.specs.Play.{playAnswer, playBook};
 ghost use Rattle.callers.specs.TwoDraws.{twoDraws};
 use machine::PlayAnswer;
-use model::AfterRun;
-use model::AfterSend;
-use model::Network;
-use model::Sent;
-use model::State;
+use types::AfterRun;
+use types::AfterSend;
+use types::Network;
+use types::Sent;
+use types::State;
 
 // RUN (site, code): the answer and the next state; a refusal hands the state back.
 pub fn run(network: Network, state: State, site: usize, code: usize) -> AfterRun

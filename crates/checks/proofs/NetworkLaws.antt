@@ -14,7 +14,7 @@ use Rattle.base.specs.Sizes.{sitesMost, portCount, queueRoom, noChannel}
 use Rattle.base.specs.Bools.{both}
 use Rattle.base.specs.All.{all, all-none, all-more, all-next, all-fails, all-same}
 use Rattle.base.specs.Lists.{same-at}
-use Rattle.model.specs.declared.Network.{Network}
+use Rattle.types.specs.declared.Network.{Network}
 use Rattle.model.specs.Network.{sizesOk, portOk, listOk, routeOf, routeOk, choice, choices}
 use Rattle.checks.specs.Network.{portsOf, listBy, routeBy}
 

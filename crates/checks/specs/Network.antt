@@ -7,7 +7,7 @@ use lib.ListN.{getD}
 use Rattle.base.specs.Sizes.{portCount}
 use Rattle.base.specs.Bools.{implies}
 use Rattle.base.specs.All.{all}
-use Rattle.model.specs.declared.Network.{Network}
+use Rattle.types.specs.declared.Network.{Network}
 use Rattle.model.specs.Network.{joined, choice, choices, differs}
 
 -- the digits 0 to 15 that may stand in a list of site s: 0, and the ports with a channel

@@ -6,7 +6,7 @@ ghost use Rattle.base.specs.Sizes.{sitesMost};
 ghost use Rattle.base.specs.All.{all};
 ghost use Rattle.model.specs.Network.{sizesOk, channelsOk, routeOk, routesOk, networkRefusal};
 ghost use Rattle.checks.specs.Network.{portsOf, routeBy};
-use model::Network;
+use types::Network;
 
 // S, T and D within their limits.
 fn sizes_ok(network: Network) -> bool

@@ -22,13 +22,13 @@ use crate::range::places::zero_in_entry;
 use crate::range::places::zero_input;
 use crate::range::places::zero_out_entry;
 use crate::range::places::zero_output;
-use model::InQueue;
-use model::Input;
-use model::Network;
-use model::OutQueue;
-use model::Output;
-use model::Site;
-use model::State;
+use types::InQueue;
+use types::Input;
+use types::Network;
+use types::OutQueue;
+use types::Output;
+use types::Site;
+use types::State;
 
 fn inputs_ok(
     sites: usize,

@@ -6,7 +6,7 @@ use mathlib.Core.List.{List, [], _∷_}
 use lib.Dec.{eqb, ltb}
 use lib.ListN.{length}
 use Rattle.base.specs.Answers.{orNext, atFront}
-use Rattle.model.specs.declared.Counts.{Counts}
+use Rattle.types.specs.declared.Counts.{Counts}
 use Rattle.model.specs.Runs.{playedRun, countsOf}
 use Rattle.format.specs.Format.{runOf}
 use Rattle.format.specs.Refusals.{readRefusal}

@@ -10,7 +10,7 @@ ghost use Rattle.format.specs.Refusals.{readRefusal};
 ghost use Rattle.base.specs.Answers.{atFront};
 ghost use Rattle.exports.specs.Calls.{countPlaces, fourCounts};
 ghost use Rattle.exports.specs.Calls.{callRefusal, bookAfter, countsAfter, copyRefusal, copyAfter};
-use model::Counts;
+use types::Counts;
 
 // The places of a slice that the counts of a run take.
 const COUNTS: usize = 4;

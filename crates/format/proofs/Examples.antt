@@ -7,7 +7,7 @@ use lib.ListN.{set, take, replicate}
 use Rattle.base.specs.Over.{over}
 use Rattle.base.specs.All.{all}
 use Rattle.base.specs.Answers.{atFront}
-use Rattle.model.specs.declared.Run.{Run}
+use Rattle.types.specs.declared.Run.{Run}
 use Rattle.model.specs.Types.{sendD}
 use Rattle.model.specs.Network.{noRoutes}
 use Rattle.model.specs.Runs.{storedRefusal}

@@ -5,9 +5,9 @@ use Prim.Native.Nat.{ℕ, zero, suc, _+_, _*_, _/_, _%_, _<_}
 use lib.ListN.{getD}
 use Rattle.base.specs.Sizes.{portCount}
 use Rattle.base.specs.Over.{over}
-use Rattle.model.specs.declared.Network.{Network}
-use Rattle.model.specs.declared.StoredSend.{StoredSend}
-use Rattle.model.specs.declared.Run.{Run}
+use Rattle.types.specs.declared.Network.{Network}
+use Rattle.types.specs.declared.StoredSend.{StoredSend}
+use Rattle.types.specs.declared.Run.{Run}
 use Rattle.model.specs.Types.{sendD, sendAt}
 use Rattle.model.specs.Network.{noChannels, noRoutes}
 use Rattle.model.specs.Runs.{noSends}

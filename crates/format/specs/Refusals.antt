@@ -5,7 +5,7 @@ use mathlib.Core.List.{List}
 use Prim.Native.Nat.{ℕ}
 use lib.Dec.{eqb, ltb, leb}
 use lib.ListN.{length}
-use Rattle.model.specs.declared.Run.{Run}
+use Rattle.types.specs.declared.Run.{Run}
 use Rattle.base.specs.Answers.{orNext, atFront}
 use Rattle.model.specs.Network.{sizesOk}
 use Rattle.model.specs.Runs.{bodyRefusal, storedRefusal}

@@ -5,7 +5,7 @@
 // What the reader answers: the run, or the refusal and the all-zero run.
 pub struct Decoded {
     pub refusal: u8,
-    pub run: model::Run,
+    pub run: types::Run,
 }
 
 // What the writer answers: how many bytes it wrote, or the refusal and 0.

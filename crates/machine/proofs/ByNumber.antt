@@ -6,15 +6,15 @@ use Prim.Native.Nat.{ℕ, zero, suc, _<_}
 use native.Mathlib.Omega.{arith}
 use lib.ListN.{set}
 use Rattle.base.specs.Over.{over-same}
-use Rattle.model.specs.declared.Connection.{Connection}
-use Rattle.model.specs.declared.Received.{Received}
-use Rattle.model.specs.declared.Phase.the-variants.{the-data as Phase, Free, Seek, Open, Wait, Done, Last, Abort as Aborted, FinAbort}
-use Rattle.model.specs.declared.Input.{Input}
-use Rattle.model.specs.declared.Output.{Output}
-use Rattle.model.specs.declared.Network.{Network}
+use Rattle.types.specs.declared.Connection.{Connection}
+use Rattle.types.specs.declared.Received.{Received}
+use Rattle.types.specs.declared.Phase.the-variants.{the-data as Phase, Free, Seek, Open, Wait, Done, Last, Abort as Aborted, FinAbort}
+use Rattle.types.specs.declared.Input.{Input}
+use Rattle.types.specs.declared.Output.{Output}
+use Rattle.types.specs.declared.Network.{Network}
 use Rattle.model.specs.Types.{noInput, inPhase, outOf, outTerm, mark}
-use Rattle.model.specs.Numbers.{stateNumber}
-use Rattle.model.specs.Phases.{held}
+use Rattle.types.specs.Numbers.{stateNumber}
+use Rattle.types.specs.Phases.{held}
 use Rattle.model.specs.Router.{Choice, Chosen, Unserved, route}
 use Rattle.model.specs.NetInput.{Stay, To, table, give, allReady, seek, inState}
 use Rattle.machine.specs.Turns.{tableRow, givenAt, givenRow, turned, toChoice}

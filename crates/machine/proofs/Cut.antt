@@ -6,10 +6,10 @@ use Prim.Native.Nat.{ℕ, zero, suc, _<_}
 use native.Mathlib.Omega.{arith}
 use lib.ListN.{replicate}
 use Rattle.base.specs.Over.{over-same}
-use Rattle.model.specs.declared.Terminator.the-variants.{Abort as tAbort}
-use Rattle.model.specs.declared.Phase.the-variants.{the-data as Phase, Free, Seek, Open, Wait, Done, Last, Abort as Aborted, FinAbort}
-use Rattle.model.specs.declared.Input.{Input}
-use Rattle.model.specs.declared.Output.{Output}
+use Rattle.types.specs.declared.Terminator.the-variants.{Abort as tAbort}
+use Rattle.types.specs.declared.Phase.the-variants.{the-data as Phase, Free, Seek, Open, Wait, Done, Last, Abort as Aborted, FinAbort}
+use Rattle.types.specs.declared.Input.{Input}
+use Rattle.types.specs.declared.Output.{Output}
 use Rattle.model.specs.Types.{outOf, outTerm, mark}
 use Rattle.model.specs.NetInput.{Stay, give}
 use Rattle.model.specs.Places.{cutOff, cutAt}

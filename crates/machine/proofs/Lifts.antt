@@ -4,11 +4,11 @@ use mathlib.Core.Path.{_≡_, refl, sym, ap, _∙_}
 use mathlib.Core.List.{List}
 use mathlib.Core.Bool.{true, false}
 use Rattle.base.specs.Bools.{clash}
-use Rattle.model.specs.declared.Input.{Input}
-use Rattle.model.specs.declared.Output.{Output}
-use Rattle.model.specs.declared.OutQueue.{OutQueue}
-use Rattle.model.specs.declared.InQueue.{InQueue}
-use Rattle.model.specs.declared.Site.{Site}
+use Rattle.types.specs.declared.Input.{Input}
+use Rattle.types.specs.declared.Output.{Output}
+use Rattle.types.specs.declared.OutQueue.{OutQueue}
+use Rattle.types.specs.declared.InQueue.{InQueue}
+use Rattle.types.specs.declared.Site.{Site}
 use Rattle.model.specs.Types.{setOut, withInQueue, withOutQueue}
 use Rattle.model.specs.NetInput.{Turn, Stay, To}
 use Rattle.model.specs.Places.{Work, Rest, Cleared, Service}

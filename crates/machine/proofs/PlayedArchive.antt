@@ -11,7 +11,7 @@ use lib.ListN.{getD, length}
 use Rattle.base.specs.Answers.{atFront}
 use Rattle.base.specs.Sums.{sum, upto, upto-ext}
 use Rattle.sets.specs.Sets.{bit}
-use Rattle.model.specs.declared.Run.{Run}
+use Rattle.types.specs.declared.Run.{Run}
 use Rattle.model.specs.Types.{noState}
 use Rattle.model.specs.Events.{acceptedSet}
 use Rattle.model.specs.Owing.{owed}

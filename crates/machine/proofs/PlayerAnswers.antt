@@ -9,8 +9,8 @@ use lib.Dec.{eqb}
 use lib.ListN.{length, length-replicate}
 use Rattle.base.specs.Sizes.{sendsMost}
 use Rattle.base.specs.Over.{length-over}
-use Rattle.model.specs.declared.Counts.{Counts}
-use Rattle.model.specs.declared.Run.{Run}
+use Rattle.types.specs.declared.Counts.{Counts}
+use Rattle.types.specs.declared.Run.{Run}
 use Rattle.model.specs.Types.{sendD}
 use Rattle.model.specs.Runs.{storedRefusal, noSends, bookRoom, playedRun, countsOf}
 use Rattle.format.specs.declared.Decoded.{Decoded}

@@ -14,11 +14,11 @@ use Rattle.base.specs.All.{all, all-at}
 use Rattle.base.specs.Sums.{sum, sum-upto, upto, upto-last, upto-ext}
 use Rattle.sets.specs.Sets.{size}
 use Rattle.sets.proofs.LawsBit.{size-most}
-use Rattle.model.specs.declared.Site.{Site}
-use Rattle.model.specs.declared.State.{State}
-use Rattle.model.specs.declared.Network.{Network}
-use Rattle.model.specs.declared.StoredSend.{StoredSend}
-use Rattle.model.specs.declared.Run.{Run}
+use Rattle.types.specs.declared.Site.{Site}
+use Rattle.types.specs.declared.State.{State}
+use Rattle.types.specs.declared.Network.{Network}
+use Rattle.types.specs.declared.StoredSend.{StoredSend}
+use Rattle.types.specs.declared.Run.{Run}
 use Rattle.model.specs.Types.{sendD, siteAt, inAt, outAt, outEntry, inEntry}
 use Rattle.model.specs.Range.{inputOk, outputOk, outEntryOk, inEntryOk, outQueueOk, inQueueOk, siteOk, placeOk, zeroSite, zeroInput, zeroOutput, zeroOutEntry, zeroInEntry, inRange}
 use Rattle.model.specs.Runs.{bookRoom}

@@ -15,15 +15,15 @@ use Rattle.base.specs.All.{all-at}
 use Rattle.sets.specs.Sets.{targets, size}
 use Rattle.draws.specs.declared.DrawnEvent.{DrawnEvent}
 use Rattle.draws.specs.Draws.{drawn, eventOf}
-use Rattle.model.specs.declared.Input.{Input}
-use Rattle.model.specs.declared.Site.{Site}
-use Rattle.model.specs.declared.State.{State}
-use Rattle.model.specs.declared.Network.{Network}
-use Rattle.model.specs.declared.StoredSend.{StoredSend}
-use Rattle.model.specs.declared.Run.{Run}
-use Rattle.model.specs.declared.Sent.the-variants.{the-data as Sent, Accepted, Refused as SendRefused}
-use Rattle.model.specs.declared.Ran.the-variants.{Nothing}
-use Rattle.model.specs.declared.AfterRun.{AfterRun}
+use Rattle.types.specs.declared.Input.{Input}
+use Rattle.types.specs.declared.Site.{Site}
+use Rattle.types.specs.declared.State.{State}
+use Rattle.types.specs.declared.Network.{Network}
+use Rattle.types.specs.declared.StoredSend.{StoredSend}
+use Rattle.types.specs.declared.Run.{Run}
+use Rattle.types.specs.declared.Sent.the-variants.{the-data as Sent, Accepted, Refused as SendRefused}
+use Rattle.types.specs.declared.Ran.the-variants.{Nothing}
+use Rattle.types.specs.declared.AfterRun.{AfterRun}
 use Rattle.model.specs.Types.{sendAt, siteAt, inAt, setSite, setIn, withOutQueue, pushOut}
 use Rattle.model.specs.Network.{networkRefusal, endSite, endPort, joined, channel}
 use Rattle.model.specs.Steps.{act, ends, run, enqueue}

@@ -18,12 +18,12 @@ use Rattle.sets.specs.Sets.{size}
 use Rattle.sets.proofs.LawsBit.{size-most}
 use Rattle.draws.specs.Draws.{drawn, valueAfter}
 use Rattle.draws.proofs.Laws.{value-none, value-more}
-use Rattle.model.specs.declared.State.{State}
-use Rattle.model.specs.declared.Run.{Run}
-use Rattle.model.specs.declared.AfterSend.{AfterSend}
-use Rattle.model.specs.declared.AfterRun.{AfterRun}
-use Rattle.model.specs.declared.Sent.the-variants.{the-data as Sent, Accepted, Refused as SendRefused}
-use Rattle.model.specs.declared.Ran.the-variants.{the-data as Ran, Nothing, Changed, Serviced, Refused as RunRefused}
+use Rattle.types.specs.declared.State.{State}
+use Rattle.types.specs.declared.Run.{Run}
+use Rattle.types.specs.declared.AfterSend.{AfterSend}
+use Rattle.types.specs.declared.AfterRun.{AfterRun}
+use Rattle.types.specs.declared.Sent.the-variants.{the-data as Sent, Accepted, Refused as SendRefused}
+use Rattle.types.specs.declared.Ran.the-variants.{the-data as Ran, Nothing, Changed, Serviced, Refused as RunRefused}
 use Rattle.model.specs.Types.{sendAt}
 use Rattle.model.specs.Network.{sizesOk, channelsOk, routesOk}
 use Rattle.model.specs.Runs.{sendsOk, bodyRefusal, storedRefusal, trySend}

@@ -10,11 +10,11 @@ use borrow.Author.Tests.{le-ltb}
 use lib.ListN.{length, take, drop, length-append, length-drop}
 use lib.Seq.{take-at, drop-append-add, drop-drop, sets-eq}
 use Rattle.base.specs.Sizes.{sendsMost}
-use Rattle.model.specs.declared.State.{State}
-use Rattle.model.specs.declared.Run.{Run}
-use Rattle.model.specs.declared.AfterSend.{AfterSend}
-use Rattle.model.specs.declared.Sent.the-variants.{the-data as Sent, Accepted, Refused as SendRefused}
-use Rattle.model.specs.declared.Ran.the-variants.{the-data as Ran, Nothing, Changed, Serviced, Refused as RunRefused}
+use Rattle.types.specs.declared.State.{State}
+use Rattle.types.specs.declared.Run.{Run}
+use Rattle.types.specs.declared.AfterSend.{AfterSend}
+use Rattle.types.specs.declared.Sent.the-variants.{the-data as Sent, Accepted, Refused as SendRefused}
+use Rattle.types.specs.declared.Ran.the-variants.{the-data as Ran, Nothing, Changed, Serviced, Refused as RunRefused}
 use Rattle.model.specs.Types.{sendAt}
 use Rattle.base.specs.Answers.{atFront}
 use Rattle.model.specs.Runs.{Service, Played, unplayed, serviceBytes, bookBytes, bookRoom, storedRefusal, entered, trySend, played, playedRun}

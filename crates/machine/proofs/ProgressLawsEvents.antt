@@ -13,13 +13,13 @@ use Rattle.base.specs.Sums.{sum, sum-upto, upto-ext}
 use Rattle.sets.specs.Sets.{size}
 use Rattle.draws.specs.Draws.{drawn, drawnSite, drawnCode}
 use Rattle.draws.proofs.Laws.{site-below, code-below}
-use Rattle.model.specs.declared.State.{State}
-use Rattle.model.specs.declared.Network.{Network}
-use Rattle.model.specs.declared.StoredSend.{StoredSend}
-use Rattle.model.specs.declared.Run.{Run as StoredRun}
-use Rattle.model.specs.declared.AfterSend.{AfterSend}
-use Rattle.model.specs.declared.Sent.the-variants.{the-data as Sent, Accepted, Refused as SendRefused}
-use Rattle.model.specs.declared.Ran.the-variants.{the-data as Ran, Nothing, Changed, Serviced, Refused as RunRefused}
+use Rattle.types.specs.declared.State.{State}
+use Rattle.types.specs.declared.Network.{Network}
+use Rattle.types.specs.declared.StoredSend.{StoredSend}
+use Rattle.types.specs.declared.Run.{Run as StoredRun}
+use Rattle.types.specs.declared.AfterSend.{AfterSend}
+use Rattle.types.specs.declared.Sent.the-variants.{the-data as Sent, Accepted, Refused as SendRefused}
+use Rattle.types.specs.declared.Ran.the-variants.{the-data as Ran, Nothing, Changed, Serviced, Refused as RunRefused}
 use Rattle.model.specs.Types.{noState, sendD, sendAt}
 use Rattle.model.specs.Range.{inRange}
 use Rattle.model.specs.Events.{Event, Send, Run, final}

@@ -16,12 +16,12 @@ use Rattle.base.specs.Bools.{clash, cond-ok, both, either, not-both, either-way
 use Rattle.base.specs.All.{all-at}
 use Rattle.sets.specs.Sets.{targets}
 use Rattle.draws.specs.Draws.{drawn, drawnSite, drawnCode}
-use Rattle.model.specs.declared.State.{State}
-use Rattle.model.specs.declared.StoredSend.{StoredSend}
-use Rattle.model.specs.declared.Run.{Run as StoredRun}
-use Rattle.model.specs.declared.AfterSend.{AfterSend}
-use Rattle.model.specs.declared.Sent.the-variants.{the-data as Sent, Accepted, Refused as SendRefused}
-use Rattle.model.specs.declared.Ran.the-variants.{the-data as Ran, Nothing, Changed, Serviced, Refused as RunRefused}
+use Rattle.types.specs.declared.State.{State}
+use Rattle.types.specs.declared.StoredSend.{StoredSend}
+use Rattle.types.specs.declared.Run.{Run as StoredRun}
+use Rattle.types.specs.declared.AfterSend.{AfterSend}
+use Rattle.types.specs.declared.Sent.the-variants.{the-data as Sent, Accepted, Refused as SendRefused}
+use Rattle.types.specs.declared.Ran.the-variants.{the-data as Ran, Nothing, Changed, Serviced, Refused as RunRefused}
 use Rattle.model.specs.Types.{sendD, sendAt}
 use Rattle.model.specs.Events.{Event, Send, Run}
 use Rattle.model.specs.Runs.{Timed, sendOk, sendsOk, storedRefusal, marked, sendsAt, drawAt, atDraw, scriptTo, script}

@@ -8,14 +8,14 @@ use native.Mathlib.Numerals.{add-one}
 use lib.ListN.{getD}
 use Rattle.base.specs.Bools.{implies}
 use Rattle.base.specs.All.{all-same}
-use Rattle.model.specs.declared.Phase.the-variants.{the-data as Phase, Free, Seek, Open, Wait, Done, Last, Abort as Aborted, FinAbort}
-use Rattle.model.specs.declared.Input.{Input}
-use Rattle.model.specs.declared.Output.{Output}
-use Rattle.model.specs.declared.Network.{Network}
-use Rattle.model.specs.declared.Site.{Site}
+use Rattle.types.specs.declared.Phase.the-variants.{the-data as Phase, Free, Seek, Open, Wait, Done, Last, Abort as Aborted, FinAbort}
+use Rattle.types.specs.declared.Input.{Input}
+use Rattle.types.specs.declared.Output.{Output}
+use Rattle.types.specs.declared.Network.{Network}
+use Rattle.types.specs.declared.Site.{Site}
 use Rattle.model.specs.Types.{mark, outOf, outAt, setOut, withInQueue}
 use Rattle.model.specs.Network.{isChannel, joined}
-use Rattle.model.specs.Phases.{listening}
+use Rattle.types.specs.Phases.{listening}
 use Rattle.model.specs.NetInput.{allReady, hears, ready, inState}
 use Rattle.model.specs.Places.{localOutput, channelOutput}
 use Rattle.model.specs.Steps.{ownTurn, passTurn, netOutput}

@@ -8,17 +8,17 @@ use native.Mathlib.Omega.{arith}
 use borrow.Author.Tests.{eqb-true, le-ltb}
 use lib.Dec.{eqb, ltb}
 use Rattle.base.specs.Bools.{clash, either, cond-ok}
-use Rattle.model.specs.declared.Phase.the-variants.{the-data as Phase, Free, Seek, Open, Wait, Done, Last, Abort as Aborted, FinAbort}
-use Rattle.model.specs.declared.Terminator.the-variants.{the-data as Terminator, None as tNone, End as tEnd, Abort as tAbort, KeepLocal as tKeep}
-use Rattle.model.specs.declared.Input.{Input}
-use Rattle.model.specs.declared.Output.{Output}
-use Rattle.model.specs.declared.OutQueue.{OutQueue}
-use Rattle.model.specs.declared.InQueue.{InQueue}
-use Rattle.model.specs.declared.Site.{Site}
-use Rattle.model.specs.declared.Network.{Network}
+use Rattle.types.specs.declared.Phase.the-variants.{the-data as Phase, Free, Seek, Open, Wait, Done, Last, Abort as Aborted, FinAbort}
+use Rattle.types.specs.declared.Terminator.the-variants.{the-data as Terminator, None as tNone, End as tEnd, Abort as tAbort, KeepLocal as tKeep}
+use Rattle.types.specs.declared.Input.{Input}
+use Rattle.types.specs.declared.Output.{Output}
+use Rattle.types.specs.declared.OutQueue.{OutQueue}
+use Rattle.types.specs.declared.InQueue.{InQueue}
+use Rattle.types.specs.declared.Site.{Site}
+use Rattle.types.specs.declared.Network.{Network}
 use Rattle.model.specs.Types.{inAt, outAt, outOf, inEntry, setIn, setOut, withInQueue, withOutQueue}
 use Rattle.model.specs.Network.{joined}
-use Rattle.model.specs.Phases.{isNone}
+use Rattle.types.specs.Phases.{isNone}
 use Rattle.model.specs.NetInput.{Stay, ready, inState, netInput}
 use Rattle.model.specs.Places.{Work, Rest, localOutput, termIn, headIn, deliver, headOn, channelOutput, outQueue, operate, operator, lastLacks, stalled, cutAt, timeout}
 use Rattle.model.specs.Steps.{Idle, ownTurn, passTurn, workDone, setBoth, netOutput, act}

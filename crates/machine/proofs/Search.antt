@@ -17,10 +17,10 @@ use Rattle.sets.proofs.LawsSize.{minus-pos}
 use Rattle.sets.proofs.LawsLowest.{lowest-lt}
 use Rattle.machine.specs.declared.router.Gathering.{Gathering}
 use Rattle.machine.specs.Router.{ofGathered}
-use Rattle.model.specs.declared.Network.{Network}
-use Rattle.model.specs.declared.Output.{Output}
+use Rattle.types.specs.declared.Network.{Network}
+use Rattle.types.specs.declared.Output.{Output}
 use Rattle.model.specs.Network.{listOf}
-use Rattle.model.specs.declared.Connection.the-variants.{Unicast, Passthru, AllRemote, SomeLocal}
+use Rattle.types.specs.declared.Connection.the-variants.{Unicast, Passthru, AllRemote, SomeLocal}
 use Rattle.model.specs.Router.{Choice, Chosen, Unserved, Gathered, Every, Missing, firstPort, serves, gets, gatherFrom, gather, unchosen, isEmpty, isChosen, chosenCount, firstChosen, oneOutput, toOther, spread, orElse, route}
 
 -- ---- the first port of a list: what the search from place k on finds

@@ -10,17 +10,17 @@ use lib.Dec.{eqb, ltb, leb}
 use Rattle.base.specs.Bools.{cond-ok, both, both3, both6, clash, implies, pick, alike, pick-at, either-way}
 use Rattle.base.specs.All.{all, all-at, all-same}
 use Rattle.sets.proofs.Laws.{targets-at}
-use Rattle.model.specs.declared.Phase.the-variants.{the-data as Phase, Free, Seek, Open, Wait, Done, Last, Abort as Aborted, FinAbort}
-use Rattle.model.specs.declared.Terminator.the-variants.{the-data as Terminator, None as tNone, End as tEnd, Abort as tAbort, KeepLocal as tKeep}
-use Rattle.model.specs.declared.Input.{Input}
-use Rattle.model.specs.declared.Output.{Output}
-use Rattle.model.specs.declared.Site.{Site}
-use Rattle.model.specs.declared.State.{State}
-use Rattle.model.specs.declared.Network.{Network}
+use Rattle.types.specs.declared.Phase.the-variants.{the-data as Phase, Free, Seek, Open, Wait, Done, Last, Abort as Aborted, FinAbort}
+use Rattle.types.specs.declared.Terminator.the-variants.{the-data as Terminator, None as tNone, End as tEnd, Abort as tAbort, KeepLocal as tKeep}
+use Rattle.types.specs.declared.Input.{Input}
+use Rattle.types.specs.declared.Output.{Output}
+use Rattle.types.specs.declared.Site.{Site}
+use Rattle.types.specs.declared.State.{State}
+use Rattle.types.specs.declared.Network.{Network}
 use Rattle.model.specs.Types.{inAt, outAt, siteAt, mark, outOf, setIn, setOut, withInQueue, withOutQueue}
-use Rattle.model.specs.Numbers.{stateNumber}
+use Rattle.types.specs.Numbers.{stateNumber}
 use Rattle.model.specs.Network.{joined, channel}
-use Rattle.model.specs.Phases.{isFree, listening, connected, splitting, aborting, isNone}
+use Rattle.types.specs.Phases.{isFree, listening, connected, splitting, aborting, isNone}
 use Rattle.model.specs.Range.{inputOk, outputOk, outQueueOk, inQueueOk, siteOk, placeOk, inRange, tagOk, zeroInput, zeroOutput, anyMark, anyRemote, fedBy}
 use Rattle.model.specs.NetInput.{Turn, Stay, To, allReady, hears, ready, inState, netInput}
 use Rattle.model.specs.Places.{Work, Rest, Cleared, Service, localOutput, deliver, channelOutput, outQueue, operator, timeout}

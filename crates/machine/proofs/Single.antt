@@ -7,11 +7,11 @@ use native.Mathlib.Omega.{arith}
 use borrow.Author.Tests.{ne-eqb}
 use lib.Dec.{eqb, ltb}
 use Rattle.base.specs.Sizes.{codeCount}
-use Rattle.model.specs.declared.Input.{Input}
-use Rattle.model.specs.declared.Network.{Network}
-use Rattle.model.specs.declared.State.{State}
-use Rattle.model.specs.declared.Sent.the-variants.{Refused as SendRefused}
-use Rattle.model.specs.declared.Ran.the-variants.{Refused as RunRefused}
+use Rattle.types.specs.declared.Input.{Input}
+use Rattle.types.specs.declared.Network.{Network}
+use Rattle.types.specs.declared.State.{State}
+use Rattle.types.specs.declared.Sent.the-variants.{Refused as SendRefused}
+use Rattle.types.specs.declared.Ran.the-variants.{Refused as RunRefused}
 use Rattle.model.specs.Types.{siteAt}
 use Rattle.model.specs.Network.{networkRefusal, joined}
 use Rattle.model.specs.Range.{inRange}

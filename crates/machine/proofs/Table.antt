@@ -4,10 +4,10 @@ use mathlib.Core.List.{List, [], _∷_}
 use Prim.Native.Nat.{_<_}
 use lib.Dec.{lit<}
 use lib.ListN.{getD}
-use Rattle.model.specs.declared.Connection.the-variants.{the-data as Connection, Unicast, Passthru, AllRemote, SomeLocal, Handed}
-use Rattle.model.specs.declared.Received.the-variants.{the-data as Received, End as gotEnd, Abort as gotAbort}
-use Rattle.model.specs.declared.Terminator.the-variants.{the-data as Terminator, None as tNone, End as tEnd, Abort as tAbort, KeepLocal as tKeep}
-use Rattle.model.specs.Numbers.{connectionNumber, receivedNumber}
+use Rattle.types.specs.declared.Connection.the-variants.{the-data as Connection, Unicast, Passthru, AllRemote, SomeLocal, Handed}
+use Rattle.types.specs.declared.Received.the-variants.{the-data as Received, End as gotEnd, Abort as gotAbort}
+use Rattle.types.specs.declared.Terminator.the-variants.{the-data as Terminator, None as tNone, End as tEnd, Abort as tAbort, KeepLocal as tKeep}
+use Rattle.types.specs.Numbers.{connectionNumber, receivedNumber}
 use Rattle.model.specs.NetInput.{table}
 use Rattle.machine.specs.declared.terminators.Cell.{Cell}
 use Rattle.machine.specs.Turns.{tableCell, tableRow}

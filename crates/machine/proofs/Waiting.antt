@@ -8,15 +8,15 @@ use borrow.Author.Tests.{eqb-true, not-true}
 use lib.Dec.{eqb, ltb}
 use Rattle.base.specs.Bools.{clash, cond-ok, implies}
 use Rattle.base.specs.All.{all-same}
-use Rattle.model.specs.declared.Phase.the-variants.{the-data as Phase, Free, Seek, Open, Wait, Done, Last, Abort as Aborted, FinAbort}
-use Rattle.model.specs.declared.Terminator.the-variants.{the-data as Terminator, None as tNone, End as tEnd, Abort as tAbort, KeepLocal as tKeep}
-use Rattle.model.specs.declared.Input.{Input}
-use Rattle.model.specs.declared.Output.{Output}
-use Rattle.model.specs.declared.Site.{Site}
-use Rattle.model.specs.declared.Network.{Network}
+use Rattle.types.specs.declared.Phase.the-variants.{the-data as Phase, Free, Seek, Open, Wait, Done, Last, Abort as Aborted, FinAbort}
+use Rattle.types.specs.declared.Terminator.the-variants.{the-data as Terminator, None as tNone, End as tEnd, Abort as tAbort, KeepLocal as tKeep}
+use Rattle.types.specs.declared.Input.{Input}
+use Rattle.types.specs.declared.Output.{Output}
+use Rattle.types.specs.declared.Site.{Site}
+use Rattle.types.specs.declared.Network.{Network}
 use Rattle.model.specs.Types.{inAt, outAt, mark}
 use Rattle.model.specs.Network.{joined}
-use Rattle.model.specs.Phases.{isFree, listening}
+use Rattle.types.specs.Phases.{isFree, listening}
 use Rattle.model.specs.NetInput.{Turn, Stay, allReady, ready, inState, netInput}
 use Rattle.model.specs.Places.{deliver, channelOutput}
 use Rattle.model.specs.Steps.{Idle, ownTurn, passTurn, setBoth, netOutput, act}

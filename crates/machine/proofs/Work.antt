@@ -3,8 +3,8 @@ use mathlib.Core.Path.{_≡_, refl}
 use Prim.Native.Nat.{ℕ}
 use Rattle.base.specs.Bools.{cond-ok}
 use Rattle.sets.specs.Sets.{has}
-use Rattle.model.specs.declared.InQueue.{InQueue}
-use Rattle.model.specs.declared.OutQueue.{OutQueue}
+use Rattle.types.specs.declared.InQueue.{InQueue}
+use Rattle.types.specs.declared.OutQueue.{OutQueue}
 use Rattle.model.specs.Places.{Work, serviceIf}
 use Rattle.machine.specs.Turns.{ofWork}
 

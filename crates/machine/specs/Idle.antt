@@ -4,12 +4,12 @@ use Prim.Native.Nat.{ℕ, _-_}
 use mathlib.Core.List.{List}
 use mathlib.Core.Bool.{Bool, true, false, cond, not, _&&_, _||_}
 use lib.Dec.{eqb, ltb}
-use Rattle.model.specs.declared.Phase.the-variants.{the-data as Phase, Free, Seek, Open, Wait, Done, Last, Abort as Aborted, FinAbort}
-use Rattle.model.specs.declared.Input.{Input}
-use Rattle.model.specs.declared.Output.{Output}
-use Rattle.model.specs.declared.Site.{Site}
+use Rattle.types.specs.declared.Phase.the-variants.{the-data as Phase, Free, Seek, Open, Wait, Done, Last, Abort as Aborted, FinAbort}
+use Rattle.types.specs.declared.Input.{Input}
+use Rattle.types.specs.declared.Output.{Output}
+use Rattle.types.specs.declared.Site.{Site}
 use Rattle.model.specs.Types.{inAt, outAt, inEntry}
-use Rattle.model.specs.Phases.{isFree, listening, isNone}
+use Rattle.types.specs.Phases.{isFree, listening, isNone}
 use Rattle.model.specs.NetInput.{allReady, ready}
 use Rattle.model.specs.Places.{stalled}
 use Rattle.machine.specs.Step.{farAt, thereAt}

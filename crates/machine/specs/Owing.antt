@@ -1,8 +1,8 @@
 -- What a count of owed pairs asks of the queues that it goes through.
 use Prim.Native.Nat.{ℕ, _≤_, _<_}
 use mathlib.Core.List.{List}
-use Rattle.model.specs.declared.Site.{Site}
-use Rattle.model.specs.declared.State.{State}
+use Rattle.types.specs.declared.Site.{Site}
+use Rattle.types.specs.declared.State.{State}
 use Rattle.model.specs.Types.{siteAt}
 
 abbrev pub SitesFit : List Site → Type 0

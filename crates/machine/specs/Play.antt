@@ -8,11 +8,11 @@ use lib.ListN.{length, getD}
 use Rattle.base.specs.Answers.{orNext, atFront}
 use Rattle.base.specs.Sums.{upto}
 use Rattle.sets.specs.Sets.{size}
-use Rattle.model.specs.declared.Counts.{Counts}
-use Rattle.model.specs.declared.Network.{Network}
-use Rattle.model.specs.declared.Run.{Run}
-use Rattle.model.specs.declared.StoredSend.{StoredSend}
-use Rattle.model.specs.declared.Sent.the-variants.{the-data as Sent, Accepted, Refused as SendRefused}
+use Rattle.types.specs.declared.Counts.{Counts}
+use Rattle.types.specs.declared.Network.{Network}
+use Rattle.types.specs.declared.Run.{Run}
+use Rattle.types.specs.declared.StoredSend.{StoredSend}
+use Rattle.types.specs.declared.Sent.the-variants.{the-data as Sent, Accepted, Refused as SendRefused}
 use Rattle.model.specs.Types.{sendD}
 use Rattle.model.specs.Events.{sendFaultBy}
 use Rattle.model.specs.Runs.{bookBytes, bookRoom, playedRun, countsOf}

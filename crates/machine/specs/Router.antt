@@ -1,6 +1,6 @@
 -- The router's answers as the structs that the code returns.
 use mathlib.Core.Bool.{true, false}
-use Rattle.model.specs.declared.Connection.the-variants.{Unicast}
+use Rattle.types.specs.declared.Connection.the-variants.{Unicast}
 use Rattle.model.specs.Router.{Choice as ModelChoice, Chosen, Unserved, Gathered, Every, Missing, unchosen}
 use Rattle.machine.specs.declared.router.Choice.{Choice}
 use Rattle.machine.specs.declared.router.Gathering.{Gathering}

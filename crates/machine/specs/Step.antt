@@ -4,15 +4,15 @@ use mathlib.Core.Path.{_≡_}
 use mathlib.Core.List.{List, [], _∷_}
 use mathlib.Core.Bool.{Bool, true, false}
 use lib.ListN.{getD}
-use Rattle.model.specs.declared.Input.{Input}
-use Rattle.model.specs.declared.Site.{Site}
-use Rattle.model.specs.declared.Network.{Network}
-use Rattle.model.specs.declared.State.{State}
-use Rattle.model.specs.declared.AfterRun.{AfterRun}
-use Rattle.model.specs.declared.Ran.the-variants.{Nothing, Changed, Serviced}
+use Rattle.types.specs.declared.Input.{Input}
+use Rattle.types.specs.declared.Site.{Site}
+use Rattle.types.specs.declared.Network.{Network}
+use Rattle.types.specs.declared.State.{State}
+use Rattle.types.specs.declared.AfterRun.{AfterRun}
+use Rattle.types.specs.declared.Ran.the-variants.{Nothing, Changed, Serviced}
 use Rattle.model.specs.Types.{noInput, inputD, inAt, outAt, setSite}
 use Rattle.model.specs.Network.{channel, joined}
-use Rattle.model.specs.Numbers.{stateNumber}
+use Rattle.types.specs.Numbers.{stateNumber}
 use Rattle.model.specs.Steps.{Act, Idle, Own, Serve, Pass, setFar}
 use Rattle.machine.specs.declared.step.Act.the-variants.{the-data as Did, Idle as didNothing, Own as didOwn}
 use Rattle.machine.specs.declared.step.Act.the-variants.{Serve as didServe, Pass as didPass}

@@ -4,15 +4,15 @@ use mathlib.Core.List.{List, [], _∷_}
 use mathlib.Core.Bool.{Bool, true, false}
 use lib.ListN.{getD, replicate}
 use Rattle.base.specs.Sizes.{outputCount}
-use Rattle.model.specs.declared.Input.{Input}
-use Rattle.model.specs.declared.Output.{Output}
-use Rattle.model.specs.declared.OutQueue.{OutQueue}
-use Rattle.model.specs.declared.InQueue.{InQueue}
-use Rattle.model.specs.declared.Received.{Received}
-use Rattle.model.specs.declared.Connection.{Connection}
-use Rattle.model.specs.declared.Terminator.the-variants.{the-data as Terminator, None as tNone}
-use Rattle.model.specs.declared.Phase.the-variants.{the-data as Phase, Free, Seek, Open, Wait, Done, Last, Abort as Aborted, FinAbort}
-use Rattle.model.specs.Phases.{splits}
+use Rattle.types.specs.declared.Input.{Input}
+use Rattle.types.specs.declared.Output.{Output}
+use Rattle.types.specs.declared.OutQueue.{OutQueue}
+use Rattle.types.specs.declared.InQueue.{InQueue}
+use Rattle.types.specs.declared.Received.{Received}
+use Rattle.types.specs.declared.Connection.{Connection}
+use Rattle.types.specs.declared.Terminator.the-variants.{the-data as Terminator, None as tNone}
+use Rattle.types.specs.declared.Phase.the-variants.{the-data as Phase, Free, Seek, Open, Wait, Done, Last, Abort as Aborted, FinAbort}
+use Rattle.types.specs.Phases.{splits}
 use Rattle.model.specs.Router.{Choice as ModelChoice, Chosen, Unserved}
 use Rattle.model.specs.NetInput.{Turn, Stay, To, table, seek}
 use Rattle.model.specs.Places.{Work, Rest, Cleared, Service}

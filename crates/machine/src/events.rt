@@ -12,18 +12,18 @@ use crate::queues::push_out;
 use crate::step::step;
 use crate::store::far_inputs;
 use crate::store::store_change;
-use model::AfterRun;
-use model::AfterSend;
-use model::InEntry;
-use model::InQueue;
-use model::Network;
-use model::OutEntry;
-use model::OutQueue;
-use model::Ran;
-use model::Sent;
-use model::Site;
-use model::State;
-use model::Terminator;
+use types::AfterRun;
+use types::AfterSend;
+use types::InEntry;
+use types::InQueue;
+use types::Network;
+use types::OutEntry;
+use types::OutQueue;
+use types::Ran;
+use types::Sent;
+use types::Site;
+use types::State;
+use types::Terminator;
 
 fn empty_site() -> Site
     ensures { λ r. ⌜ r ≡ noSite ⌝ }

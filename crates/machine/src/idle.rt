@@ -8,10 +8,10 @@ ghost use Rattle.machine.specs.Idle.{quiet, atRest, nothingToDo, stands,
 use crate::inputs::all_ready;
 use crate::phases::is_listening;
 use crate::step::ready_outputs;
-use model::Input;
-use model::Output;
-use model::Phase;
-use model::Site;
+use types::Input;
+use types::Output;
+use types::Phase;
+use types::Site;
 
 // A net-input without a rule: it is free or abort.
 fn is_quiet(phase: Phase) -> bool
@@ -34,7 +34,7 @@ fn is_at_rest(output: Output) -> bool
     ensures { λ r. ⌜ r ≡ atRest output ⌝ }
 {
     let terminator = output.terminator;
-    let none = model::is_none(terminator);
+    let none = types::is_none(terminator);
     !output.used | (output.head & none)
 }
 
@@ -89,13 +89,13 @@ pub(crate) fn nothing_to_do(site: Site, code: usize) -> bool
         let queue = site.incoming;
         let front = queue.entries[0];
         let terminator = front.terminator;
-        let none = model::is_none(terminator);
+        let none = types::is_none(terminator);
         return (queue.count == 0) | none;
     }
     if code == 12 {
         let own = site.outputs[0];
         let terminator = own.terminator;
-        let none = model::is_none(terminator);
+        let none = types::is_none(terminator);
         return !(own.used & own.head & none);
     }
     true
@@ -139,7 +139,7 @@ fn output_waits(there: bool, output: Output, input: Input) -> bool
     ensures { λ r. ⌜ r ≡ outputWaits there output input ⌝ }
 {
     let phase = input.phase;
-    let free = model::is_free(phase);
+    let free = types::is_free(phase);
     let open = is_listening(phase);
     !there | ((!output.head & !free) | (output.head & !open))
 }

@@ -4,9 +4,9 @@ ghost use Prim.Native.Nat.{_<_, _≤_, _^_};
 ghost use mathlib.Core.Bool.{cond, not};
 ghost use lib.Dec.{eqb};
 ghost use lib.ListN.{set};
-ghost use Rattle.model.specs.Phases.{held};
+ghost use Rattle.types.specs.Phases.{held};
 ghost use Rattle.model.specs.Types as spec;
-ghost use Rattle.model.specs.Numbers.{stateNumber};
+ghost use Rattle.types.specs.Numbers.{stateNumber};
 ghost use Rattle.model.specs.NetInput as rule;
 ghost use Rattle.model.specs.NetInput.{To};
 ghost use Rattle.machine.specs.Turns.{ofInputTurn, givenAt, givenRow, turned, seekTurn};
@@ -19,12 +19,12 @@ use crate::router::one_output;
 use crate::router::route_packet;
 use crate::terminators::give_terminators;
 use crate::terminators::phase_terminators;
-use model::Connection;
-use model::Input;
-use model::Network;
-use model::Output;
-use model::Phase;
-use model::Terminator;
+use types::Connection;
+use types::Input;
+use types::Network;
+use types::Output;
+use types::Phase;
+use types::Terminator;
 
 // What becomes of a net-input and the site's outputs.
 pub struct InputTurn {
@@ -245,7 +245,7 @@ pub(crate) fn net_input(
     let marked = input.outputs;
     let local = ready[0];
     let all = all_ready(ready, marked);
-    let number = model::state_number(phase);
+    let number = types::state_number(phase);
     match number {
         1 => {
             let choice = route_packet(network, s, outputs, set);

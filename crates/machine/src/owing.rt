@@ -6,13 +6,13 @@ ghost use Rattle.base.specs.Sums.{sum};
 ghost use Rattle.model.specs.Owing as spec;
 ghost use Rattle.machine.specs.Owing.{QueuesFit, SitesFit};
 use crate::phases::held_terminator;
-use model::InEntry;
-use model::Input;
-use model::OutEntry;
-use model::Output;
-use model::Site;
-use model::State;
-use model::Terminator;
+use types::InEntry;
+use types::Input;
+use types::OutEntry;
+use types::Output;
+use types::Site;
+use types::State;
+use types::Terminator;
 
 // How many sites a place at site s owes: end owes its set, keep-local its own site if in the set.
 fn place_pairs(terminator: Terminator, s: usize, set: u64) -> usize

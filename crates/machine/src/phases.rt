@@ -1,13 +1,13 @@
 // What a net-input's state and a terminator tell, and places with a field changed.
 ghost use mathlib.Core.Path.{_≡_};
 ghost use Rattle.model.specs.Types.{noInput, noOutput, inPhase, outTerm, outHead};
-ghost use Rattle.model.specs.Phases as spec;
+ghost use Rattle.types.specs.Phases as spec;
 ghost use Rattle.model.specs.Places as places;
-use model::Input;
-use model::Output;
-use model::Phase;
-use model::Received;
-use model::Terminator;
+use types::Input;
+use types::Output;
+use types::Phase;
+use types::Received;
+use types::Terminator;
 
 // Whether a net-input can receive a terminator: it is open or abort.
 pub(crate) fn is_listening(phase: Phase) -> bool

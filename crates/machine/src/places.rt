@@ -15,14 +15,14 @@ use crate::queues::pop_out;
 use crate::queues::push_in;
 use crate::queues::push_out;
 use crate::queues::start_front;
-use model::InEntry;
-use model::InQueue;
-use model::Input;
-use model::OutEntry;
-use model::OutQueue;
-use model::Output;
-use model::Received;
-use model::Terminator;
+use types::InEntry;
+use types::InQueue;
+use types::Input;
+use types::OutEntry;
+use types::OutQueue;
+use types::Output;
+use types::Received;
+use types::Terminator;
 
 // What becomes of output 0 and the in-queue.
 pub struct LocalTurn {
@@ -63,7 +63,7 @@ pub(crate) fn local_output(depth: usize, output: Output, queue: InQueue) -> Loca
     let n = queue.count;
     if output.used {
         if output.head {
-            if model::is_none(terminator) {
+            if types::is_none(terminator) {
                 return LocalTurn {
                     queue,
                     output,
@@ -151,7 +151,7 @@ pub(crate) fn channel_output(there: bool, output: Output, input: Input) -> Chann
                 },
             };
         }
-        let free = model::is_free(phase);
+        let free = types::is_free(phase);
         if there & free {
             return ChannelTurn {
                 output: with_head(output),
@@ -200,7 +200,7 @@ pub(crate) fn out_queue(queue: OutQueue, input: Input) -> QueueTurn
             changed: false,
         };
     }
-    if model::is_free(phase) {
+    if types::is_free(phase) {
         return QueueTurn {
             queue: start_front(queue),
             input: seeking_input(front.packet, front.set),

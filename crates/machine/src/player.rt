@@ -22,11 +22,11 @@ use crate::turns::end_site;
 use crate::turns::enter;
 use crate::turns::is_due;
 use crate::turns::send_answer;
-use model::Counts;
-use model::Network;
-use model::OutEntry;
-use model::Sent;
-use model::StoredSend;
+use types::Counts;
+use types::Network;
+use types::OutEntry;
+use types::Sent;
+use types::StoredSend;
 
 // What the player answers: the refusal, or 0 and the counts; with a refusal all counts are zero.
 pub struct PlayAnswer {

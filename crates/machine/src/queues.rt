@@ -5,11 +5,11 @@ ghost use mathlib.Core.List.{[], _∷_, _++_};
 ghost use lib.ListN.{drop};
 ghost use Rattle.model.specs.Types as spec;
 ghost use Rattle.model.specs.Places.{lastLacks, endLast, startFront};
-use model::InEntry;
-use model::InQueue;
-use model::OutEntry;
-use model::OutQueue;
-use model::Terminator;
+use types::InEntry;
+use types::InQueue;
+use types::OutEntry;
+use types::OutQueue;
+use types::Terminator;
 
 pub(crate) fn push_out(queue: OutQueue, entry: OutEntry) -> OutQueue
     requires { ⌜ queue .count < 8 ⌝ }
@@ -108,7 +108,7 @@ pub(crate) fn last_lacks(queue: InQueue) -> bool
     }
     let last = queue.entries[n - 1];
     let terminator = last.terminator;
-    model::is_none(terminator)
+    types::is_none(terminator)
 }
 
 // The in-queue's last entry gets a terminator.

@@ -4,9 +4,9 @@ ghost use Prim.Native.Nat.{_≤_, _<_, _^_};
 ghost use Rattle.model.specs.Network.{choices};
 ghost use Rattle.model.specs.Router.{serves, firstPort, gather, chosenCount, firstChosen, oneOutput, Every, Unserved, spread, toOther, route};
 ghost use Rattle.machine.specs.Router.{ofGathered, ofChoice};
-use model::Connection;
-use model::Network;
-use model::Output;
+use types::Connection;
+use types::Network;
+use types::Output;
 
 // What the router says: whether anything serves, the connection, and the set that each output gets; 0 for an output not chosen.
 pub struct Choice {

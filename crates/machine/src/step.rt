@@ -4,7 +4,7 @@ ghost use Prim.Native.Nat.{suc, _<_, _≤_};
 ghost use mathlib.Core.Bool.{true, _&&_};
 ghost use Prim.Native.Nat.{_+_};
 ghost use lib.ListN.{getD};
-ghost use Rattle.model.specs.Phases.{listening};
+ghost use Rattle.types.specs.Phases.{listening};
 ghost use Rattle.model.specs.Types as spec;
 ghost use Rattle.model.specs.Network as net;
 ghost use Rattle.model.specs.NetInput as rule;
@@ -19,10 +19,10 @@ use crate::places::local_output;
 use crate::places::operator;
 use crate::places::out_queue;
 use crate::timeout::time_out;
-use model::Input;
-use model::Network;
-use model::Output;
-use model::Site;
+use types::Input;
+use types::Network;
+use types::Output;
+use types::Site;
 
 // What RUN does: nothing; its site changes; the same and a service of a packet; the site and the input at the end of a channel change.
 pub enum Act {

@@ -7,12 +7,12 @@ use crate::phases::free_input;
 use crate::step::Act;
 use crate::step::Change;
 use crate::step::is_channel;
-use model::AfterRun;
-use model::Input;
-use model::Network;
-use model::Ran;
-use model::Site;
-use model::State;
+use types::AfterRun;
+use types::Input;
+use types::Network;
+use types::Ran;
+use types::Site;
+use types::State;
 
 // The input at the end of a channel.
 fn end_of(state: State, byte: u8) -> Input

@@ -5,11 +5,11 @@ ghost use Rattle.model.specs.Types as spec;
 ghost use Rattle.model.specs.NetInput as rule;
 ghost use Rattle.machine.specs.Turns.{tableCell, tableRow, givenAt, givenRow};
 use crate::phases::with_terminator;
-use model::Connection;
-use model::Output;
-use model::Phase;
-use model::Received;
-use model::Terminator;
+use types::Connection;
+use types::Output;
+use types::Phase;
+use types::Received;
+use types::Terminator;
 
 // What the table gives: to the remote outputs, and to output 0.
 struct Cell {
@@ -57,8 +57,8 @@ const TABLE: [[Cell; 6]; 3] = [
 fn cell_of(received: Received, connection: Connection) -> Cell
     ensures { λ r. ⌜ r ≡ tableCell received connection ⌝ }
 {
-    let row = model::received_number(received) as usize;
-    let column = model::connection_number(connection) as usize;
+    let row = types::received_number(received) as usize;
+    let column = types::connection_number(connection) as usize;
     TABLE[row][column]
 }
 

@@ -6,11 +6,11 @@ ghost use Rattle.machine.specs.Turns.{ofInputTurn, cuts, cutPhase};
 use crate::inputs::InputTurn;
 use crate::queues::last_lacks;
 use crate::terminators::give_terminators;
-use model::InQueue;
-use model::Input;
-use model::Output;
-use model::Phase;
-use model::Terminator;
+use types::InQueue;
+use types::Input;
+use types::Output;
+use types::Phase;
+use types::Terminator;
 
 // Whether a net-input is open, wait, done or last with connection 3 or 4.
 fn can_cut(phase: Phase) -> bool
@@ -19,10 +19,10 @@ fn can_cut(phase: Phase) -> bool
     match phase {
         Phase::Free => false,
         Phase::Seek => false,
-        Phase::Open(c) => model::is_split(c),
-        Phase::Wait(c) => model::is_split(c),
-        Phase::Done(c, _) => model::is_split(c),
-        Phase::Last(c, _) => model::is_split(c),
+        Phase::Open(c) => types::is_split(c),
+        Phase::Wait(c) => types::is_split(c),
+        Phase::Done(c, _) => types::is_split(c),
+        Phase::Last(c, _) => types::is_split(c),
         Phase::Abort(_) => false,
         Phase::FinAbort(_, _) => false,
     }
@@ -78,7 +78,7 @@ pub(crate) fn time_out(queue: InQueue, outputs: [Output; base::OUTPUTS], input: 
     let terminator = own.terminator;
     let phase = input.phase;
     let lacks = last_lacks(queue);
-    let bare = model::is_none(terminator);
+    let bare = types::is_none(terminator);
     if lacks & (own.used & own.head & bare) {
         if can_cut(phase) {
             return cut_off(input, outputs);

@@ -10,9 +10,9 @@ ghost use Rattle.model.specs.Network.{endSite, endPort};
 ghost use Rattle.machine.specs.Progress.{enteredAt};
 ghost use Rattle.machine.specs.Play.{sendAnswer};
 use crate::idle::input_of;
-use model::Input;
-use model::Sent;
-use model::StoredSend;
+use types::Input;
+use types::Sent;
+use types::StoredSend;
 
 // A place within the stored sends: k, if it is one.
 pub(crate) fn capped(k: usize) -> usize

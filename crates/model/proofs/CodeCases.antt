@@ -15,7 +15,7 @@ use Rattle.sets.specs.Sets.{has, plus, minus, sizeIn, lowest}
 use Rattle.model.specs.Types.{Unicast, Passthru, SomeLocal, gotEnd, tNone, tEnd, tAbort}
 use Rattle.model.specs.Types.{Phase, Seek, Open, Wait, Done, Aborted}
 use Rattle.model.specs.Types.{Site, Network, noMarks, noSite, inAt, outAt, setIn, setOut, withOutQueue, withInQueue}
-use Rattle.model.specs.Numbers.{ranNumbers, answerOf}
+use Rattle.types.specs.Numbers.{ranNumbers, answerOf}
 use Rattle.model.specs.Network.{networkRefusal}
 use Rattle.model.specs.Router.{firstPort, gatherFrom, gather, spread, orElse, route}
 use Rattle.model.specs.NetInput.{hears, give, occupy, marksOf, seek, inState}

@@ -1,6 +1,6 @@
 -- Computed tables: what the definitions give beside what document 01 says, row by row. The theorems stand in crate theorems.
-pub mod Examples
-pub mod Counted
+pub mod RunCases
+pub mod AnswerCases
 pub mod RouterCases
 pub mod RangeCases
 pub mod RefusalCases

@@ -12,7 +12,7 @@ use Rattle.base.specs.Over.{over}
 use Rattle.base.specs.Sums.{sum}
 use Rattle.sets.specs.Sets.{has, plus, minus, sizeIn, lowest}
 use Rattle.model.specs.Types.{Input, Output, Network, Seek, tNone, noMarks, noOutput}
-use Rattle.model.specs.Numbers.{stateNumber, connectionNumber, connectionOf}
+use Rattle.types.specs.Numbers.{stateNumber, connectionNumber, connectionOf}
 use Rattle.model.specs.Network.{networkRefusal}
 use Rattle.model.specs.Router.{Choice, Chosen, Unserved, firstPort, gatherFrom, gather, spread, orElse, route}
 use Rattle.model.specs.NetInput.{Turn, Stay, To, occupy, marksOf, seek, inState}

@@ -8,7 +8,7 @@ use Rattle.base.specs.Sizes.{queueRoom}
 use Rattle.base.specs.Bools.{count}
 use Rattle.model.specs.Types.{Phase, Free, Seek, Open, Wait, Done, Last, Aborted, FinAbort, Terminator}
 use Rattle.model.specs.Types.{Input, Output, OutEntry, InEntry, OutQueue, InQueue, noOutEntry, noInEntry}
-use Rattle.model.specs.Numbers.{stateNumber, connectionOf, receivedNumber, terminatorNumber}
+use Rattle.types.specs.Numbers.{stateNumber, connectionOf, receivedNumber, terminatorNumber}
 use Rattle.model.specs.NetInput.{Turn, Stay, To}
 
 -- digits, the first one highest, behind the number k; bits, the first one lowest

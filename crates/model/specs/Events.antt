@@ -9,7 +9,7 @@ use Rattle.base.specs.Bools.{count}
 use Rattle.base.specs.Answers.{orNext}
 use Rattle.sets.specs.Sets.{targets}
 use Rattle.model.specs.Types.{State, Network, Sent, Accepted, SendRefused, Ran, RunRefused, AfterSend, AfterRun, siteAt}
-use Rattle.model.specs.Numbers.{sentRefusal, sentPacket, answerOf, ranPacket, ranSite}
+use Rattle.types.specs.Numbers.{sentRefusal, sentPacket, answerOf, ranPacket, ranSite}
 use Rattle.model.specs.Network.{networkRefusal}
 use Rattle.model.specs.Range.{inRange}
 use Rattle.model.specs.Steps.{run, enqueue}

@@ -1,8 +1,6 @@
 -- Document 01's definitions, in its order, but for sets (crate sets), draws (draws) and the archive's bytes (archive).
 pub mod Types
-pub mod Numbers
 pub mod Network
-pub mod Phases
 pub mod Range
 pub mod Router
 pub mod NetInput

@@ -12,7 +12,7 @@ use Rattle.base.specs.Over.{over}
 use Rattle.model.specs.Types.{Connection, Unicast, Passthru, AllRemote, SomeLocal, Handed, Received, gotEnd, gotAbort}
 use Rattle.model.specs.Types.{Terminator, tNone, tEnd, tAbort, tKeep, Phase, Free, Seek, Open, Wait, Done, Last, Aborted, FinAbort}
 use Rattle.model.specs.Types.{Input, Output, Network, noMarks, noInput, outOf, mark, inPhase, outTerm}
-use Rattle.model.specs.Phases.{listening, asTerminator}
+use Rattle.types.specs.Phases.{listening, asTerminator}
 use Rattle.model.specs.Router.{Choice, Chosen, Unserved, route, isEmpty, isChosen, unchosen}
 
 -- "What no rule names stays; a rule whose condition fails, or an empty place, changes nothing."

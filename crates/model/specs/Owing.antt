@@ -8,7 +8,7 @@ use Rattle.base.specs.Bools.{count}
 use Rattle.base.specs.Sums.{sum, isum}
 use Rattle.sets.specs.Sets.{has, size, bit}
 use Rattle.model.specs.Types.{Terminator, tNone, tEnd, tAbort, tKeep, Input, Output, OutEntry, InEntry, OutQueue, InQueue, Site}
-use Rattle.model.specs.Phases.{held}
+use Rattle.types.specs.Phases.{held}
 
 -- A place at site s with packet q and set X, by its terminator: what it owes of packet p to site t. "whose terminator is end owes its set;
 -- with keep-local it owes its own site if in the set. A place with abort or no terminator owes nothing."

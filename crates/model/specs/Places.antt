@@ -9,7 +9,8 @@ use Rattle.model.specs.Types.{Received, gotEnd, gotAbort, Terminator, tN
 use Rattle.model.specs.Types.{Phase, Free, Seek, Open, Wait, Done, Last, Aborted, FinAbort}
 use Rattle.model.specs.Types.{Input, Output, OutEntry, InEntry, OutQueue, InQueue, noMarks, noOutput, outOf, mark, outEntry, inEntry}
 use Rattle.model.specs.Types.{outHead, entryStarted, entryTerm, pushOut, popOut, pushIn, popIn}
-use Rattle.model.specs.Phases.{isFree, listening, splits, isNone, received}
+use Rattle.types.specs.Phases.{isFree, listening, splits, isNone}
+use Rattle.model.specs.Types.{received}
 use Rattle.model.specs.NetInput.{Turn, Stay, To, give}
 
 -- an input that "goes to seek with no tries"

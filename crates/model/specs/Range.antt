@@ -11,7 +11,7 @@ use Rattle.base.specs.All.{all, any}
 use Rattle.sets.specs.Sets.{targets}
 use Rattle.model.specs.Types.{Input, Output, OutEntry, InEntry, OutQueue, InQueue, Site, State, Network}
 use Rattle.model.specs.Types.{siteAt, inAt, outOf, outAt, mark, outEntry, inEntry}
-use Rattle.model.specs.Phases.{isFree, connected, splitting, aborting, isNone, isKeep}
+use Rattle.types.specs.Phases.{isFree, connected, splitting, aborting, isNone, isKeep}
 
 -- "sets non-empty and within S wherever a place is used, packets below the counter". S sites; k is the counter
 abbrev pub tagOk : ℕ → ℕ → ℕ → ℕ → Bool

@@ -13,7 +13,7 @@ use Rattle.draws.specs.Draws.{valueAfter, drawnSite, drawnCode}
 use Rattle.model.specs.Types.{State, Network, StoredSend, Run as StoredRun, Sent, Accepted, SendRefused, Ran, AfterSend}
 use Rattle.model.specs.Types.{AfterRun, Counts}
 use Rattle.model.specs.Types.{noState, sendD, sendAt}
-use Rattle.model.specs.Numbers.{answerOf, ranPacket, ranSite}
+use Rattle.types.specs.Numbers.{answerOf, ranPacket, ranSite}
 use Rattle.model.specs.Network.{sizesOk, joinsThen, trimmedNetwork}
 use Rattle.model.specs.Events.{Event, Send, Run, sendFault, runs, sends, ran, sent}
 use Rattle.model.specs.Owing.{owedPairs}

@@ -17,28 +17,29 @@ use mathlib.Core.List.{List, [], _∷_, _++_}
 use mathlib.Core.Bool.{Bool, true, false}
 use lib.ListN.{getD, set, drop, replicate}
 use Rattle.base.specs.Sizes.{sitesMost, inputCount, outputCount, queueRoom}
-pub use Rattle.model.specs.declared.Connection.the-variants.{the-data as Connection, Unicast, Passthru, AllRemote, SomeLocal, Handed}
-pub use Rattle.model.specs.declared.Received.the-variants.{the-data as Received, End as gotEnd, Abort as gotAbort}
-pub use Rattle.model.specs.declared.Terminator.the-variants.{the-data as Terminator, None as tNone, End as tEnd}
-pub use Rattle.model.specs.declared.Terminator.the-variants.{Abort as tAbort, KeepLocal as tKeep}
-pub use Rattle.model.specs.declared.Phase.the-variants.{the-data as Phase, Free, Seek, Open, Wait, Done, Last}
-pub use Rattle.model.specs.declared.Phase.the-variants.{Abort as Aborted, FinAbort}
-pub use Rattle.model.specs.declared.Input.{Input}
-pub use Rattle.model.specs.declared.Output.{Output}
-pub use Rattle.model.specs.declared.OutEntry.{OutEntry}
-pub use Rattle.model.specs.declared.InEntry.{InEntry}
-pub use Rattle.model.specs.declared.OutQueue.{OutQueue}
-pub use Rattle.model.specs.declared.InQueue.{InQueue}
-pub use Rattle.model.specs.declared.Site.{Site}
-pub use Rattle.model.specs.declared.State.{State}
-pub use Rattle.model.specs.declared.Network.{Network}
-pub use Rattle.model.specs.declared.StoredSend.{StoredSend}
-pub use Rattle.model.specs.declared.Run.{Run}
-pub use Rattle.model.specs.declared.Sent.the-variants.{the-data as Sent, Accepted, Refused as SendRefused}
-pub use Rattle.model.specs.declared.Ran.the-variants.{the-data as Ran, Nothing, Changed, Serviced, Refused as RunRefused}
-pub use Rattle.model.specs.declared.AfterSend.{AfterSend}
-pub use Rattle.model.specs.declared.AfterRun.{AfterRun}
-pub use Rattle.model.specs.declared.Counts.{Counts}
+use Rattle.types.specs.Phases.{receive}
+pub use Rattle.types.specs.declared.Connection.the-variants.{the-data as Connection, Unicast, Passthru, AllRemote, SomeLocal, Handed}
+pub use Rattle.types.specs.declared.Received.the-variants.{the-data as Received, End as gotEnd, Abort as gotAbort}
+pub use Rattle.types.specs.declared.Terminator.the-variants.{the-data as Terminator, None as tNone, End as tEnd}
+pub use Rattle.types.specs.declared.Terminator.the-variants.{Abort as tAbort, KeepLocal as tKeep}
+pub use Rattle.types.specs.declared.Phase.the-variants.{the-data as Phase, Free, Seek, Open, Wait, Done, Last}
+pub use Rattle.types.specs.declared.Phase.the-variants.{Abort as Aborted, FinAbort}
+pub use Rattle.types.specs.declared.Input.{Input}
+pub use Rattle.types.specs.declared.Output.{Output}
+pub use Rattle.types.specs.declared.OutEntry.{OutEntry}
+pub use Rattle.types.specs.declared.InEntry.{InEntry}
+pub use Rattle.types.specs.declared.OutQueue.{OutQueue}
+pub use Rattle.types.specs.declared.InQueue.{InQueue}
+pub use Rattle.types.specs.declared.Site.{Site}
+pub use Rattle.types.specs.declared.State.{State}
+pub use Rattle.types.specs.declared.Network.{Network}
+pub use Rattle.types.specs.declared.StoredSend.{StoredSend}
+pub use Rattle.types.specs.declared.Run.{Run}
+pub use Rattle.types.specs.declared.Sent.the-variants.{the-data as Sent, Accepted, Refused as SendRefused}
+pub use Rattle.types.specs.declared.Ran.the-variants.{the-data as Ran, Nothing, Changed, Serviced, Refused as RunRefused}
+pub use Rattle.types.specs.declared.AfterSend.{AfterSend}
+pub use Rattle.types.specs.declared.AfterRun.{AfterRun}
+pub use Rattle.types.specs.declared.Counts.{Counts}
 
 -- "State, empty at the start"; "Freeing a place sets its fields to zero."
 abbrev pub noMarks : List Bool
@@ -106,6 +107,10 @@ sendAt R m = getD (R .sends) m sendD
 -- a place with a field changed
 abbrev pub inPhase : Input → Phase → Input
 inPhase y ph = record { set = y .set; phase = ph; outputs = y .outputs; packet = y .packet; tries = y .tries }
+
+-- "Delivery to an input: open to done, abort to fin-abort."
+abbrev pub received : Received → Input → Input
+received r y = inPhase y (receive r (y .phase))
 
 abbrev pub outTerm : Output → Terminator → Output
 outTerm o h = record { set = o .set; terminator = h; packet = o .packet; input = o .input; used = o .used; head = o .head }

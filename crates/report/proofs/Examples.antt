@@ -2,7 +2,7 @@
 use mathlib.Core.Path.{_≡_, refl}
 use mathlib.Core.List.{List, [], _∷_}
 use Prim.Native.Nat.{ℕ}
-use Rattle.model.specs.declared.Counts.{Counts}
+use Rattle.types.specs.declared.Counts.{Counts}
 use lib.ListN.{length}
 use Rattle.report.specs.Text.{ascii, places, decimal, refusedLine, countsLine, answerLine, answerMost}
 use Rattle.report.specs.Text.{serviceLine, serviceMost, lineAt, serviceLines}

@@ -9,7 +9,7 @@ use lib.Dec.{eqb, ltb}
 use lib.ListN.{length, getD}
 use Rattle.base.specs.Answers.{atFront}
 use Rattle.io.specs.Digits.{digits}
-use Rattle.model.specs.declared.Counts.{Counts}
+use Rattle.types.specs.declared.Counts.{Counts}
 use Rattle.model.specs.Runs.{Service}
 use Rattle.report.specs.declared.Lines.{Lines}
 

@@ -10,11 +10,11 @@ ghost use Rattle.io.specs.Counts.{Counts as Front};
 ghost use Rattle.base.specs.Answers.{atFront};
 ghost use Rattle.report.specs.Text.{answerLine, linesAnswer, linesAfter};
 use libc::STDOUT_FILENO;
-use model::Counts;
 use text::put_all;
 use text::put_counts;
 use text::put_entry;
 use text::put_field;
+use types::Counts;
 
 // Room for the book of every archive: 4 bytes a service, every send to every site.
 pub const BOOK: usize = 4 * base::SENDS * base::SITES;

@@ -5,7 +5,7 @@ ghost use mathlib.Core.List.{_++_};
 ghost use lib.ListN.{length};
 ghost use Rattle.report.specs.Text.{decimal, countsLine, serviceLine, lineAt, answerMost, serviceMost};
 ghost use Rattle.report.specs.Put.{Put};
-use model::Counts;
+use types::Counts;
 
 pub(crate) fn put_all(room: &mut [u8], at: usize, bytes: &[u8]) -> usize
     requires { ⌜ at + length (now bytes) ≤ length (now room) ⌝ }

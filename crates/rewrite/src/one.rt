@@ -1,8 +1,8 @@
 // One file: read, written back, compared, and told in one line. The totals go in by value and come back.
 use libc::STDOUT_FILENO;
-use model::Counts;
-use model::Run;
 use std::num::wrapping_add_u64;
+use types::Counts;
+use types::Run;
 
 // The bytes of the longest archive.
 const MOST: usize = 1864;

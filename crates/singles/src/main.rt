@@ -8,13 +8,13 @@ mod text;
 
 ghost use mathlib.Core.Path.{_≡_};
 ghost use Prim.Native.Nat.{_%_};
-use model::Network;
-use model::Ran;
-use model::Sent;
-use model::State;
 use site::NUMBERS;
 use text::Cursor;
 use text::PIECE;
+use types::Network;
+use types::Ran;
+use types::Sent;
+use types::State;
 
 struct ReadNetwork {
     network: Network,

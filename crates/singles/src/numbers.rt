@@ -3,16 +3,16 @@ ghost use Prim.Native.Nat.{_≤_};
 use crate::site::IN_QUEUE;
 use crate::site::NUMBERS;
 use crate::site::OUT_QUEUE;
-use model::Connection;
-use model::InEntry;
-use model::InQueue;
-use model::Input;
-use model::OutEntry;
-use model::OutQueue;
-use model::Output;
-use model::Phase;
-use model::Received;
-use model::Site;
+use types::Connection;
+use types::InEntry;
+use types::InQueue;
+use types::Input;
+use types::OutEntry;
+use types::OutQueue;
+use types::Output;
+use types::Phase;
+use types::Received;
+use types::Site;
 
 fn wide(n: u8) -> u64 {
     n as u64
@@ -23,12 +23,12 @@ fn mark(b: bool) -> u64 {
 }
 
 fn connection_number(c: Connection) -> u64 {
-    let n = model::connection_number(c);
+    let n = types::connection_number(c);
     wide(n)
 }
 
 fn received_number(r: Received) -> u64 {
-    let n = model::received_number(r);
+    let n = types::received_number(r);
     wide(n)
 }
 
@@ -63,7 +63,7 @@ fn put_input(n: &mut [u64; NUMBERS], at: usize, x: Input)
 {
     let phase = x.phase;
     let marks = x.outputs;
-    n[at] = wide(model::state_number(phase));
+    n[at] = wide(types::state_number(phase));
     n[at + 1] = phase_connection(phase);
     n[at + 2] = phase_received(phase);
     n[at + 3] = wide(x.packet);
@@ -85,7 +85,7 @@ fn put_output(n: &mut [u64; NUMBERS], at: usize, x: Output)
     n[at + 2] = x.set;
     n[at + 3] = wide(x.input);
     n[at + 4] = mark(x.head);
-    n[at + 5] = wide(model::terminator_number(terminator));
+    n[at + 5] = wide(types::terminator_number(terminator));
 }
 
 fn put_out_entry(n: &mut [u64; NUMBERS], at: usize, x: OutEntry)
@@ -102,7 +102,7 @@ fn put_in_entry(n: &mut [u64; NUMBERS], at: usize, x: InEntry)
     let terminator = x.terminator;
     n[at] = wide(x.packet);
     n[at + 1] = x.set;
-    n[at + 2] = wide(model::terminator_number(terminator));
+    n[at + 2] = wide(types::terminator_number(terminator));
 }
 
 fn put_out_queue(n: &mut [u64; NUMBERS], queue: OutQueue) {

@@ -2,17 +2,17 @@
 // out-queue and the in-queue with a count and eight entries of 3 each. Numbers that no field can hold are cut to it.
 ghost use mathlib.Core.Path.{_≡_};
 ghost use Prim.Native.Nat.{_%_, _≤_};
-use model::Connection;
-use model::InEntry;
-use model::InQueue;
-use model::Input;
-use model::OutEntry;
-use model::OutQueue;
-use model::Output;
-use model::Phase;
-use model::Received;
-use model::Site;
-use model::Terminator;
+use types::Connection;
+use types::InEntry;
+use types::InQueue;
+use types::Input;
+use types::OutEntry;
+use types::OutQueue;
+use types::Output;
+use types::Phase;
+use types::Received;
+use types::Site;
+use types::Terminator;
 
 // The numbers of a site.
 pub(crate) const NUMBERS: usize = 135;

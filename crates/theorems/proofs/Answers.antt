@@ -9,7 +9,7 @@ use borrow.Author.Tests.{eqb-true}
 use lib.Dec.{eqb}
 use Rattle.base.specs.Bools.{cond-ok}
 use Rattle.theorems.specs.Names.{Site, State, Network, Ran, Nothing, Changed, Serviced, RunRefused, AfterRun}
-use Rattle.model.specs.Numbers.{answerOf}
+use Rattle.types.specs.Numbers.{answerOf}
 use Rattle.model.specs.Range.{inRange}
 use Rattle.model.specs.Steps.{run}
 use Rattle.model.specs.Events.{runRefusal, ran}

@@ -14,7 +14,8 @@ use Rattle.base.specs.Sums.{sum-set}
 use Rattle.theorems.specs.Names.{Received, Input, Output, Site, Network}
 use Rattle.model.specs.Types.{inputD, siteD, noOutput, siteAt, inAt, outAt, outHead, setSite, setIn, setOut}
 use Rattle.model.specs.Network.{channel, joined, endSite, endPort}
-use Rattle.model.specs.Phases.{listening, asTerminator, received}
+use Rattle.types.specs.Phases.{listening, asTerminator}
+use Rattle.model.specs.Types.{received}
 use Rattle.model.specs.Steps.{farEnd}
 use Rattle.model.specs.Owing.{owesAs, owesInput, owesOutput, owed}
 use Rattle.theorems.proofs.Invariant.{tagOut, claim, due, Conn, SiteOk, Link, Inv, Kept, inv-set, owed-set}

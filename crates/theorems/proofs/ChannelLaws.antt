@@ -12,7 +12,8 @@ use Rattle.theorems.specs.Names.{Received, gotEnd, gotAbort, Terminator,
 use Rattle.theorems.specs.Names.{Site, Network}
 use Rattle.model.specs.Types.{siteD, noOutput, siteAt, inAt, outAt, outHead, setSite, setIn, setOut}
 use Rattle.model.specs.Network.{channel, joined, endSite, endPort}
-use Rattle.model.specs.Phases.{isFree, listening, isNone, asTerminator, received}
+use Rattle.types.specs.Phases.{isFree, listening, isNone, asTerminator}
+use Rattle.model.specs.Types.{received}
 use Rattle.model.specs.NetInput.{Turn}
 use Rattle.model.specs.Places.{seeking, headOn, termOn, deliver, channelOutput}
 use Rattle.model.specs.Steps.{farEnd, setFar, passTurn, patch}

@@ -13,7 +13,8 @@ use Rattle.base.specs.Sums.{sum, sum-set, upto-ext}
 use Rattle.theorems.specs.Names.{Connection, Received, gotEnd, Terminator, tNone, tEnd, tAbort, tKeep, Phase, Free, Seek}
 use Rattle.theorems.specs.Names.{Open, Wait, Done, Last, Aborted, FinAbort, Input, Output, OutQueue, InQueue, Site}
 use Rattle.model.specs.Types.{inputD, inAt, outOf, outAt, mark, setIn}
-use Rattle.model.specs.Phases.{isFree, listening, isNone, asTerminator, held, receive, received}
+use Rattle.types.specs.Phases.{isFree, listening, isNone, asTerminator, held, receive}
+use Rattle.model.specs.Types.{received}
 use Rattle.model.specs.NetInput.{table}
 use Rattle.model.specs.Steps.{setBoth}
 use Rattle.model.specs.Owing.{owesAs, owesInput, owesOutput}

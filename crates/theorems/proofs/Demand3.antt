@@ -19,7 +19,7 @@ use Rattle.sets.proofs.Laws.{targets-at}
 use Rattle.sets.proofs.LawsBit.{bit-none}
 use Rattle.theorems.specs.Names.{Seek, Input, Output, OutEntry, Site, State, Network, AfterSend, AfterRun}
 use Rattle.model.specs.Types.{noInput, inputD, noOutput, noOutEntry, noSite, siteD, noState, siteAt, inAt, outOf, outAt, mark}
-use Rattle.model.specs.Phases.{isFree, connected, splitting, aborting}
+use Rattle.types.specs.Phases.{isFree, connected, splitting, aborting}
 use Rattle.model.specs.Range.{tagOk, anyMark, anyRemote, zeroInput, fedBy, inputOk, placeOk, inRange}
 use Rattle.model.specs.Events.{Event, Send, Run, ran, sent, after, final, answered, setBy, acceptedSet, hits, servicedBy, serviced}
 use Rattle.model.specs.Owing.{owed}

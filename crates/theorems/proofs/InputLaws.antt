@@ -14,7 +14,7 @@ use Rattle.base.specs.Sums.{sum, sum-set, sum-upto, upto-ext, upto-add, upto-ze
 use Rattle.theorems.specs.Names.{Connection, Received, gotEnd, gotAbort, Terminator, tAbort, Phase, Free, Seek, Open, Wait}
 use Rattle.theorems.specs.Names.{Done, Last, Aborted, FinAbort, Input, Output, Site, Network}
 use Rattle.model.specs.Types.{noInput, inputD, noOutput, inAt, outOf, outAt, mark, inPhase, outTerm}
-use Rattle.model.specs.Phases.{splits, asTerminator, held}
+use Rattle.types.specs.Phases.{splits, asTerminator, held}
 use Rattle.model.specs.NetInput.{Turn, allReady, table, give, inState}
 use Rattle.model.specs.Places.{lastLacks, remote, cutOff, cutAt, stalled, timeout}
 use Rattle.model.specs.Steps.{ownTurn, setBoth}

@@ -14,7 +14,7 @@ use Rattle.theorems.specs.Names.{Connection, gotEnd, Terminator, tNone, 
 use Rattle.theorems.specs.Names.{Aborted, FinAbort, Input, Output, OutQueue, InQueue, Site, Network, Serviced}
 use Rattle.model.specs.Types.{inputD, siteD, noOutput, siteAt, inAt, outAt, mark, outEntry, setSite}
 use Rattle.model.specs.Network.{channel, joined, endSite}
-use Rattle.model.specs.Phases.{splits}
+use Rattle.types.specs.Phases.{splits}
 use Rattle.model.specs.NetInput.{table}
 use Rattle.model.specs.Places.{lastOf, lastLacks}
 use Rattle.model.specs.Steps.{farEnd, Act, Idle, Own, Serve, Pass, Stepped, patch}

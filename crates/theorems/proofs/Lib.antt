@@ -1,4 +1,6 @@
 -- The theorems about the definitions of edition 1, and what they rest on. docs/PROMISES.md says which to read first.
+pub mod Examples
+pub mod Counted
 pub mod Networks
 pub mod Refusals
 pub mod Numbered

@@ -11,7 +11,7 @@ use Rattle.sets.specs.Sets.{bit, has, minus}
 use Rattle.sets.proofs.LawsBit.{bit-in, bit-out, bit-minus}
 use Rattle.theorems.specs.Names.{Terminator, tNone, tEnd, tAbort, tKeep, OutEntry, InEntry, OutQueue, InQueue, Site, Serviced}
 use Rattle.model.specs.Types.{noInEntry, inAt, outAt, inEntry, withOutQueue, withInQueue, pushOut, popIn}
-use Rattle.model.specs.Phases.{isNone}
+use Rattle.types.specs.Phases.{isNone}
 use Rattle.model.specs.Places.{Work, serviceIf, operate, operator}
 use Rattle.model.specs.Steps.{workDone}
 use Rattle.model.specs.Events.{hits}

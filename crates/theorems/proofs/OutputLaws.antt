@@ -15,7 +15,7 @@ use Rattle.base.specs.Lists.{all-set, rel-set, proj-set}
 use Rattle.base.specs.Sums.{sum-set}
 use Rattle.theorems.specs.Names.{Terminator, tNone, Output, InEntry, InQueue, Site}
 use Rattle.model.specs.Types.{noOutput, inAt, outAt, outHead, entryTerm, withInQueue, setOut, pushIn}
-use Rattle.model.specs.Phases.{isNone}
+use Rattle.types.specs.Phases.{isNone}
 use Rattle.model.specs.NetInput.{Turn}
 use Rattle.model.specs.Places.{lastOf, lastLacks, endLast, headIn, termIn, localOutput}
 use Rattle.model.specs.Steps.{ownTurn}

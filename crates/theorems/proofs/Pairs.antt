@@ -13,7 +13,7 @@ use Rattle.sets.specs.Sets.{bit}
 use Rattle.sets.proofs.LawsBit.{count-has, size-upto}
 use Rattle.theorems.specs.Names.{Terminator, tNone, tEnd, tAbort, tKeep, Site}
 use Rattle.model.specs.Types.{inputD, noOutput, noOutEntry, noInEntry, siteD, siteAt, inAt, outAt, outEntry, inEntry}
-use Rattle.model.specs.Phases.{held}
+use Rattle.types.specs.Phases.{held}
 use Rattle.model.specs.Owing.{owesAs, owesInput, owesOutput, owesOutEntry, owesInEntry, owesOutQueue, owesInQueue, owesSite, owed}
 use Rattle.model.specs.Owing.{pairsAs, pairsInput, pairsOutput, pairsOutEntry, pairsInEntry, pairsSite, owedPairs}
 

@@ -17,7 +17,8 @@ use Rattle.base.specs.Sums.{sum, sum-set, sum-pop, sum-push, sum-set-take}
 use Rattle.theorems.specs.Names.{gotEnd, Terminator, tNone, tEnd, Free, Input, OutEntry, InEntry, OutQueue, InQueue, Site}
 use Rattle.model.specs.Types.{inputD, noOutEntry, noInEntry, inAt, outAt, outEntry, inEntry, entryStarted, entryTerm, setIn}
 use Rattle.model.specs.Types.{withOutQueue, pushOut, popOut, pushIn, popIn}
-use Rattle.model.specs.Phases.{isFree, listening, isNone, received}
+use Rattle.types.specs.Phases.{isFree, listening, isNone}
+use Rattle.model.specs.Types.{received}
 use Rattle.model.specs.NetInput.{Turn}
 use Rattle.model.specs.Places.{seeking, lastOf, lastLacks, endLast, startFront, outQueue}
 use Rattle.model.specs.Steps.{ownTurn}

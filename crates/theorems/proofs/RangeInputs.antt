@@ -17,8 +17,8 @@ use Rattle.theorems.specs.Names.{Connection, Unicast, Passthru, AllRemot
 use Rattle.theorems.specs.Names.{Terminator, tEnd, tAbort, tKeep, Phase, Free, Seek, Open, Wait, Done, Last, Aborted}
 use Rattle.theorems.specs.Names.{FinAbort, Input, Output, Network}
 use Rattle.model.specs.Types.{noMarks, noInput, noOutput, outOf, mark, inPhase, outTerm}
-use Rattle.model.specs.Numbers.{stateNumber}
-use Rattle.model.specs.Phases.{splits, isKeep, asTerminator}
+use Rattle.types.specs.Numbers.{stateNumber}
+use Rattle.types.specs.Phases.{splits, isKeep, asTerminator}
 use Rattle.model.specs.Router.{Choice, Chosen, Unserved, unchosen, isEmpty, isChosen, route}
 use Rattle.model.specs.NetInput.{Turn, To, allReady, table, give, taken, marksOf, opened, seek, inState}
 use Rattle.model.specs.Places.{remote, cutOff, cutAt}

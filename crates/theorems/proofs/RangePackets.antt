@@ -13,7 +13,7 @@ use Rattle.base.specs.All.{all, all-at}
 use Rattle.base.specs.Lists.{beyond}
 use Rattle.theorems.specs.Names.{Input, Output, OutEntry, InEntry, Site, State, Network}
 use Rattle.model.specs.Types.{inputD, noOutput, noOutEntry, noInEntry, siteAt, inAt, outAt, outEntry, inEntry}
-use Rattle.model.specs.Phases.{isFree, isNone}
+use Rattle.types.specs.Phases.{isFree, isNone}
 use Rattle.model.specs.Range.{anyMark, zeroInput, zeroOutput, zeroOutEntry, zeroInEntry, zeroSite, inRange}
 use Rattle.theorems.proofs.Networks.{Valid}
 use Rattle.theorems.proofs.Pairs.{SmallSite}

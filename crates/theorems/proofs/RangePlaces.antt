@@ -14,7 +14,8 @@ use Rattle.sets.proofs.Laws.{minus-le}
 use Rattle.theorems.specs.Names.{Received, gotEnd, gotAbort, Terminator, tNone, tEnd, tAbort, tKeep, Phase, Free, Seek, Open}
 use Rattle.theorems.specs.Names.{Wait, Done, Last, Aborted, FinAbort, Input, Output, OutQueue, InQueue, Network}
 use Rattle.model.specs.Types.{noMarks, noOutput, noOutEntry, noInEntry, outEntry, inEntry, outHead, entryStarted, entryTerm, popIn}
-use Rattle.model.specs.Phases.{isFree, listening, isNone, isKeep, receive, received}
+use Rattle.types.specs.Phases.{isFree, listening, isNone, isKeep, receive}
+use Rattle.model.specs.Types.{received}
 use Rattle.model.specs.Range.{zeroOutEntry, zeroInEntry}
 use Rattle.model.specs.NetInput.{Turn, Stay, To}
 use Rattle.model.specs.Places.{seeking, lastOf, lastLacks, localOutput, deliver, channelOutput, outQueue, Work, Rest, Cleared}

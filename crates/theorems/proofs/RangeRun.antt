@@ -17,7 +17,7 @@ use Rattle.theorems.specs.Names.{Input, Output, OutQueue, InQueue, Site,
 use Rattle.model.specs.Types.{inputD, noOutput, noOutEntry, siteD, siteAt, inAt, outOf, outAt, withOutQueue, withInQueue, setIn}
 use Rattle.model.specs.Types.{setOut, setSite}
 use Rattle.model.specs.Network.{channel, joined, endSite, endPort}
-use Rattle.model.specs.Phases.{isNone}
+use Rattle.types.specs.Phases.{isNone}
 use Rattle.model.specs.Range.{zeroOutEntry}
 use Rattle.model.specs.NetInput.{Turn, Stay, To, ready, netInput}
 use Rattle.model.specs.Places.{lastLacks, localOutput, channelOutput, outQueue, Work, Rest, Cleared, Service, operator, cutAt}

@@ -18,7 +18,7 @@ use Rattle.sets.proofs.Laws.{targets-at, targets-by}
 use Rattle.theorems.specs.Names.{Terminator, tNone, tEnd, tAbort, tKeep, Phase, Input, Output, OutEntry, InEntry, OutQueue}
 use Rattle.theorems.specs.Names.{InQueue, Network}
 use Rattle.model.specs.Types.{noMarks, noOutEntry, noInEntry, outOf, mark}
-use Rattle.model.specs.Phases.{isFree, connected, splitting, aborting, isNone, isKeep}
+use Rattle.types.specs.Phases.{isFree, connected, splitting, aborting, isNone, isKeep}
 use Rattle.model.specs.Range.{tagOk, anyMark, anyRemote, zeroInput, zeroOutput, zeroOutEntry, zeroInEntry, fedBy, inputOk, outputOk}
 use Rattle.model.specs.Range.{outQueueOk, inQueueOk}
 use Rattle.theorems.proofs.Invariant.{Fed}

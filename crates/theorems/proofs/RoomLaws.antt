@@ -21,7 +21,7 @@ use Rattle.theorems.specs.Names.{Input, Output, Site, Network}
 use Rattle.model.specs.Types.{noInput, siteAt, inAt, outOf, outAt, withOutQueue, withInQueue, setIn, setOut}
 use Rattle.model.specs.Network.{channelByte, channel, joined, routeOf, choices, listOf, channelOk, channelsOk}
 use Rattle.model.specs.Network.{choice, portOk, listOk, routeOk, routesOk, joinsThen}
-use Rattle.model.specs.Phases.{listening}
+use Rattle.types.specs.Phases.{listening}
 use Rattle.model.specs.Router.{serves, firstPort, gets, unchosen, gatherFrom, gather, route}
 use Rattle.model.specs.NetInput.{Turn, Stay, To, hears, ready, inState, netInput}
 use Rattle.model.specs.Places.{localOutput, channelOutput, outQueue, Work, Rest, Cleared, Service, operator, timeout}

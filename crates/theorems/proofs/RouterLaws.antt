@@ -21,7 +21,7 @@ use Rattle.sets.proofs.Laws.{minus-le, minus-out}
 use Rattle.sets.proofs.LawsBit.{bit-none, bit-minus}
 use Rattle.theorems.specs.Names.{Connection, Unicast, Passthru, AllRemote, SomeLocal, gotEnd, Terminator, tNone, tEnd, tAbort}
 use Rattle.theorems.specs.Names.{tKeep, Output, Network}
-use Rattle.model.specs.Phases.{splits}
+use Rattle.types.specs.Phases.{splits}
 use Rattle.model.specs.Network.{listOf}
 use Rattle.model.specs.Router.{Choice, Chosen, Unserved, unchosen, isChosen, isEmpty, serves, firstPort, oneOutput, toOther}
 use Rattle.model.specs.Router.{Gathered, Every, Missing, chosenCount, firstChosen, spread, orElse, route}

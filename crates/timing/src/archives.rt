@@ -1,5 +1,5 @@
 // Reading and writing, many times over.
-use model::Run;
+use types::Run;
 
 // Places of the run that a number picks, put together: to answer it, the run has to be there in full.
 fn picked(run: Run, k: usize) -> usize {

@@ -1,7 +1,7 @@
 // Single events by the public SEND and RUN, with all their checks.
-use model::Network;
-use model::Run;
-use model::State;
+use types::Network;
+use types::Run;
+use types::State;
 
 // The state after the stored sends, one after the other; those that are refused change nothing.
 fn sent(run: Run) -> State {

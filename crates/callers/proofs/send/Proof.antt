@@ -1,7 +1,7 @@
 -- `send`: the answer of `machine::send`, taken apart and put together. Assumes nothing.
 use mathlib.Core.Path.{_≡_, sym, ap, _∙_}
-use Rattle.model.specs.declared.AfterSend.{AfterSend}
-use Rattle.model.specs.declared.Sent.the-variants.{the-data as Sent}
+use Rattle.types.specs.declared.AfterSend.{AfterSend}
+use Rattle.types.specs.declared.Sent.the-variants.{the-data as Sent}
 use borrow.Author.Needs.{needs}
 use Rattle.callers.proofs.send.Statement.{statement}
 use Rattle.callers.proofs.send.Tie as tie

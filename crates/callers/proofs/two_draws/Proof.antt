@@ -4,9 +4,9 @@ use mathlib.Core.Path.{_≡_, refl}
 use borrow.Author.Needs.{needs}
 use Rattle.draws.specs.declared.DrawnEvent.{DrawnEvent}
 use Rattle.draws.specs.Draws.{drawn, eventOf}
-use Rattle.model.specs.declared.AfterRun.{AfterRun}
-use Rattle.model.specs.declared.Network.{Network}
-use Rattle.model.specs.declared.State.{State}
+use Rattle.types.specs.declared.AfterRun.{AfterRun}
+use Rattle.types.specs.declared.Network.{Network}
+use Rattle.types.specs.declared.State.{State}
 use Rattle.model.specs.Events.{ran}
 use Rattle.callers.specs.TwoDraws.{twoDraws}
 use Rattle.callers.proofs.two_draws.Statement.{statement}

@@ -1,8 +1,8 @@
 // What a net-input's state and a terminator tell: the model's case functions, each as one full match.
 ghost use mathlib.Core.Path.{_≡_};
-ghost use Rattle.model.specs.Phases.{connected, splitting, aborting, isKeep};
-use model::Phase;
-use model::Terminator;
+ghost use Rattle.types.specs.Phases.{connected, splitting, aborting, isKeep};
+use types::Phase;
+use types::Terminator;
 
 // All but free and seek: the states with a connection.
 pub(crate) fn is_connected(phase: Phase) -> bool
@@ -27,12 +27,12 @@ pub(crate) fn is_splitting(phase: Phase) -> bool
     match phase {
         Phase::Free => false,
         Phase::Seek => false,
-        Phase::Open(c) => model::is_split(c),
-        Phase::Wait(c) => model::is_split(c),
-        Phase::Done(c, _) => model::is_split(c),
-        Phase::Last(c, _) => model::is_split(c),
-        Phase::Abort(c) => model::is_split(c),
-        Phase::FinAbort(c, _) => model::is_split(c),
+        Phase::Open(c) => types::is_split(c),
+        Phase::Wait(c) => types::is_split(c),
+        Phase::Done(c, _) => types::is_split(c),
+        Phase::Last(c, _) => types::is_split(c),
+        Phase::Abort(c) => types::is_split(c),
+        Phase::FinAbort(c, _) => types::is_split(c),
     }
 }
 

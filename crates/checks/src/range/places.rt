@@ -10,10 +10,10 @@ use crate::range::phases::is_aborting;
 use crate::range::phases::is_connected;
 use crate::range::phases::is_keep;
 use crate::range::phases::is_splitting;
-use model::InEntry;
-use model::Input;
-use model::OutEntry;
-use model::Output;
+use types::InEntry;
+use types::Input;
+use types::OutEntry;
+use types::Output;
 
 // The packet below the counter, the set not empty and within S.
 fn tag_ok(sites: usize, counter: u8, packet: u8, set: u64) -> bool
@@ -51,7 +51,7 @@ pub(crate) fn zero_input(input: Input) -> bool
 {
     let phase = input.phase;
     let marks = input.outputs;
-    model::is_free(phase)
+    types::is_free(phase)
         & (input.packet == 0)
         & (input.set == 0)
         & !any_mark(marks)
@@ -67,7 +67,7 @@ pub(crate) fn zero_output(output: Output) -> bool
         & (output.set == 0)
         & (output.input == 0)
         & !output.head
-        & model::is_none(terminator)
+        & types::is_none(terminator)
 }
 
 pub(crate) fn zero_out_entry(entry: OutEntry) -> bool
@@ -80,7 +80,7 @@ pub(crate) fn zero_in_entry(entry: InEntry) -> bool
     ensures { λ r. ⌜ r ≡ spec.zeroInEntry entry ⌝ }
 {
     let terminator = entry.terminator;
-    (entry.packet == 0) & (entry.set == 0) & model::is_none(terminator)
+    (entry.packet == 0) & (entry.set == 0) & types::is_none(terminator)
 }
 
 // In use, fed by net-input i and without a terminator.
@@ -88,7 +88,7 @@ fn fed_by(i: usize, output: Output) -> bool
     ensures { λ r. ⌜ r ≡ spec.fedBy i output ⌝ }
 {
     let terminator = output.terminator;
-    output.used & (base::wide(output.input) == i) & model::is_none(terminator)
+    output.used & (base::wide(output.input) == i) & types::is_none(terminator)
 }
 
 // Each output that net-input i marks is fed by it.
@@ -118,7 +118,7 @@ pub(crate) fn input_ok(
 {
     let phase = input.phase;
     let marks = input.outputs;
-    let free = model::is_free(phase);
+    let free = types::is_free(phase);
     let any = any_mark(marks);
     let connected = is_connected(phase);
     let splitting = is_splitting(phase);

@@ -5,7 +5,7 @@ use Prim.Native.Nat.{ℕ, _≤_, _-_}
 use native.Mathlib.Omega.{arith}
 use borrow.Author.Needs.{needs}
 use Rattle.base.specs.All.{all, all-none, all-more, all-fails}
-use Rattle.model.specs.declared.StoredSend.{StoredSend}
+use Rattle.types.specs.declared.StoredSend.{StoredSend}
 use Rattle.archive.specs.Code.{drawBefore, sendAfter, sendIn, sendsFrom}
 use Rattle.archive.proofs.SendsLaws.{draw-next}
 use native.Mathlib.Omega.{arith}

@@ -3,7 +3,7 @@ use lib.ListN.{length, List·getD-eq-default}
 use native.Mathlib.Omega.{arith}
 use borrow.Author.Needs.{needs}
 use Rattle.model.specs.Types.{siteD}
-use Rattle.model.specs.declared.Site.{Site}
+use Rattle.types.specs.declared.Site.{Site}
 use Rattle.machine.proofs.events.out_entries.Statement.{statement}
 use Rattle.machine.proofs.events.out_entries.Tie as tie
 use Rattle.machine.proofs.events.out_entries.Reads as reads

@@ -4,7 +4,7 @@ use Rattle.machine.proofs.idle.is_at_rest.Statement.{statement}
 use Rattle.machine.proofs.idle.is_at_rest.Tie as tie
 use Rattle.machine.proofs.idle.is_at_rest.Reads as reads
 use Rattle.machine.proofs.idle.is_at_rest.Lts as lts
-use Rattle.model.proofs.is_none.Reads as is-none-reads
+use Rattle.types.proofs.is_none.Reads as is-none-reads
 
 is-none-requires : tie.Need-is-none-requires
 is-none-requires c κs = search needs

@@ -10,7 +10,7 @@ use Rattle.machine.proofs.idle.input_of.Reads as input-of-reads
 use Rattle.machine.proofs.idle.is_at_rest.Reads as is-at-rest-reads
 use Rattle.machine.proofs.idle.is_quiet.Reads as is-quiet-reads
 use Rattle.machine.proofs.idle.output_of.Reads as output-of-reads
-use Rattle.model.proofs.is_none.Reads as is-none-reads
+use Rattle.types.proofs.is_none.Reads as is-none-reads
 
 input-of-requires : tie.Need-input-of-requires
 input-of-requires c κs = search needs

@@ -4,7 +4,7 @@ use Rattle.machine.proofs.idle.output_waits.Statement.{statement}
 use Rattle.machine.proofs.idle.output_waits.Tie as tie
 use Rattle.machine.proofs.idle.output_waits.Reads as reads
 use Rattle.machine.proofs.idle.output_waits.Lts as lts
-use Rattle.model.proofs.is_free.Reads as is-free-reads
+use Rattle.types.proofs.is_free.Reads as is-free-reads
 use Rattle.machine.proofs.phases.is_listening.Reads as is-listening-reads
 
 is-free-requires : tie.Need-is-free-requires

@@ -14,7 +14,7 @@ use Rattle.machine.proofs.inputs.finish_abort.Reads as finish-abort-rea
 use Rattle.machine.proofs.inputs.seek_turn.Reads as seek-turn-reads
 use Rattle.machine.proofs.inputs.turn_phase.Reads as turn-phase-reads
 use Rattle.machine.proofs.router.route_packet.Reads as route-packet-reads
-use Rattle.model.proofs.state_number.Reads as state-number-reads
+use Rattle.types.proofs.state_number.Reads as state-number-reads
 
 array-read-local : tie.Need-array-read-local
 array-read-local c = search needs

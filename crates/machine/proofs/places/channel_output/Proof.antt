@@ -5,7 +5,7 @@ use Rattle.machine.proofs.places.channel_output.Statement.{statement}
 use Rattle.machine.proofs.places.channel_output.Tie as tie
 use Rattle.machine.proofs.places.channel_output.Reads as reads
 use Rattle.machine.proofs.places.channel_output.Lts as lts
-use Rattle.model.proofs.is_free.Reads as is-free-reads
+use Rattle.types.proofs.is_free.Reads as is-free-reads
 use Rattle.machine.proofs.phases.seeking_input.Reads as seeking-input-reads
 use Rattle.machine.proofs.phases.with_head.Reads as with-head-reads
 use Rattle.machine.proofs.places.deliver_terminator.Reads as deliver-terminator-reads

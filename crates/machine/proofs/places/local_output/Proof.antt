@@ -10,7 +10,7 @@ use Rattle.machine.proofs.places.local_output.Tie as tie
 use Rattle.machine.proofs.places.local_output.Reads as reads
 use Rattle.machine.proofs.places.local_output.Lts as lts
 use Rattle.machine.proofs.phases.empty_output.Reads as empty-output-reads
-use Rattle.model.proofs.is_none.Reads as is-none-reads
+use Rattle.types.proofs.is_none.Reads as is-none-reads
 use Rattle.machine.proofs.phases.with_head.Reads as with-head-reads
 use Rattle.machine.proofs.queues.end_last.Reads as end-last-reads
 use Rattle.machine.proofs.queues.last_lacks.Reads as last-lacks-reads

@@ -7,7 +7,7 @@ use Rattle.machine.proofs.places.out_queue.Statement.{statement}
 use Rattle.machine.proofs.places.out_queue.Tie as tie
 use Rattle.machine.proofs.places.out_queue.Reads as reads
 use Rattle.machine.proofs.places.out_queue.Lts as lts
-use Rattle.model.proofs.is_free.Reads as is-free-reads
+use Rattle.types.proofs.is_free.Reads as is-free-reads
 use Rattle.machine.proofs.phases.is_listening.Reads as is-listening-reads
 use Rattle.machine.proofs.phases.seeking_input.Reads as seeking-input-reads
 use Rattle.machine.proofs.phases.with_received.Reads as with-received-reads

@@ -6,7 +6,7 @@ use Rattle.machine.proofs.queues.last_lacks.Statement.{statement}
 use Rattle.machine.proofs.queues.last_lacks.Tie as tie
 use Rattle.machine.proofs.queues.last_lacks.Reads as reads
 use Rattle.machine.proofs.queues.last_lacks.Lts as lts
-use Rattle.model.proofs.is_none.Reads as is-none-reads
+use Rattle.types.proofs.is_none.Reads as is-none-reads
 
 returns : tie.Need-returns
 returns c = rw (le-ltb 0 (c .before .args .t1 .count) (omega arith)) refl

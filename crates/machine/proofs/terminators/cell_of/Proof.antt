@@ -4,8 +4,8 @@ use Rattle.machine.proofs.terminators.cell_of.Statement.{statement}
 use Rattle.machine.proofs.terminators.cell_of.Tie as tie
 use Rattle.machine.proofs.terminators.cell_of.Reads as reads
 use Rattle.machine.proofs.terminators.cell_of.Lts as lts
-use Rattle.model.proofs.connection_number.Reads as connection-number-reads
-use Rattle.model.proofs.received_number.Reads as received-number-reads
+use Rattle.types.proofs.connection_number.Reads as connection-number-reads
+use Rattle.types.proofs.received_number.Reads as received-number-reads
 
 received-number-requires : tie.Need-received-number-requires
 received-number-requires c κs = search needs

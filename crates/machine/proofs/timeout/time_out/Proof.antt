@@ -5,7 +5,7 @@ use Rattle.machine.proofs.timeout.time_out.Statement.{statement}
 use Rattle.machine.proofs.timeout.time_out.Tie as tie
 use Rattle.machine.proofs.timeout.time_out.Reads as reads
 use Rattle.machine.proofs.timeout.time_out.Lts as lts
-use Rattle.model.proofs.is_none.Reads as is-none-reads
+use Rattle.types.proofs.is_none.Reads as is-none-reads
 use Rattle.machine.proofs.queues.last_lacks.Reads as last-lacks-reads
 use Rattle.machine.proofs.timeout.can_cut.Reads as can-cut-reads
 use Rattle.machine.proofs.timeout.cut_off.Reads as cut-off-reads

@@ -5,7 +5,7 @@ use Rattle.checks.proofs.range.places.fed_by.Statement.{statement}
 use Rattle.checks.proofs.range.places.fed_by.Tie as tie
 use Rattle.checks.proofs.range.places.fed_by.Reads as reads
 use Rattle.checks.proofs.range.places.fed_by.Lts as lts
-use Rattle.model.proofs.is_none.Reads as is-none-reads
+use Rattle.types.proofs.is_none.Reads as is-none-reads
 
 wide-requires : tie.Need-wide-requires
 wide-requires c κs = search needs

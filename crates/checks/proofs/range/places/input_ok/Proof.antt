@@ -6,7 +6,7 @@ use Rattle.checks.proofs.range.places.input_ok.Reads as reads
 use Rattle.checks.proofs.range.places.input_ok.Lts as lts
 use Rattle.checks.proofs.range.phases.is_aborting.Reads as is-aborting-reads
 use Rattle.checks.proofs.range.phases.is_connected.Reads as is-connected-reads
-use Rattle.model.proofs.is_free.Reads as is-free-reads
+use Rattle.types.proofs.is_free.Reads as is-free-reads
 use Rattle.checks.proofs.range.phases.is_splitting.Reads as is-splitting-reads
 use Rattle.checks.proofs.range.places.any_mark.Reads as any-mark-reads
 use Rattle.checks.proofs.range.places.any_remote.Reads as any-remote-reads

@@ -4,7 +4,7 @@ use Rattle.checks.proofs.range.places.zero_in_entry.Statement.{statemen
 use Rattle.checks.proofs.range.places.zero_in_entry.Tie as tie
 use Rattle.checks.proofs.range.places.zero_in_entry.Reads as reads
 use Rattle.checks.proofs.range.places.zero_in_entry.Lts as lts
-use Rattle.model.proofs.is_none.Reads as is-none-reads
+use Rattle.types.proofs.is_none.Reads as is-none-reads
 
 is-none-requires : tie.Need-is-none-requires
 is-none-requires c κs = search needs

@@ -4,7 +4,7 @@ use Rattle.checks.proofs.range.places.zero_input.Statement.{statement}
 use Rattle.checks.proofs.range.places.zero_input.Tie as tie
 use Rattle.checks.proofs.range.places.zero_input.Reads as reads
 use Rattle.checks.proofs.range.places.zero_input.Lts as lts
-use Rattle.model.proofs.is_free.Reads as is-free-reads
+use Rattle.types.proofs.is_free.Reads as is-free-reads
 use Rattle.checks.proofs.range.places.any_mark.Reads as any-mark-reads
 
 is-free-requires : tie.Need-is-free-requires

@@ -1,8 +1,7 @@
 -- What a net-input's state and a terminator tell: small case functions that the rules and "in range" share.
 use mathlib.Core.Bool.{Bool, true, false}
-use Rattle.model.specs.Types.{Connection, Unicast, Passthru, AllRemote, SomeLocal, Handed, Received, gotEnd, gotAbort}
-use Rattle.model.specs.Types.{Terminator, tNone, tEnd, tAbort, tKeep, Phase, Free, Seek, Open, Wait, Done, Last, Aborted, FinAbort}
-use Rattle.model.specs.Types.{Input, inPhase}
+use Rattle.types.specs.Names.{Connection, Unicast, Passthru, AllRemote, SomeLocal, Handed, Received, gotEnd, gotAbort}
+use Rattle.types.specs.Names.{Terminator, tNone, tEnd, tAbort, tKeep, Phase, Free, Seek, Open, Wait, Done, Last, Aborted, FinAbort}
 
 abbrev pub isFree : Phase → Bool
 isFree Free = true
@@ -102,6 +101,3 @@ receive r (Done c r′) = Done c r′
 receive r (Last c r′) = Last c r′
 receive r (Aborted c) = FinAbort c r
 receive r (FinAbort c r′) = FinAbort c r′
-
-abbrev pub received : Received → Input → Input
-received r y = inPhase y (receive r (y .phase))

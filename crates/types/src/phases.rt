@@ -1,7 +1,7 @@
 // What a net-input's state, a connection and a terminator tell: those tests of specs/Phases.antt that several crates
 // make.
 ghost use mathlib.Core.Path.{_≡_};
-ghost use Rattle.model.specs.Phases.{isFree, splits, isNone};
+ghost use Rattle.types.specs.Phases.{isFree, splits, isNone};
 use crate::Connection;
 use crate::Phase;
 use crate::Terminator;

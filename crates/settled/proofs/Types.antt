@@ -1,15 +1,15 @@
--- Document 01, "How tight the contracts are": of every public function of `model` that its contract settles its outcome
+-- Document 01, "How tight the contracts are": of every public function of `types` that its contract settles its outcome
 -- (specs/Outcomes.antt). Each statement names the function's own contract as the checker makes it. Assumes nothing.
 use mathlib.Core.Path.{refl}
 use Rattle.settled.specs.Outcomes.{Settles}
 use Rattle.settled.proofs.Shown.{settled, same}
-use Rattle.model.proofs.state_number as the-state-number
-use Rattle.model.proofs.connection_number as the-connection-number
-use Rattle.model.proofs.received_number as the-received-number
-use Rattle.model.proofs.terminator_number as the-terminator-number
-use Rattle.model.proofs.is_free as the-is-free
-use Rattle.model.proofs.is_split as the-is-split
-use Rattle.model.proofs.is_none as the-is-none
+use Rattle.types.proofs.state_number as the-state-number
+use Rattle.types.proofs.connection_number as the-connection-number
+use Rattle.types.proofs.received_number as the-received-number
+use Rattle.types.proofs.terminator_number as the-terminator-number
+use Rattle.types.proofs.is_free as the-is-free
+use Rattle.types.proofs.is_split as the-is-split
+use Rattle.types.proofs.is_none as the-is-none
 
 pub state-number-settled : Settles the-state-number.ended (λ M. the-state-number.clauses) (λ M. the-state-number.spec)
 state-number-settled = settled (λ κs a x y p q. refl) (λ κs a x y p q i. (same p q i, x .1))

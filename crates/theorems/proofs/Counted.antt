@@ -10,17 +10,18 @@ use Rattle.base.specs.All.{all, any}
 use Rattle.base.specs.Over.{over}
 use Rattle.base.specs.Sums.{sum, isum, upto}
 use Rattle.sets.specs.Sets.{has, plus, minus, sizeIn, lowest}
-use Rattle.model.specs.Types.{Network, noState}
+use Rattle.theorems.specs.Names.{Network}
+use Rattle.model.specs.Types.{noState}
 use Rattle.model.specs.Network.{networkRefusal}
 use Rattle.model.specs.Range.{inRange}
 use Rattle.model.specs.Router.{firstPort, gatherFrom, gather, spread, orElse, route}
 use Rattle.model.specs.NetInput.{hears, give, occupy, marksOf, seek, inState}
 use Rattle.model.specs.Places.{localOutput, deliver, channelOutput, outQueue, operate, cutAt}
 use Rattle.model.specs.Steps.{netOutput, act, run, enqueue}
 use Rattle.model.specs.Events.{Event, Send, Run, ran, sent, runRefusal, sendRefusal, serviced, acceptedSet, timesAnswered}
 use Rattle.model.specs.Owing.{owed}
 use Rattle.model.specs.Runs.{unplayed, atDraw, playedSingly, inBook, inEntries, bookBytes}
-use Rattle.model.proofs.Examples.{two, at}
+use Rattle.theorems.proofs.Examples.{two, at}
 
 -- three sites in a ring, 0 to 1 to 2 to 0, all by ports 1
 abbrev ring : Network

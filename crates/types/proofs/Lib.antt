@@ -1,0 +1,2 @@
+-- Computed tables of the numbers.
+pub mod NumberCases
