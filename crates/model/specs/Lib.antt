@@ -1,4 +1,5 @@
--- Document 01's definitions, in its order, but for sets (crate sets), draws (draws) and the archive's bytes (archive).
+-- Document 01's definitions, in its order, but for the numbers of its types (crate types), sets (sets), draws (draws) and the
+-- archive's bytes (format).
 pub mod Types
 pub mod Network
 pub mod Range

@@ -1,5 +1,6 @@
 // The types of edition 1 (document 01, "Network and state"), and the document's number for each case of an enum.
-// First variants are the zero ones. The definitions over these types are in specs/, the theorems in proofs/.
+// First variants are the zero ones. specs/ has the numbers and what a state and a terminator tell; document 01's other
+// definitions over these types are in crate model.
 mod phases;
 
 ghost use mathlib.Core.Path.{_≡_};
