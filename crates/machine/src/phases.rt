@@ -1,5 +1,6 @@
 // What a net-input's state and a terminator tell, and places with a field changed.
 ghost use mathlib.Core.Path.{_≡_};
+ghost use Rattle.model.specs.Types as fields;
 ghost use Rattle.model.specs.Types.{noInput, noOutput, inPhase, outTerm, outHead};
 ghost use Rattle.types.specs.Phases as spec;
 ghost use Rattle.model.specs.Places as places;
@@ -80,7 +81,7 @@ pub(crate) fn in_phase(input: Input, phase: Phase) -> Input
 }
 
 pub(crate) fn with_received(received: Received, input: Input) -> Input
-    ensures { λ r. ⌜ r ≡ spec.received received input ⌝ }
+    ensures { λ r. ⌜ r ≡ fields.received received input ⌝ }
 {
     let phase = input.phase;
     let next = receive(received, phase);
