@@ -1,14 +1,15 @@
 #!/bin/sh
 # Makes the corpus (crates/batch/data, to which corpus leads) and its expected outputs (crates/batch/stdout, for the names
-# of crates/batch/stdin) anew under target/, and so the stored cases of crates/singles, and compares them with the committed
+# of crates/batch/stdin) anew under target/ (or the folder FENNQUALO_BUILD), and so the stored cases of crates/singles, and compares them with the committed
 # ones. With --write the committed ones are replaced instead (not corpus/typed, which is typed by hand).
 # It needs cargo; nothing is fetched.
 set -eu
 export LC_ALL=C
 root=$(CDPATH= cd -- "$(dirname -- "$0")/.." && pwd)
-export CARGO_TARGET_DIR="$root/target/reference"
+build=${FENNQUALO_BUILD:-$root/target}
+export CARGO_TARGET_DIR="$build/reference"
 programs="$CARGO_TARGET_DIR/release"
-fresh="$root/target/corpus"
+fresh="$build/corpus"
 names="$root/crates/batch/stdin"
 outputs="$root/crates/batch/stdout"
 singles="$root/crates/singles"
@@ -59,10 +60,10 @@ done
 
 # The committed outputs are those of the second model, for all of them.
 list | cmp -s - "$names" || differs "crates/batch/stdin is not the corpus's names and the odd ones"
-(cd "$root/corpus" && "$programs/batch" --services < "$names") > "$root/target/expected.txt"
-if ! cmp -s "$root/target/expected.txt" "$outputs"; then
+(cd "$root/corpus" && "$programs/batch" --services < "$names") > "$build/expected.txt"
+if ! cmp -s "$build/expected.txt" "$outputs"; then
     differs "crates/batch/stdout is not what the second model prints:"
-    diff "$outputs" "$root/target/expected.txt" | head -n 20 >&2 || true
+    diff "$outputs" "$build/expected.txt" | head -n 20 >&2 || true
 fi
 
 # The stored cases of `singles` are those of the second model.
