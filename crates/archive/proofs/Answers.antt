@@ -4,22 +4,28 @@ use mathlib.Core.Bool.{Bool, true, false, cond}
 use mathlib.Core.List.{List}
 use Prim.Native.Nat.{ℕ, _≤_, _<_}
 use native.Mathlib.Omega.{arith}
-use borrow.Author.Tests.{eq-eqb, ne-eqb, le-leb, lt-leb, lt-ltb, le-ltb}
+use borrow.Author.Tests.{eq-eqb, ne-eqb, le-leb, lt-leb, lt-ltb, le-ltb, leb-true}
+use lib.Dec.{eqb, leb}
 use lib.ListN.{length}
 use Rattle.base.specs.Sizes.{sendsMost}
+use Rattle.base.specs.Bools.{first-of, second-of}
+use Rattle.base.specs.All.{all, all-fails}
+use Rattle.base.specs.Answers.{orNext}
 use Rattle.types.specs.declared.Network.{Network}
 use Rattle.types.specs.declared.Run.{Run}
+use Rattle.model.specs.Types.{sendAt}
 use Rattle.model.specs.Network.{sizesOk, channelsOk, routesOk, networkRefusal}
 use Rattle.model.specs.Runs.{sendsOk, storedRefusal}
 use Rattle.theorems.proofs.Networks.{passed}
 use Rattle.format.specs.declared.Decoded.{Decoded}
 use Rattle.format.specs.declared.Written.{Written}
 use Rattle.format.specs.Format.{lengthOf, encode, networkOf, runOf, noRun}
-use Rattle.archive.specs.Code.{put, Head}
+use Rattle.base.specs.Put.{put, put-front}
+use Rattle.archive.specs.Code.{Head, frontRefusal, sendIn}
 use Rattle.format.specs.Refusals.{headThen, readRefusal, decode, writeRefusal, writeAnswer, written}
 use Rattle.model.specs.Runs.{bodyRefusal}
 use Rattle.archive.proofs.Passed.{head-then}
-use Rattle.archive.proofs.Put.{put-front}
+use Rattle.archive.proofs.SendsLaws.{sends-in}
 
 -- ---- the network's refusal f
 
@@ -55,32 +61,70 @@ module _ (r : Run) (f : ℕ) (e : f ≡ networkRefusal (r .network)) where
   unfolding bodyRefusal
   body-sends h b s = let p = passed (r .network) (sym e ∙ h) in rw (p .1, p .2, s) refl
 
-  -- ---- the run's own refusals
+-- ---- the writer's refusals 3 to 7
 
-  pub stored-sizes : f ≡ 3 → 3 ≡ storedRefusal r
-  unfolding storedRefusal
-  stored-sizes h = rw (sizes-not (r .network) (sym h ∙ e)) refl
+module _ (n : Network) (seed N f : ℕ) (e : f ≡ networkRefusal n) where
+  pub front-sizes : f ≡ 3 → 3 ≡ frontRefusal n seed N
+  unfolding frontRefusal
+  front-sizes h = rw (sizes-not n (sym h ∙ e)) refl
 
   module _ (h : f ≡ 3 → ⊥) where
-    pub stored-seed : r .seed ≡ 0 → 4 ≡ storedRefusal r
-    unfolding storedRefusal
-    stored-seed x = rw (sizes-by (r .network) f e h, eq-eqb (r .seed) 0 x) refl
+    pub front-seed : seed ≡ 0 → 4 ≡ frontRefusal n seed N
+    unfolding frontRefusal
+    front-seed x = rw (sizes-by n f e h, eq-eqb seed 0 x) refl
 
-    module _ (x : r .seed ≡ 0 → ⊥) where
-      pub stored-count : sendsMost < r .count → 5 ≡ storedRefusal r
-      unfolding storedRefusal
-      stored-count n = rw (sizes-by (r .network) f e h, ne-eqb (r .seed) 0 x, lt-leb (r .count) sendsMost n) refl
+    module _ (x : seed ≡ 0 → ⊥) where
+      pub front-count : sendsMost < N → 5 ≡ frontRefusal n seed N
+      unfolding frontRefusal
+      front-count m = rw (sizes-by n f e h, ne-eqb seed 0 x, lt-leb N sendsMost m) refl
 
-      module _ (n : r .count ≤ sendsMost) where
-        stored-body : storedRefusal r ≡ bodyRefusal r
-        unfolding storedRefusal bodyRefusal
-        stored-body = rw (sizes-by (r .network) f e h, ne-eqb (r .seed) 0 x, le-leb (r .count) sendsMost n) refl
+      pub front-joins : N ≤ sendsMost → f ≡ frontRefusal n seed N
+      unfolding frontRefusal networkRefusal
+      front-joins m =
+          let s = sizes-by n f e h in
+          rw (s, ne-eqb seed 0 x, le-leb N sendsMost m) (e ∙ rw s refl)
 
-        pub stored-network : (f ≡ 0 → ⊥) → f ≡ storedRefusal r
-        stored-network k = body-network (sizes-by (r .network) f e h) k ∙ sym stored-body
+-- ---- and what the sends are turned down for
 
-        pub stored-sends : f ≡ 0 → (b : Bool) → sendsOk r ≡ b → cond b 0 8 ≡ storedRefusal r
-        stored-sends k b s = sym (stored-body ∙ body-sends k b s)
+module _ (r : Run) where
+  -- the front's refusal is the run's, and behind a front without one stand the sends
+  front-then : storedRefusal r ≡ orNext (frontRefusal (r .network) (r .seed) (r .count)) (cond (sendsOk r) 0 8)
+  unfolding storedRefusal frontRefusal bodyRefusal
+  front-then =
+      go (sizesOk (r .network)) (eqb (r .seed) 0) (leb (r .count) sendsMost) (channelsOk (r .network)) (routesOk (r .network))
+    where
+      go : (s x m c t : Bool)
+          → cond s (cond x 4 (cond m (cond c (cond t (cond (sendsOk r) 0 8) 7) 6) 5)) 3
+          ≡ orNext (cond s (cond x 4 (cond m (cond c (cond t 0 7) 6) 5)) 3) (cond (sendsOk r) 0 8)
+      go false x m c t = refl
+      go true true m c t = refl
+      go true false false c t = refl
+      go true false true false t = refl
+      go true false true true false = refl
+      go true false true true true = refl
+
+  pub few-sends : frontRefusal (r .network) (r .seed) (r .count) ≡ 0 → r .count ≤ sendsMost
+  unfolding frontRefusal
+  few-sends h =
+      let s = first-of (sizesOk (r .network)) _ 3 0 (λ e. omega arith) h in
+      let x = second-of (eqb (r .seed) 0) 4 _ 0 (λ e. omega arith) (s .1) in
+      leb-true (r .count) sendsMost (first-of (leb (r .count) sendsMost) _ 5 0 (λ e. omega arith) (x .1) .0)
+
+  module _ (f : ℕ) (e : f ≡ frontRefusal (r .network) (r .seed) (r .count)) where
+    pub front-refused : (f ≡ 0 → ⊥) → f ≡ storedRefusal r
+    front-refused h = sym (front-then ∙ (rw (← e, ne-eqb f 0 h) refl))
+
+    sends-then : f ≡ 0 → (b : Bool) → sendsOk r ≡ b → cond b 0 8 ≡ storedRefusal r
+    sends-then h b s = sym (front-then ∙ (rw (← e, eq-eqb f 0 h, s) refl))
+
+    -- the sends tested one after the other: all of them, or one that fails
+    pub sends-tested : f ≡ 0 → (k : ℕ) → k ≡ r .count → all (sendIn (r .network .sites) (r .draws) (sendAt r)) k ≡ true
+        → storedRefusal r ≡ 0
+    sends-tested h k q s = sym (sends-then h true (sym (sends-in r) ∙ (rw q at s)))
+
+    pub sends-failed : f ≡ 0 → (k : ℕ) → k < r .count → sendIn (r .network .sites) (r .draws) (sendAt r) k ≡ false
+        → 8 ≡ storedRefusal r
+    sends-failed h k l s = sends-then h false (sym (sends-in r) ∙ all-fails _ k (r .count) l s)
 
 -- ---- the body of an archive whose network was read
 

@@ -1,28 +1,22 @@
 -- Bytes put into a list from a place on: stores one after the other, parts one after the other, and the turns of the
 -- writer's loops. Assumes nothing.
-use mathlib.Core.Path.{_≡_, refl, sym, ap, ap₂, _∙_}
-use mathlib.Core.List.{List, [], _∷_, _++_, append-assoc, append-nil}
+use mathlib.Core.Path.{_≡_, refl, sym, ap, _∙_}
+use mathlib.Core.List.{List, [], _∷_, _++_}
 use Prim.Native.Nat.{ℕ, suc, _+_, _*_, _≤_}
-use native.Mathlib.Nat.{add-zero}
 use native.Mathlib.Numerals.{add-one}
 use native.Mathlib.Omega.{arith}
-use lib.ListN.{length, getD, set, take, drop, length-append, take-append-drop}
-use lib.Seq.{sets, sets-eq, length-sets, length-take-le, take-at, drop-append-add, drop-drop}
+use lib.ListN.{length, getD, set, length-append}
+use lib.Seq.{sets, sets-eq, length-sets}
 use Rattle.base.specs.Sizes.{portCount}
-use Rattle.base.specs.Answers.{atFront}
+use Rattle.base.specs.Put.{put, put-none, put-append}
 use Rattle.types.specs.declared.StoredSend.{StoredSend}
 use Rattle.types.specs.declared.Run.{Run}
 use Rattle.model.specs.Types.{sendD}
 use Rattle.format.specs.Format.{at, headLength, routesPlace, sendsPlace, lengthOf, wordBytes, sendBytes, each, headWith, headBytes}
 use Rattle.format.specs.Format.{channelBytes, routeBytes, sendsBytes, encode}
-use Rattle.archive.specs.Code.{put}
 use Rattle.archive.proofs.Parts.{length-each, length-head, length-channels, length-routes, length-sends}
 
 -- ---- stores are bytes put there
-
-pub put-front : (out xs : List ℕ) → put out 0 xs ≡ atFront xs out
-unfolding put atFront
-put-front out xs = let e : 0 + length xs ≡ length xs = omega arith in rw e refl
 
 pub put-sets : (out : List ℕ) (p : ℕ) (xs : List ℕ) → p + length xs ≤ length out → sets out p xs ≡ put out p xs
 unfolding put
@@ -44,32 +38,6 @@ put-five out p a b c d e h =
 pub length-put : (out : List ℕ) (p : ℕ) (xs : List ℕ) → p + length xs ≤ length out → length (put out p xs) ≡ length out
 length-put out p xs h = ap length (sym (put-sets out p xs h)) ∙ length-sets out p xs
 
-pub put-none : (out : List ℕ) (p : ℕ) → put out p [] ≡ out
-unfolding put
-put-none out p =
-    ap (λ (k : ℕ). take p out ++ [] ++ drop k out) (add-zero p)
-    ∙ ap (λ (l : List ℕ). l ++ drop p out) (append-nil (take p out))
-    ∙ take-append-drop p out
-
--- ---- one part behind another
-
-pub put-append : (out a : List ℕ) (p q : ℕ) (xs ys : List ℕ) → a ≡ put out p xs → q ≡ p + length xs
-    → q + length ys ≤ length out → put a q ys ≡ put out p (xs ++ ys)
-unfolding put
-put-append out a p q xs ys e f h =
-    let x = take p out ++ xs in
-    let d = drop (p + length xs) out in
-    let lx : length x ≡ q = length-append (take p out) xs ∙ omega (arith, length-take-le p out (omega arith)) in
-    let t : take q (x ++ d) ≡ x = take-at x d q lx in
-    let n : p + length xs + length ys ≡ p + length (xs ++ ys) = omega (arith, length-append xs ys) in
-    let u : drop (q + length ys) (x ++ d) ≡ drop (p + length (xs ++ ys)) out
-    = ap (λ (k : ℕ). drop (k + length ys) (x ++ d)) (sym lx)
-    ∙ drop-append-add x d (length ys)
-    ∙ drop-drop (length ys) (p + length xs) out
-    ∙ ap (λ (k : ℕ). drop k out) n in
-    rw e (ap₂ (λ (l m : List ℕ). l ++ ys ++ m) t u ∙ ap (λ (l : List ℕ). l ++ drop (p + length (xs ++ ys)) out)
-    (append-assoc (take p out) xs ys))
-
 -- ---- a turn of a loop that puts pieces of one width
 
 module _ (w : ℕ) (f : ℕ → List ℕ) (wide : (k : ℕ) → length (f k) ≡ w) where
@@ -78,7 +46,7 @@ module _ (w : ℕ) (f : ℕ → List ℕ) (wide : (k : ℕ) → length (f k) ≡
   unfolding each
   put-turn out a b p k q e g h l =
       let n = length-each w f wide k in
-      g ∙ put-append out a p q (each f k) (f k) e (omega arith) (omega (arith, wide k))
+      g ∙ put-append out a p q (each f k) (f k) (omega arith) e (omega arith)
       ∙ ap (put out p) (ap (each f) (sym (add-one k)))
 
 pub channels-turn : (cs out a : List ℕ) (k : ℕ) → a ≡ put out headLength (channelBytes cs k)
@@ -144,6 +112,6 @@ put-parts r out a b c d n h en ef eb ec ed =
     let le = length-sends (r .sends) (r .count) in
     let l2 = length-append (headBytes r) cs in
     let l3 = length-append (headBytes r ++ cs) rs in
-    let fb = eb ∙ put-append out a 0 headLength (headBytes r) cs ea (omega arith) (omega arith) in
-    let fc = ec ∙ put-append out b 0 (routesPlace S) (headBytes r ++ cs) rs fb (omega arith) (omega arith) in
-    ed ∙ put-append out c 0 (sendsPlace S) (headBytes r ++ cs ++ rs) es fc (omega arith) (omega arith)
+    let fb = eb ∙ put-append out a 0 headLength (headBytes r) cs (omega arith) ea (omega arith) in
+    let fc = ec ∙ put-append out b 0 (routesPlace S) (headBytes r ++ cs) rs (omega arith) fb (omega arith) in
+    ed ∙ put-append out c 0 (sendsPlace S) (headBytes r ++ cs ++ rs) es (omega arith) fc (omega arith)

@@ -2,20 +2,19 @@
 -- the draw number before it. Assumes nothing.
 use mathlib.Core.Path.{_≡_}
 use mathlib.Core.Bool.{Bool, true, cond, _&&_}
-use mathlib.Core.List.{List, _++_}
+use mathlib.Core.List.{List}
 use Prim.Native.Nat.{ℕ, _+_, _-_, _*_, _≤_}
 use lib.Dec.{eqb, ltb, leb}
-use lib.ListN.{length, take, drop}
-use Rattle.base.specs.Sizes.{sitesMost, queueRoom, sendsMost}
+use lib.ListN.{length}
+use Rattle.base.specs.Sizes.{sitesMost, portCount, queueRoom, sendsMost}
+use Rattle.base.specs.Put.{put}
 use Rattle.sets.specs.Sets.{targets}
 use Rattle.types.specs.declared.StoredSend.{StoredSend}
+use Rattle.types.specs.declared.Network.{Network}
 use Rattle.types.specs.declared.Run.{Run}
-use Rattle.model.specs.Network.{sizesOk}
+use Rattle.model.specs.Network.{sizesOk, joinsThen}
 use Rattle.format.specs.Format.{at, word, quad, versionPlace, sitesPlace, countPlace, headLength, version, lengthWith, sendOf, networkOf}
-
--- the list with the bytes xs from place p on; what stands before and behind them stays
-unfoldable pub put : List ℕ → ℕ → List ℕ → List ℕ
-put out p xs = take p out ++ xs ++ drop (p + length xs) out
+use Rattle.format.specs.Format.{routesPlace, headWith, channelBytes, routeBytes}
 
 -- bytes that are not refused 1 to 5
 pub record Head (b : List ℕ) : Type 0 where
@@ -34,6 +33,17 @@ pub record Fit (r : Run) : Type 0 where
   pub square : r .network .sites * r .network .sites ≤ sitesMost * sitesMost
   pub deep : r .network .depth ≤ queueRoom
   pub count : r .count ≤ sendsMost
+
+-- 3 to 7 of the writer, or 0, from the network, the seed and the number of sends
+unfoldable pub frontRefusal : Network → ℕ → ℕ → ℕ
+frontRefusal n seed N = cond (sizesOk n) (cond (eqb seed 0) 4 (cond (leb N sendsMost) (joinsThen n 0) 5)) 3
+
+-- head, channels and routes of an archive of so many bytes, put into a list
+abbrev pub putFront : Network → ℕ → ℕ → ℕ → ℕ → List ℕ → List ℕ
+putFront n seed draws N size out =
+    let head = put out 0 (headWith size (n .sites) (n .tries) (n .depth) seed draws N) in
+    let joined = put head headLength (channelBytes (n .channels) (portCount * n .sites)) in
+    put joined (routesPlace (n .sites)) (routeBytes (n .routes) (n .sites * n .sites))
 
 -- sends as a function of their place: the draw number of the one before place k, 0 before the first
 abbrev pub drawBefore : (ℕ → StoredSend) → ℕ → ℕ

@@ -1,38 +1,32 @@
-// The writer: the run's own refusals, the room, then the parts one after the other, each from its array alone.
+// The writer: the run's own refusals, the room, then the parts one after the other.
 ghost use mathlib.Core.Path.{_≡_};
 ghost use Prim.Native.Nat.{_+_, _*_, _≤_, _<_};
 ghost use lib.ListN.{length};
-ghost use Rattle.base.specs.Sizes.{sitesMost, portCount, sendsMost};
-ghost use Rattle.model.specs.Runs.{storedRefusal};
-ghost use Rattle.format.specs.Format.{headLength, lengthOf, wordBytes, headWith, channelBytes, routeBytes, sendBytes, sendsBytes, encode};
+ghost use Rattle.base.specs.Sizes.{sitesMost, portCount, queueRoom, sendsMost};
+ghost use Rattle.base.specs.Put.{put};
+ghost use Rattle.format.specs.Format.{headLength, lengthWith, wordBytes, headWith, channelBytes, routeBytes, sendBytes};
 ghost use Rattle.format.specs.Refusals.{writeAnswer, written};
-ghost use Rattle.archive.specs.Code.{put, Fit};
+ghost use Rattle.archive.specs.Code.{putFront, frontRefusal};
 use format::Written;
+use types::Network;
 use types::Run;
 use types::StoredSend;
 
-// 3 to 8, or 0.
-fn stored_refusal(run: Run) -> u8
-    ensures { λ r. ⌜ r ≡ storedRefusal run ⌝ }
+// 3 to 7, or 0: all but what the sends themselves are turned down for.
+fn front_refusal(network: Network, seed: u32, count: usize) -> u8
+    ensures { λ r. ⌜ r ≡ frontRefusal network seed count ⌝ }
 {
-    let network = run.network;
     let refusal = checks::network_refusal(network);
     if refusal == 3 {
         return 3;
     }
-    if run.seed == 0 {
+    if seed == 0 {
         return 4;
     }
-    if base::SENDS < run.count {
+    if base::SENDS < count {
         return 5;
     }
-    if refusal != 0 {
-        return refusal;
-    }
-    if crate::sends::sends_ok(run) {
-        return 0;
-    }
-    8
+    refusal
 }
 
 // A number as two bytes from place p on.
@@ -105,61 +99,73 @@ fn put_routes(out: &mut [u8], routes: [u16; base::SITES * base::SITES], p: usize
     }
 }
 
-fn put_sends(out: &mut [u8], sends: [StoredSend; base::SENDS], p: usize, n: usize)
-    requires { ⌜ (n ≤ sendsMost) × (p + 5 * n ≤ length (now out)) ⌝ }
-    ensures { λ _. ⌜ now (out .exit) ≡ put (now (out .entry)) p (sendsBytes sends n) ⌝ }
+// Head, channels and routes; an archive of so many bytes with so many sends.
+fn put_front(network: Network, seed: u32, draws: u16, count: usize, size: usize, out: &mut [u8])
+    requires { ⌜
+        (network .sites ≤ sitesMost) × (network .sites * network .sites ≤ sitesMost * sitesMost) ×
+        (network .depth ≤ queueRoom) × (count ≤ sendsMost) × (lengthWith (network .sites) 0 ≤ length (now out))
+        ⌝ }
+    ensures { λ _. ⌜ now (out .exit) ≡ putFront network seed draws count size (now (out .entry)) ⌝ }
 {
-    let mut k: usize = 0;
-    while k < n {
-        let send = sends[k];
-        put_send(out, p + 5 * k, send);
-        k += 1;
-    }
-}
-
-fn put_run(run: Run, out: &mut [u8])
-    requires { ⌜ Fit run × (lengthOf run ≤ length (now out)) ⌝ }
-    ensures { λ _. ⌜ now (out .exit) ≡ put (now (out .entry)) 0 (encode run) ⌝ }
-{
-    let network = run.network;
     let sites = network.sites;
     let depth = network.depth;
     let tries = network.tries;
     let channels = network.channels;
     let routes = network.routes;
-    let sends = run.sends;
-    let count = run.count;
     let square = sites * sites;
-    let size = crate::size_of(sites, count);
-    put_head(out, size, sites, tries, depth, run.seed, run.draws, count);
+    put_head(out, size, sites, tries, depth, seed, draws, count);
     put_channels(out, channels, base::PORTS * sites);
     put_routes(out, routes, 13 + base::PORTS * sites, square);
-    put_sends(out, sends, 13 + base::PORTS * sites + 2 * square, count);
 }
 
 // Writes the archive of a run at the front of `out`, or nothing where it answers a refusal: 3 to 8, or 14 where the
-// room is below the archive's length.
+// room is below the archive's length. The sends are tested and written where they stand: a function that goes through them
+// has them copied to it first, all 255.
 pub fn write(run: Run, out: &mut [u8]) -> Written
     ensures { λ r. ⌜ (r ≡ writeAnswer run (length (now (out .entry)))) × (now (out .exit) ≡ written run (now (out .entry))) ⌝ }
 {
-    let refusal = stored_refusal(run);
-    if refusal != 0 {
-        return Written {
-            refusal: refusal,
-            length: 0,
-        };
-    }
     let network = run.network;
-    let size = crate::size_of(network.sites, run.count);
-    if out.len() < size {
-        return Written {
-            refusal: 14,
-            length: 0,
-        };
+    let sites = network.sites;
+    let draws = run.draws;
+    let count = run.count;
+    let refusal = front_refusal(network, run.seed, count);
+    if refusal != 0 {
+        return turned_down(refusal);
     }
-    put_run(run, out);
+    let mut last: u16 = 0;
+    let mut k: usize = 0;
+    while k < count {
+        let send = run.sends[k];
+        if crate::sends::send_ok(send, sites, draws, last) {
+            last = send.draw;
+            k += 1;
+        } else {
+            return turned_down(8);
+        }
+    }
+    let size = crate::size_of(sites, count);
+    if out.len() < size {
+        return turned_down(14);
+    }
+    put_front(network, run.seed, draws, count, size, out);
+    let p = 13 + base::PORTS * sites + 2 * (sites * sites);
+    let mut m: usize = 0;
+    while m < count {
+        let send = run.sends[m];
+        put_send(out, p + 5 * m, send);
+        m += 1;
+    }
     Written {
         refusal: 0,
         length: size,
+    }
+}
+
+fn turned_down(refusal: u8) -> Written
+    ensures { λ r. ⌜ r ≡ record { refusal = refusal; length = 0 } ⌝ }
+{
+    Written {
+        refusal: refusal,
+        length: 0,
     }
 }

@@ -5,5 +5,7 @@ pub mod Answers
 pub mod All
 pub mod Over
 pub mod Rows
+pub mod Flat
 pub mod Lists
 pub mod Sums
+pub mod Put

@@ -4,7 +4,6 @@ use mathlib.Core.Path.{_≡_, refl, sym, ap, _∙_}
 use mathlib.Core.Bool.{Bool, true, false, not, _&&_, _||_, and-true}
 use mathlib.Core.List.{List}
 use Prim.Native.Nat.{ℕ, zero, suc, _+_, _*_, _≤_, _<_}
-use native.Mathlib.Nat.{mul-le-mul, suc-mul}
 use native.Mathlib.Omega.{arith}
 use borrow.Author.Tests.{eq-eqb, ne-eqb, lt-leb, lt-ltb, le-ltb, eqb-true, eqb-false, leb-true}
 use lib.Dec.{eqb, ltb, leb}
@@ -29,10 +28,6 @@ sizes-few n h =
     (leb-true _ _ (d .1), leb-true _ _ (a .1))
 
 -- ---- routes
-
--- the place of a route
-pub place-below : (s t n m : ℕ) → s < n → t < n → n ≤ m → s * n + t < m * m
-place-below s t n m hs ht hn = let a : suc s * n ≤ m * m = mul-le-mul (omega arith) hn in omega (arith, suc-mul s n)
 
 -- a digit that may stand in a list is one that the model's test takes
 digit-ok : (n : Network) (s p : ℕ) → getD (portsOf n s) p false ≡ portOk n s p

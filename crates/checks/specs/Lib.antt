@@ -1,2 +1,3 @@
 -- What the functions of this crate compute on the way to the model's tests.
 pub mod Network
+pub mod Range

@@ -6,4 +6,5 @@ mod send;
 pub use network::network_refusal;
 pub use range::event_refusal;
 pub use range::is_in_range;
+pub use range::place_ok;
 pub use send::send_fault;

@@ -6,22 +6,14 @@ mod places;
 
 ghost use mathlib.Core.Path.{_≡_};
 ghost use mathlib.Core.Bool.{_&&_};
-ghost use lib.Dec.{eqb};
-ghost use lib.ListN.{getD};
-ghost use Rattle.base.specs.Sizes.{inputCount, outputCount, queueRoom};
-ghost use Rattle.base.specs.All.{all};
-ghost use Rattle.model.specs.Types.{inputD, outOf, inEntry, outEntry};
 ghost use Rattle.model.specs.Range as spec;
 ghost use Rattle.model.specs.Events.{refusalThen};
+ghost use Rattle.checks.specs.Range.{netPlacesOk};
 use crate::network::network_refusal;
 use crate::range::places::in_entry_ok;
 use crate::range::places::input_ok;
 use crate::range::places::out_entry_ok;
 use crate::range::places::output_ok;
-use crate::range::places::zero_in_entry;
-use crate::range::places::zero_input;
-use crate::range::places::zero_out_entry;
-use crate::range::places::zero_output;
 use types::InQueue;
 use types::Input;
 use types::Network;
@@ -30,67 +22,49 @@ use types::Output;
 use types::Site;
 use types::State;
 
-fn inputs_ok(
+// The net-inputs and the net-outputs of a site: five of each.
+fn net_places_ok(
     sites: usize,
     limit: u8,
     counter: u8,
-    outputs: [Output; base::OUTPUTS],
     inputs: [Input; base::INPUTS],
+    outputs: [Output; base::OUTPUTS],
 ) -> bool
-    ensures { λ r. ⌜ r ≡ all (λ i. spec.inputOk sites limit counter outputs i (getD inputs i inputD)) inputCount ⌝ }
+    ensures { λ r. ⌜ r ≡ netPlacesOk sites limit counter inputs outputs ⌝ }
 {
     let mut ok = true;
     let mut i: usize = 0;
     while i < base::INPUTS {
         let input = inputs[i];
-        ok = ok & input_ok(sites, limit, counter, outputs, i, input);
+        let output = outputs[i];
+        ok = ok
+            & (input_ok(sites, limit, counter, outputs, i, input)
+                & output_ok(sites, counter, i, output));
         i += 1;
     }
     ok
 }
 
-fn outputs_ok(sites: usize, counter: u8, outputs: [Output; base::OUTPUTS]) -> bool
-    ensures { λ r. ⌜ r ≡ all (λ j. spec.outputOk sites counter j (outOf outputs j)) outputCount ⌝ }
+// The two queues of a site: eight places in each.
+fn queues_ok(sites: usize, depth: usize, counter: u8, outgoing: OutQueue, incoming: InQueue) -> bool
+    ensures { λ r. ⌜ r ≡ spec.outQueueOk sites depth counter outgoing && spec.inQueueOk sites depth counter incoming ⌝ }
 {
-    let mut ok = true;
-    let mut j: usize = 0;
-    while j < base::OUTPUTS {
-        let output = outputs[j];
-        ok = ok & output_ok(sites, counter, j, output);
-        j += 1;
-    }
-    ok
-}
-
-fn out_queue_ok(sites: usize, depth: usize, counter: u8, queue: OutQueue) -> bool
-    ensures { λ r. ⌜ r ≡ spec.outQueueOk sites depth counter queue ⌝ }
-{
-    let count = queue.count;
+    let leaving = outgoing.count;
+    let arrived = incoming.count;
     let mut ok = true;
     let mut m: usize = 0;
     while m < base::QUEUE {
-        let entry = queue.entries[m];
-        ok = ok & out_entry_ok(sites, counter, count, m, entry);
+        let first = outgoing.entries[m];
+        let second = incoming.entries[m];
+        ok = ok
+            & (out_entry_ok(sites, counter, leaving, m, first)
+                & in_entry_ok(sites, counter, arrived, m, second));
         m += 1;
     }
-    (count <= depth) & ok
+    ((leaving <= depth) & (arrived <= depth)) & ok
 }
 
-fn in_queue_ok(sites: usize, depth: usize, counter: u8, queue: InQueue) -> bool
-    ensures { λ r. ⌜ r ≡ spec.inQueueOk sites depth counter queue ⌝ }
-{
-    let count = queue.count;
-    let mut ok = true;
-    let mut m: usize = 0;
-    while m < base::QUEUE {
-        let entry = queue.entries[m];
-        ok = ok & in_entry_ok(sites, counter, count, m, entry);
-        m += 1;
-    }
-    (count <= depth) & ok
-}
-
-// A site of the network.
+// A site of the network. With T, D and counter 0 it is the test of room beyond S.
 fn site_ok(sites: usize, limit: u8, depth: usize, counter: u8, site: Site) -> bool
     ensures { λ r. ⌜ r ≡ spec.siteOk sites limit depth counter site ⌝ }
 {
@@ -98,85 +72,18 @@ fn site_ok(sites: usize, limit: u8, depth: usize, counter: u8, site: Site) -> bo
     let outputs = site.outputs;
     let outgoing = site.outgoing;
     let incoming = site.incoming;
-    inputs_ok(sites, limit, counter, outputs, inputs)
-        & outputs_ok(sites, counter, outputs)
-        & out_queue_ok(sites, depth, counter, outgoing)
-        & in_queue_ok(sites, depth, counter, incoming)
+    net_places_ok(sites, limit, counter, inputs, outputs)
+        & queues_ok(sites, depth, counter, outgoing, incoming)
 }
 
-fn zero_inputs(inputs: [Input; base::INPUTS]) -> bool
-    ensures { λ r. ⌜ r ≡ all (λ i. spec.zeroInput (getD inputs i inputD)) inputCount ⌝ }
-{
-    let mut ok = true;
-    let mut i: usize = 0;
-    while i < base::INPUTS {
-        let input = inputs[i];
-        ok = ok & zero_input(input);
-        i += 1;
-    }
-    ok
-}
-
-fn zero_outputs(outputs: [Output; base::OUTPUTS]) -> bool
-    ensures { λ r. ⌜ r ≡ all (λ j. spec.zeroOutput (outOf outputs j)) outputCount ⌝ }
-{
-    let mut ok = true;
-    let mut j: usize = 0;
-    while j < base::OUTPUTS {
-        let output = outputs[j];
-        ok = ok & zero_output(output);
-        j += 1;
-    }
-    ok
-}
-
-fn zero_out_queue(queue: OutQueue) -> bool
-    ensures { λ r. ⌜ r ≡ eqb (queue .count) 0 && all (λ m. spec.zeroOutEntry (outEntry queue m)) queueRoom ⌝ }
-{
-    let count = queue.count;
-    let mut ok = true;
-    let mut m: usize = 0;
-    while m < base::QUEUE {
-        let entry = queue.entries[m];
-        ok = ok & zero_out_entry(entry);
-        m += 1;
-    }
-    (count == 0) & ok
-}
-
-fn zero_in_queue(queue: InQueue) -> bool
-    ensures { λ r. ⌜ r ≡ eqb (queue .count) 0 && all (λ m. spec.zeroInEntry (inEntry queue m)) queueRoom ⌝ }
-{
-    let count = queue.count;
-    let mut ok = true;
-    let mut m: usize = 0;
-    while m < base::QUEUE {
-        let entry = queue.entries[m];
-        ok = ok & zero_in_entry(entry);
-        m += 1;
-    }
-    (count == 0) & ok
-}
-
-// Room beyond S.
-fn zero_site(site: Site) -> bool
-    ensures { λ r. ⌜ r ≡ spec.zeroSite site ⌝ }
-{
-    let inputs = site.inputs;
-    let outputs = site.outputs;
-    let outgoing = site.outgoing;
-    let incoming = site.incoming;
-    zero_inputs(inputs) & zero_outputs(outputs) & zero_out_queue(outgoing) & zero_in_queue(incoming)
-}
-
-// Place s of the sites: a site of the network, or room beyond S.
-fn place_ok(sites: usize, limit: u8, depth: usize, counter: u8, s: usize, site: Site) -> bool
-    ensures { λ r. ⌜ r ≡ spec.placeOk sites limit depth counter s site ⌝ }
+// Place s of a state's sites, with S, T, D and the counter: a site of the network, or room beyond S.
+pub fn place_ok(sites: usize, tries: u8, depth: usize, counter: u8, s: usize, site: Site) -> bool
+    ensures { λ r. ⌜ r ≡ spec.placeOk sites tries depth counter s site ⌝ }
 {
     if s < sites {
-        return site_ok(sites, limit, depth, counter, site);
+        return site_ok(sites, tries, depth, counter, site);
     }
-    zero_site(site)
+    site_ok(sites, 0, 0, 0, site)
 }
 
 // Whether the state is in range for the network.

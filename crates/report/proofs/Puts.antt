@@ -1,44 +1,30 @@
 -- Bytes put into a room one behind the other. Assumes nothing.
-use mathlib.Core.Path.{_≡_, refl, sym, ap, ap₂, _∙_}
+use mathlib.Core.Path.{_≡_, refl, sym, ap, _∙_}
 use mathlib.Core.List.{List, [], _++_, append-assoc}
 use Prim.Native.Nat.{ℕ, _+_, _≤_}
 use native.Mathlib.Nat.{zero-add}
 use native.Mathlib.Numerals.{add-one}
 use native.Mathlib.Omega.{arith}
-use lib.ListN.{length, take, drop, length-append}
-use lib.Seq.{length-take-le, take-at, drop-append-add, drop-drop}
+use lib.ListN.{length, drop, length-append}
 use Rattle.io.specs.Counts.{Counts}
 use Rattle.io.proofs.Counting.{counts}
 use Rattle.report.specs.declared.Lines.{Lines}
 use Rattle.base.specs.Answers.{atFront}
+use Rattle.base.specs.Put.{put-none as none, put-front, put-append}
 use Rattle.report.specs.Text.{lineAt, serviceLines, fitting, linesAnswer, linesAfter}
 use Rattle.report.specs.Put.{Put}
 
 -- nothing is put
 pub put-none : (room : List ℕ) → Put room 0 [] 0 room
-put-none room = record { place = refl; bytes = refl }
+put-none room = record { place = refl; bytes = sym (none room 0) }
 
 -- one text behind another
 pub then : {room mid after xs ys : List ℕ} {p q r : ℕ} → p ≤ length room → Put room p xs q mid → Put mid q ys r after
     → Put room p (xs ++ ys) r after
-then {room} {mid} {after} {xs} {ys} {p} {q} {r} h a b =
-    let x = take p room ++ xs in
-    let d = drop (p + length xs) room in
-    let lx : length x ≡ q = length-append (take p room) xs ∙ omega (arith, length-take-le p room h, a .place) in
-    let n : p + length xs + length ys ≡ p + length (xs ++ ys) = omega (arith, length-append xs ys) in
-    let t : take q (x ++ d) ≡ x = take-at x d q lx in
-    let u : drop (q + length ys) (x ++ d) ≡ drop (p + length (xs ++ ys)) room
-    = ap (λ (k : ℕ). drop (k + length ys) (x ++ d)) (sym lx)
-    ∙ drop-append-add x d (length ys)
-    ∙ drop-drop (length ys) (p + length xs) room
-    ∙ ap (λ (k : ℕ). drop k room) n in
+then {room} {mid} {xs = xs} {ys = ys} {p = p} {q = q} h a b =
     record {
-      place = b .place ∙ omega (arith, a .place, n);
-      bytes =
-          b .bytes
-          ∙ ap (λ (l : List ℕ). take q l ++ ys ++ drop (q + length ys) l) (a .bytes)
-          ∙ ap₂ (λ (l m : List ℕ). l ++ ys ++ m) t u
-          ∙ ap (λ (l : List ℕ). l ++ drop (p + length (xs ++ ys)) room) (append-assoc (take p room) xs ys);
+      place = b .place ∙ omega (arith, a .place, length-append xs ys);
+      bytes = b .bytes ∙ put-append room mid p q xs ys h (a .bytes) (a .place);
     }
 
 -- the same, where the second is two texts
@@ -53,9 +39,7 @@ behind-two xs ys a = a .place ∙ omega (arith, length-append xs ys)
 
 -- what is put from place 0 on stands at the front
 pub at-front : {room after xs : List ℕ} {r : ℕ} → Put room 0 xs r after → (r ≡ length xs) × (after ≡ atFront xs room)
-unfolding atFront
-at-front {room} {after} {xs} {r} a =
-    (a .place ∙ zero-add (length xs), a .bytes ∙ ap (λ (k : ℕ). xs ++ drop k room) (zero-add (length xs)))
+at-front {room} {xs = xs} a = (a .place ∙ zero-add (length xs), a .bytes ∙ put-front room xs)
 
 -- and can be lent on
 pub front-counts : (xs room after : List ℕ) (r : ℕ) → r ≡ length xs → after ≡ atFront xs room → Counts r after

@@ -32,45 +32,41 @@ fn short_of(n: u64) -> u16
     (n % 65536) as u16
 }
 
-fn channels_of(room: &[u64; 256]) -> [u8; 64] {
+// The network from S, T, D, the numbers of its channels and the numbers of its routes: four routes for each channel.
+fn network_of(
+    sites: u64,
+    tries: u64,
+    depth: u64,
+    channel: &[u64; 256],
+    route: &[u64; 256],
+) -> Network {
     let mut channels = [0u8; 64];
-    let mut i: usize = 0;
-    while i < 64 {
-        channels[i] = site::byte_of(room[i]);
-        i += 1;
-    }
-    channels
-}
-
-fn routes_of(room: &[u64; 256]) -> [u16; 256] {
     let mut routes = [0u16; 256];
     let mut i: usize = 0;
     while i < 256 {
-        routes[i] = short_of(room[i]);
+        channels[i / 4] = site::byte_of(channel[i / 4]);
+        routes[i] = short_of(route[i]);
         i += 1;
     }
-    routes
+    Network {
+        sites: sites as usize,
+        depth: depth as usize,
+        tries: site::byte_of(tries),
+        channels,
+        routes,
+    }
 }
 
 fn read_network(piece: &mut [u8; PIECE], from: Cursor) -> ReadNetwork {
     let sites = text::number(piece, from);
     let tries = text::number(piece, sites.cursor);
     let depth = text::number(piece, tries.cursor);
-    let mut room = [0u64; 256];
-    let behind = text::filled(piece, depth.cursor, &mut room);
-    let channels = channels_of(&room);
-    let cursor = text::filled(piece, behind, &mut room);
-    let routes = routes_of(&room);
-    ReadNetwork {
-        network: Network {
-            sites: sites.value as usize,
-            depth: depth.value as usize,
-            tries: site::byte_of(tries.value),
-            channels,
-            routes,
-        },
-        cursor,
-    }
+    let mut channels = [0u64; 256];
+    let behind = text::filled(piece, depth.cursor, &mut channels);
+    let mut routes = [0u64; 256];
+    let cursor = text::filled(piece, behind, &mut routes);
+    let network = network_of(sites.value, tries.value, depth.value, &channels, &routes);
+    ReadNetwork { network, cursor }
 }
 
 fn read_state(piece: &mut [u8; PIECE], from: Cursor) -> ReadState {

@@ -105,22 +105,15 @@ fn put_in_entry(n: &mut [u64; NUMBERS], at: usize, x: InEntry)
     n[at + 2] = wide(types::terminator_number(terminator));
 }
 
-fn put_out_queue(n: &mut [u64; NUMBERS], queue: OutQueue) {
-    let entries = queue.entries;
-    n[OUT_QUEUE] = queue.count as u64;
+fn put_queues(n: &mut [u64; NUMBERS], outgoing: OutQueue, incoming: InQueue) {
+    let leaving = outgoing.entries;
+    let arrived = incoming.entries;
+    n[OUT_QUEUE] = outgoing.count as u64;
+    n[IN_QUEUE] = incoming.count as u64;
     let mut m: usize = 0;
     while m < base::QUEUE {
-        put_out_entry(n, OUT_QUEUE + 1 + 3 * m, entries[m]);
-        m += 1;
-    }
-}
-
-fn put_in_queue(n: &mut [u64; NUMBERS], queue: InQueue) {
-    let entries = queue.entries;
-    n[IN_QUEUE] = queue.count as u64;
-    let mut m: usize = 0;
-    while m < base::QUEUE {
-        put_in_entry(n, IN_QUEUE + 1 + 3 * m, entries[m]);
+        put_out_entry(n, OUT_QUEUE + 1 + 3 * m, leaving[m]);
+        put_in_entry(n, IN_QUEUE + 1 + 3 * m, arrived[m]);
         m += 1;
     }
 }
@@ -135,7 +128,6 @@ pub(crate) fn of_site(site: Site) -> [u64; NUMBERS] {
         put_output(&mut n, 55 + 6 * i, outputs[i]);
         i += 1;
     }
-    put_out_queue(&mut n, site.outgoing);
-    put_in_queue(&mut n, site.incoming);
+    put_queues(&mut n, site.outgoing, site.incoming);
     n
 }

@@ -4,7 +4,7 @@ use Prim.Native.Nat.{ℕ, zero, suc, _+_, _-_, _*_, _^_, _≤_, _<_}
 use mathlib.Core.Path.{_≡_, refl, sym, ap, ap₂, _∙_, fun-ext}
 use mathlib.Core.List.{List}
 use mathlib.Core.Bool.{Bool, true, false, cond, not, _&&_, _||_, and-false}
-use native.Mathlib.Nat.{mul-le-mul, suc-mul, le-refl}
+use native.Mathlib.Nat.{le-refl}
 use native.Mathlib.Omega.{arith}
 use borrow.Author.Tests.{ltb-true, leb-true, eqb-false}
 use lib.Dec.{eqb, ltb, leb}
@@ -12,6 +12,7 @@ use lib.ListN.{getD}
 use Rattle.base.specs.Sizes.{sitesMost, inputCount, portCount, noChannel}
 use Rattle.base.specs.Bools.{cond-ok, either-way}
 use Rattle.base.specs.All.{all, all-same}
+use Rattle.base.specs.Flat.{place-below}
 use Rattle.sets.specs.Sets.{minus, size, lowest}
 use Rattle.sets.proofs.Laws.{minus-le}
 use Rattle.sets.proofs.LawsLowest.{lowest-lt}
@@ -75,9 +76,6 @@ act-on n s x far code =
 
 -- ---- a network with other channels that agree on the places below 4S
 
-place-below : (s t S : ℕ) → s < S → t < S → s * S + t < S * S
-place-below s t S hs ht = let a : suc s * S ≤ S * S = mul-le-mul (omega arith) (le-refl S) in omega (arith, suc-mul s S)
-
 module _ (n : Network) (cs rs : List ℕ) (hc : (m : ℕ) → m < portCount * n .sites → getD cs m 0 ≡ channelByte n m) where
   abbrev pub other : Network
   other = record { sites = n .sites; depth = n .depth; tries = n .tries; channels = cs; routes = rs }
@@ -110,7 +108,7 @@ module _ (n : Network) (cs rs : List ℕ) (hc : (m : ℕ) → m < portCount * n 
 
   module _ (hr : (m : ℕ) → m < n .sites * n .sites → getD rs m 0 ≡ getD (n .routes) m 0) where
     route-at : (s t : ℕ) → s < n .sites → t < n .sites → routeOf other s t ≡ routeOf n s t
-    route-at s t hs ht = hr (s * n .sites + t) (place-below s t (n .sites) hs ht)
+    route-at s t hs ht = hr (s * n .sites + t) (place-below s t (n .sites) (n .sites) hs ht (le-refl (n .sites)))
 
     route-same : (s t : ℕ) → s < n .sites → t < n .sites → routeOk other s t ≡ routeOk n s t
     route-same s t hs ht =

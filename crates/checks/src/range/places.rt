@@ -1,11 +1,13 @@
-// The clauses of "in range" about one place: a net-input, a net-output, an entry of a queue. Tests are joined without a
-// branch, in the order of the model's definitions; no value of the state is used as an index.
+// The clauses of "in range" about one place: a net-input, a net-output, an entry of a queue. A place is tested as one in use or
+// as an empty one; the tests of either are joined without a branch, in the order of the model's definitions. No value of
+// the state is used as an index.
 ghost use mathlib.Core.Path.{_≡_};
 ghost use Rattle.base.specs.Sizes.{outputCount};
 ghost use Rattle.base.specs.Bools.{implies};
 ghost use Rattle.base.specs.All.{all};
 ghost use Rattle.model.specs.Types.{mark, outOf};
 ghost use Rattle.model.specs.Range as spec;
+ghost use Rattle.checks.specs.Range.{connectionOk};
 use crate::range::phases::is_aborting;
 use crate::range::phases::is_connected;
 use crate::range::phases::is_keep;
@@ -14,6 +16,7 @@ use types::InEntry;
 use types::Input;
 use types::OutEntry;
 use types::Output;
+use types::Phase;
 
 // The packet below the counter, the set not empty and within S.
 fn tag_ok(sites: usize, counter: u8, packet: u8, set: u64) -> bool
@@ -25,28 +28,16 @@ fn tag_ok(sites: usize, counter: u8, packet: u8, set: u64) -> bool
 fn any_mark(marks: [bool; base::OUTPUTS]) -> bool
     ensures { λ r. ⌜ r ≡ spec.anyMark marks ⌝ }
 {
-    let mut found = false;
-    let mut j: usize = 0;
-    while j < base::OUTPUTS {
-        found = found | marks[j];
-        j += 1;
-    }
-    found
+    marks[0] | marks[1] | marks[2] | marks[3] | marks[4]
 }
 
 fn any_remote(marks: [bool; base::OUTPUTS]) -> bool
     ensures { λ r. ⌜ r ≡ spec.anyRemote marks ⌝ }
 {
-    let mut found = false;
-    let mut j: usize = 0;
-    while j < base::PORTS {
-        found = found | marks[j + 1];
-        j += 1;
-    }
-    found
+    marks[1] | marks[2] | marks[3] | marks[4]
 }
 
-pub(crate) fn zero_input(input: Input) -> bool
+fn zero_input(input: Input) -> bool
     ensures { λ r. ⌜ r ≡ spec.zeroInput input ⌝ }
 {
     let phase = input.phase;
@@ -58,7 +49,7 @@ pub(crate) fn zero_input(input: Input) -> bool
         & (input.tries == 0)
 }
 
-pub(crate) fn zero_output(output: Output) -> bool
+fn zero_output(output: Output) -> bool
     ensures { λ r. ⌜ r ≡ spec.zeroOutput output ⌝ }
 {
     let terminator = output.terminator;
@@ -70,13 +61,13 @@ pub(crate) fn zero_output(output: Output) -> bool
         & types::is_none(terminator)
 }
 
-pub(crate) fn zero_out_entry(entry: OutEntry) -> bool
+fn zero_out_entry(entry: OutEntry) -> bool
     ensures { λ r. ⌜ r ≡ spec.zeroOutEntry entry ⌝ }
 {
     (entry.packet == 0) & (entry.set == 0) & !entry.started
 }
 
-pub(crate) fn zero_in_entry(entry: InEntry) -> bool
+fn zero_in_entry(entry: InEntry) -> bool
     ensures { λ r. ⌜ r ≡ spec.zeroInEntry entry ⌝ }
 {
     let terminator = entry.terminator;
@@ -105,6 +96,24 @@ fn marks_ok(outputs: [Output; base::OUTPUTS], i: usize, marks: [bool; base::OUTP
     ok
 }
 
+// The marks of net-input i, which is in this state, with the outputs of its site.
+fn connection_ok(
+    outputs: [Output; base::OUTPUTS],
+    i: usize,
+    phase: Phase,
+    marks: [bool; base::OUTPUTS],
+) -> bool
+    ensures { λ r. ⌜ r ≡ connectionOk outputs i phase marks ⌝ }
+{
+    let any = any_mark(marks);
+    let connected = is_connected(phase);
+    let splitting = is_splitting(phase);
+    ((any & connected) | (!any & !connected))
+        & marks_ok(outputs, i, marks)
+        & (!splitting | marks[0])
+        & (!is_aborting(phase) | (splitting & !any_remote(marks)))
+}
+
 // Net-input i, with the outputs of its site.
 pub(crate) fn input_ok(
     sites: usize,
@@ -118,16 +127,12 @@ pub(crate) fn input_ok(
 {
     let phase = input.phase;
     let marks = input.outputs;
-    let free = types::is_free(phase);
-    let any = any_mark(marks);
-    let connected = is_connected(phase);
-    let splitting = is_splitting(phase);
+    if types::is_free(phase) {
+        return zero_input(input);
+    }
     (input.tries <= limit)
-        & ((free & zero_input(input)) | (!free & tag_ok(sites, counter, input.packet, input.set)))
-        & ((any & connected) | (!any & !connected))
-        & marks_ok(outputs, i, marks)
-        & (!splitting | marks[0])
-        & (!is_aborting(phase) | (splitting & !any_remote(marks)))
+        & tag_ok(sites, counter, input.packet, input.set)
+        & connection_ok(outputs, i, phase, marks)
 }
 
 // Net-output j.
@@ -135,10 +140,12 @@ pub(crate) fn output_ok(sites: usize, counter: u8, j: usize, output: Output) -> 
     ensures { λ r. ⌜ r ≡ spec.outputOk sites counter j output ⌝ }
 {
     let terminator = output.terminator;
-    let full = tag_ok(sites, counter, output.packet, output.set)
-        & (base::wide(output.input) < base::INPUTS)
-        & (!is_keep(terminator) | (j == 0));
-    (output.used & full) | (!output.used & zero_output(output))
+    if output.used {
+        return tag_ok(sites, counter, output.packet, output.set)
+            & (base::wide(output.input) < base::INPUTS)
+            & (!is_keep(terminator) | (j == 0));
+    }
+    zero_output(output)
 }
 
 // Entry m of an out-queue that has `count`.
@@ -151,15 +158,18 @@ pub(crate) fn out_entry_ok(
 ) -> bool
     ensures { λ r. ⌜ r ≡ spec.outEntryOk sites counter count m entry ⌝ }
 {
-    let held = m < count;
-    let full = tag_ok(sites, counter, entry.packet, entry.set) & (!entry.started | (m == 0));
-    (held & full) | (!held & zero_out_entry(entry))
+    if m < count {
+        return tag_ok(sites, counter, entry.packet, entry.set) & (!entry.started | (m == 0));
+    }
+    zero_out_entry(entry)
 }
 
 // Entry m of an in-queue that has `count`.
 pub(crate) fn in_entry_ok(sites: usize, counter: u8, count: usize, m: usize, entry: InEntry) -> bool
     ensures { λ r. ⌜ r ≡ spec.inEntryOk sites counter count m entry ⌝ }
 {
-    let held = m < count;
-    (held & tag_ok(sites, counter, entry.packet, entry.set)) | (!held & zero_in_entry(entry))
+    if m < count {
+        return tag_ok(sites, counter, entry.packet, entry.set);
+    }
+    zero_in_entry(entry)
 }

@@ -20,7 +20,9 @@ network-refusal-requires : tie.Need-network-refusal-requires
 network-refusal-requires c κs = search needs
 
 returns : tie.Need-returns
-returns c = archive-network _ (c .before .before .before .pre .0) _ (c .before .before .before .pre .1) _ (c .before .network-refusal .ensures) (c .if1 .taken)
+returns c =
+    let pre = c .before .before .before .pre in
+    archive-network _ (pre .0) _ (pre .1) _ (c .before .network-refusal .ensures) (c .if1 .taken)
 
 shared-slice-read-wide : tie.Need-shared-slice-read-wide
 shared-slice-read-wide c = search needs
@@ -44,26 +46,67 @@ add-sends-fit : tie.Need-add-sends-fit
 add-sends-fit c = search needs
 
 mul-sends-fit-2 : tie.Need-mul-sends-fit-2
-mul-sends-fit-2 c = let q = ap (λ (x : ℕ). x * x) (c .before .before .before .wide .ensures .0) in omega (arith, c .before .before .before .before .before .before .before .before .pre .0 .square)
+mul-sends-fit-2 c =
+    let past = c .before .before .before .before .before .before in
+    let wide = c .before .before .before .wide in
+    let pre = past .before .before .pre in
+    let q = ap (λ (x : ℕ). x * x) (wide .ensures .0) in omega (arith, pre .0 .square)
 
 mul-sends-fit-3 : tie.Need-mul-sends-fit-3
-mul-sends-fit-3 c = let q = ap (λ (x : ℕ). x * x) (c .before .before .before .wide .ensures .0) in omega (arith, c .before .before .before .before .before .before .before .before .pre .0 .square)
+mul-sends-fit-3 c =
+    let past = c .before .before .before .before .before .before in
+    let wide = c .before .before .before .wide in
+    let pre = past .before .before .pre in
+    let q = ap (λ (x : ℕ). x * x) (wide .ensures .0) in omega (arith, pre .0 .square)
 
 add-sends-fit-2 : tie.Need-add-sends-fit-2
-add-sends-fit-2 c = let q = ap (λ (x : ℕ). x * x) (c .before .before .before .wide .ensures .0) in omega (arith, c .before .before .before .before .before .before .before .before .pre .0 .square, c .before .before .before .before .before .before .before .before .pre .0 .few, c .before .before .before .wide .ensures .0)
+add-sends-fit-2 c =
+    let past = c .before .before .before .before .before .before in
+    let wide = c .before .before .before .wide in
+    let pre = past .before .before .pre in
+    let q = ap (λ (x : ℕ). x * x) (wide .ensures .0) in omega (arith, pre .0 .square, pre .0 .few, wide .ensures .0)
 
 sends-fit-requires : tie.Need-sends-fit-requires
-sends-fit-requires c κs = let q = ap (λ (x : ℕ). x * x) (c .before .before .before .wide .ensures .0) in (omega (arith, c .before .wide2 .ensures .1), omega (arith, c .before .before .before .before .before .before .before .before .pre .0 .size, c .before .before .before .wide .ensures .0, c .before .wide2 .ensures .0))
+sends-fit-requires c κs =
+    let past = c .before .before .before .before .before .before in
+    let wide = c .before .before .before .wide in
+    let pre = past .before .before .pre in
+    let q = ap (λ (x : ℕ). x * x) (wide .ensures .0) in (
+      omega (arith, c .before .wide2 .ensures .1),
+      omega (arith, pre .0 .size, wide .ensures .0, c .before .wide2 .ensures .0),
+    )
 
 returns-2 : tie.Need-returns-2
 returns-2 c =
-    let s = sends-read (c .before .before .before .before .before .before .before .before .before .before .args .b .now) (c .before .before .before .before .before .wide .result) (c .before .before .before .wide2 .result) (c .before .before .word-at .result) (c .before .before .before .before .before .wide .ensures .0) (c .before .before .before .wide2 .ensures .0) (c .before .before .word-at .ensures) (omega (arith, c .before .before .before .wide2 .ensures .1)) in
-    archive-sends _ (c .before .before .before .before .before .before .before .before .before .before .pre .0) _ (c .before .before .before .before .before .before .before .before .before .before .pre .1) _ (c .before .before .before .before .before .before .before .before .network-refusal .ensures) (c .before .before .before .before .before .before .before .if1 .left) true (sym s ∙ sym (c .before .sends-fit .ensures) ∙ c .if2 .taken)
+    let past = c .before .before .before .before .before .before in
+    let word-at = c .before .before .word-at in
+    let wide2 = c .before .before .before .wide2 in
+    let wide = c .before .before .before .before .before .wide in
+    let if1 = past .before .if1 in
+    let network-refusal = past .before .before .network-refusal in
+    let args = past .before .before .before .before .args in
+    let pre = past .before .before .before .before .pre in
+    let s =
+    sends-read (args .b .now) (wide .result) (wide2 .result) (word-at .result) (wide .ensures .0)
+    (wide2 .ensures .0) (word-at .ensures) (omega (arith, wide2 .ensures .1)) in
+    archive-sends _ (pre .0) _ (pre .1) _ (network-refusal .ensures) (if1 .left) true
+    (sym s ∙ sym (c .before .sends-fit .ensures) ∙ c .if2 .taken)
 
 returns-3 : tie.Need-returns-3
 returns-3 c =
-    let s = sends-read (c .before .before .before .before .before .before .before .before .before .before .args .b .now) (c .before .before .before .before .before .wide .result) (c .before .before .before .wide2 .result) (c .before .before .word-at .result) (c .before .before .before .before .before .wide .ensures .0) (c .before .before .before .wide2 .ensures .0) (c .before .before .word-at .ensures) (omega (arith, c .before .before .before .wide2 .ensures .1)) in
-    archive-sends _ (c .before .before .before .before .before .before .before .before .before .before .pre .0) _ (c .before .before .before .before .before .before .before .before .before .before .pre .1) _ (c .before .before .before .before .before .before .before .before .network-refusal .ensures) (c .before .before .before .before .before .before .before .if1 .left) false (sym s ∙ sym (c .before .sends-fit .ensures) ∙ c .if2 .left)
+    let past = c .before .before .before .before .before .before in
+    let word-at = c .before .before .word-at in
+    let wide2 = c .before .before .before .wide2 in
+    let wide = c .before .before .before .before .before .wide in
+    let if1 = past .before .if1 in
+    let network-refusal = past .before .before .network-refusal in
+    let args = past .before .before .before .before .args in
+    let pre = past .before .before .before .before .pre in
+    let s =
+    sends-read (args .b .now) (wide .result) (wide2 .result) (word-at .result) (wide .ensures .0)
+    (wide2 .ensures .0) (word-at .ensures) (omega (arith, wide2 .ensures .1)) in
+    archive-sends _ (pre .0) _ (pre .1) _ (network-refusal .ensures) (if1 .left) false
+    (sym s ∙ sym (c .before .sends-fit .ensures) ∙ c .if2 .left)
 
 pub body-refusal-spec : {M : Type 1} → statement M
 body-refusal-spec =

@@ -29,7 +29,10 @@ shared-slice-read-if3 : tie.Need-shared-slice-read-if3
 shared-slice-read-if3 c = search needs
 
 returns-3 : tie.Need-returns-3
-returns-3 c = head-version _ (c .before .before .before .before .if1 .left) (sym (c .before .before .before .word-at .ensures) ∙ c .before .before .if2 .left) (c .if3 .taken)
+returns-3 c =
+    let word-at = c .before .before .before .word-at in
+    let if1 = c .before .before .before .before .if1 in
+    head-version _ (if1 .left) (sym (word-at .ensures) ∙ c .before .before .if2 .left) (c .if3 .taken)
 
 shared-slice-read-wide : tie.Need-shared-slice-read-wide
 shared-slice-read-wide c = search needs
@@ -51,8 +54,18 @@ quad-at-requires c κs = search needs
 
 returns-4 : tie.Need-returns-4
 returns-4 c =
-    let s = sizes-read _ (c .before .before .before .before .before .before .wide .result) (c .before .before .before .wide2 .result) true (c .before .before .before .before .before .before .wide .ensures .0) (c .before .before .before .wide2 .ensures .0) (c .before .before .if4 .taken) in
-    head-seed _ (c .before .before .before .before .before .before .before .before .before .before .before .before .if1 .left) (sym (c .before .before .before .before .before .before .before .before .before .before .before .word-at .ensures) ∙ c .before .before .before .before .before .before .before .before .before .before .if2 .left) (c .before .before .before .before .before .before .before .before .if3 .left) s (sym (c .before .quad-at .ensures) ∙ c .if5 .taken)
+    let past = c .before .before .before .before .before .before in
+    let wide2 = c .before .before .before .wide2 in
+    let wide = c .before .before .before .before .before .before .wide in
+    let if3 = past .before .before .if3 in
+    let if2 = past .before .before .before .before .if2 in
+    let word-at = past .before .before .before .before .before .word-at in
+    let if1 = past .before .before .before .before .before .before .if1 in
+    let s =
+    sizes-read _ (wide .result) (wide2 .result) true (wide .ensures .0) (wide2 .ensures .0)
+    (c .before .before .if4 .taken) in
+    head-seed _ (if1 .left) (sym (word-at .ensures) ∙ if2 .left) (if3 .left) s
+    (sym (c .before .quad-at .ensures) ∙ c .if5 .taken)
 
 shared-slice-read-wide-3 : tie.Need-shared-slice-read-wide-3
 shared-slice-read-wide-3 c = search needs
@@ -65,20 +78,53 @@ size-of-requires c κs = search needs
 
 returns-5 : tie.Need-returns-5
 returns-5 c =
-    let s = sizes-read _ (c .before .before .before .before .before .before .before .before .before .before .wide .result) (c .before .before .before .before .before .before .before .wide2 .result) true (c .before .before .before .before .before .before .before .before .before .before .wide .ensures .0) (c .before .before .before .before .before .before .before .wide2 .ensures .0) (c .before .before .before .before .before .before .if4 .taken) in
-    let n = c .before .size-of .ensures ∙ ap₂ lengthWith (c .before .before .before .before .before .before .before .before .before .before .wide .ensures .0) (c .before .before .wide3 .ensures .0) in
-    sym (head-by _ 0 (c .before .before .before .before .before .before .before .before .before .before .before .before .before .before .before .before .if1 .left) (sym (c .before .before .before .before .before .before .before .before .before .before .before .before .before .before .before .word-at .ensures) ∙ c .before .before .before .before .before .before .before .before .before .before .before .before .before .before .if2 .left) (c .before .before .before .before .before .before .before .before .before .before .before .before .if3 .left) s (λ e. c .before .before .before .before .if5 .left (c .before .before .before .before .before .quad-at .ensures ∙ e)) (c .if6 .taken ∙ n))
+    let past = c .before .before .before .before .before .before in
+    let past2 = past .before .before .before .before .before .before in
+    let if5 = c .before .before .before .before .if5 in
+    let quad-at = c .before .before .before .before .before .quad-at in
+    let if4 = c .before .before .before .before .before .before .if4 in
+    let wide2 = past .before .wide2 in
+    let wide = past .before .before .before .before .wide in
+    let if3 = past2 .if3 in
+    let if2 = past2 .before .before .if2 in
+    let word-at = past2 .before .before .before .word-at in
+    let if1 = past2 .before .before .before .before .if1 in
+    let s = sizes-read _ (wide .result) (wide2 .result) true (wide .ensures .0) (wide2 .ensures .0) (if4 .taken) in
+    let n = c .before .size-of .ensures ∙ ap₂ lengthWith (wide .ensures .0) (c .before .before .wide3 .ensures .0) in
+    sym
+    (head-by _ 0 (if1 .left) (sym (word-at .ensures) ∙ if2 .left) (if3 .left) s (λ e. if5 .left (quad-at .ensures ∙ e))
+    (c .if6 .taken ∙ n))
 
 returns-6 : tie.Need-returns-6
 returns-6 c =
-    let s = sizes-read _ (c .before .before .before .before .before .before .before .before .before .before .wide .result) (c .before .before .before .before .before .before .before .wide2 .result) true (c .before .before .before .before .before .before .before .before .before .before .wide .ensures .0) (c .before .before .before .before .before .before .before .wide2 .ensures .0) (c .before .before .before .before .before .before .if4 .taken) in
-    let n = c .before .size-of .ensures ∙ ap₂ lengthWith (c .before .before .before .before .before .before .before .before .before .before .wide .ensures .0) (c .before .before .wide3 .ensures .0) in
-    head-size _ (c .before .before .before .before .before .before .before .before .before .before .before .before .before .before .before .before .if1 .left) (sym (c .before .before .before .before .before .before .before .before .before .before .before .before .before .before .before .word-at .ensures) ∙ c .before .before .before .before .before .before .before .before .before .before .before .before .before .before .if2 .left) (c .before .before .before .before .before .before .before .before .before .before .before .before .if3 .left) s (λ e. c .before .before .before .before .if5 .left (c .before .before .before .before .before .quad-at .ensures ∙ e)) (λ e. c .if6 .left (e ∙ sym n))
+    let past = c .before .before .before .before .before .before in
+    let past2 = past .before .before .before .before .before .before in
+    let if5 = c .before .before .before .before .if5 in
+    let quad-at = c .before .before .before .before .before .quad-at in
+    let if4 = c .before .before .before .before .before .before .if4 in
+    let wide2 = past .before .wide2 in
+    let wide = past .before .before .before .before .wide in
+    let if3 = past2 .if3 in
+    let if2 = past2 .before .before .if2 in
+    let word-at = past2 .before .before .before .word-at in
+    let if1 = past2 .before .before .before .before .if1 in
+    let s = sizes-read _ (wide .result) (wide2 .result) true (wide .ensures .0) (wide2 .ensures .0) (if4 .taken) in
+    let n = c .before .size-of .ensures ∙ ap₂ lengthWith (wide .ensures .0) (c .before .before .wide3 .ensures .0) in
+    head-size _ (if1 .left) (sym (word-at .ensures) ∙ if2 .left) (if3 .left) s (λ e. if5 .left (quad-at .ensures ∙ e))
+    (λ e. c .if6 .left (e ∙ sym n))
 
 returns-7 : tie.Need-returns-7
 returns-7 c =
-    let s = sizes-read _ (c .before .before .before .before .wide .result) (c .before .wide2 .result) false (c .before .before .before .before .wide .ensures .0) (c .before .wide2 .ensures .0) (c .if4 .left) in
-    head-sizes _ (c .before .before .before .before .before .before .before .before .before .before .if1 .left) (sym (c .before .before .before .before .before .before .before .before .before .word-at .ensures) ∙ c .before .before .before .before .before .before .before .before .if2 .left) (c .before .before .before .before .before .before .if3 .left) s
+    let past = c .before .before .before .before .before .before in
+    let wide = c .before .before .before .before .wide in
+    let if3 = c .before .before .before .before .before .before .if3 in
+    let if2 = past .before .before .if2 in
+    let word-at = past .before .before .before .word-at in
+    let if1 = past .before .before .before .before .if1 in
+    let s =
+    sizes-read _ (wide .result) (c .before .wide2 .result) false (wide .ensures .0) (c .before .wide2 .ensures .0)
+    (c .if4 .left) in
+    head-sizes _ (if1 .left) (sym (word-at .ensures) ∙ if2 .left) (if3 .left) s
 
 pub head-refusal-spec : {M : Type 1} → statement M
 head-refusal-spec =

@@ -20,7 +20,10 @@ refused-requires : tie.Need-refused-requires
 refused-requires c κs = search needs
 
 returns : tie.Need-returns
-returns c = c .refused .ensures ∙ decode-no _ _ (read-head _ _ (c .before .before .head-refusal .ensures) (c .before .if1 .taken)) (c .before .if1 .taken)
+returns c =
+    c .refused .ensures
+    ∙ decode-no _ _ (read-head _ _ (c .before .before .head-refusal .ensures) (c .before .if1 .taken))
+    (c .before .if1 .taken)
 
 read-network-requires : tie.Need-read-network-requires
 read-network-requires c κs = head-passes _ 0 (sym (c .before .head-refusal .ensures) ∙ c .if1 .left) .0
@@ -32,13 +35,25 @@ refused-requires-2 : tie.Need-refused-requires-2
 refused-requires-2 c κs = search needs
 
 returns-2 : tie.Need-returns-2
-returns-2 c = c .refused2 .ensures ∙ decode-no _ _ (read-body _ _ _ (c .before .before .before .before .before .head-refusal .ensures) (c .before .before .before .before .if1 .left) (c .before .before .body-refusal .ensures)) (c .before .if2 .taken)
+returns-2 c =
+    let if1 = c .before .before .before .before .if1 in
+    let head-refusal = c .before .before .before .before .before .head-refusal in
+    c .refused2 .ensures
+    ∙ decode-no _ _ (read-body _ _ _ (head-refusal .ensures) (if1 .left) (c .before .before .body-refusal .ensures))
+    (c .before .if2 .taken)
 
 read-run-requires : tie.Need-read-run-requires
-read-run-requires c κs = (head-passes _ 0 (sym (c .before .before .before .before .head-refusal .ensures) ∙ c .before .before .before .if1 .left) .0, c .before .before .read-network .ensures)
+read-run-requires c κs =
+    let if1 = c .before .before .before .if1 in
+    let head-refusal = c .before .before .before .before .head-refusal in
+    (head-passes _ 0 (sym (head-refusal .ensures) ∙ if1 .left) .0, c .before .before .read-network .ensures)
 
 returns-3 : tie.Need-returns-3
-returns-3 c = decode-yes _ _ _ (read-body _ _ _ (c .before .before .before .before .before .head-refusal .ensures) (c .before .before .before .before .if1 .left) (c .before .before .body-refusal .ensures)) (c .before .if2 .left) (c .read-run .ensures)
+returns-3 c =
+    let if1 = c .before .before .before .before .if1 in
+    let head-refusal = c .before .before .before .before .before .head-refusal in
+    decode-yes _ _ _ (read-body _ _ _ (head-refusal .ensures) (if1 .left) (c .before .before .body-refusal .ensures))
+    (c .before .if2 .left) (c .read-run .ensures)
 
 pub read-spec : {M : Type 1} → statement M
 read-spec =

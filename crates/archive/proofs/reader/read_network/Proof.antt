@@ -41,14 +41,30 @@ add-read-routes : tie.Need-add-read-routes
 add-read-routes c = search needs
 
 mul-read-routes-2 : tie.Need-mul-read-routes-2
-mul-read-routes-2 c = let q = ap (λ (x : ℕ). x * x) (c .before .before .before .before .wide .ensures .0) in omega (arith, c .before .before .before .before .before .before .before .pre .square)
+mul-read-routes-2 c =
+    let past = c .before .before .before .before .before .before in
+    let wide = c .before .before .before .before .wide in
+    let pre = past .before .pre in
+    let q = ap (λ (x : ℕ). x * x) (wide .ensures .0) in omega (arith, pre .square)
 
 read-routes-requires : tie.Need-read-routes-requires
-read-routes-requires c κs = let q = ap (λ (x : ℕ). x * x) (c .before .before .before .before .wide .ensures .0) in (omega (arith, c .before .before .before .before .before .before .before .pre .square), omega (arith, c .before .before .before .before .before .before .before .pre .square, c .before .before .before .before .before .before .before .pre .size, c .before .before .before .before .wide .ensures .0))
+read-routes-requires c κs =
+    let past = c .before .before .before .before .before .before in
+    let wide = c .before .before .before .before .wide in
+    let pre = past .before .pre in
+    let q = ap (λ (x : ℕ). x * x) (wide .ensures .0) in
+    (omega (arith, pre .square), omega (arith, pre .square, pre .size, wide .ensures .0))
 
 returns : tie.Need-returns
 unfolding networkOf
-returns c = rw (c .read-routes .ensures, c .before .read-channels .ensures, c .before .before .wide2 .ensures .0, c .before .before .before .before .before .wide .ensures .0) refl
+returns c =
+    let wide = c .before .before .before .before .before .wide in
+    rw (
+      c .read-routes .ensures,
+      c .before .read-channels .ensures,
+      c .before .before .wide2 .ensures .0,
+      wide .ensures .0,
+    ) refl
 
 pub read-network-spec : {M : Type 1} → statement M
 read-network-spec =

@@ -39,20 +39,50 @@ add-read-sends : tie.Need-add-read-sends
 add-read-sends c = search needs
 
 mul-read-sends-2 : tie.Need-mul-read-sends-2
-mul-read-sends-2 c = let q = ap (λ (x : ℕ). x * x) (c .before .before .before .before .wide .ensures .0) in omega (arith, c .before .before .before .before .before .before .before .pre .0 .square)
+mul-read-sends-2 c =
+    let past = c .before .before .before .before .before .before in
+    let wide = c .before .before .before .before .wide in
+    let pre = past .before .pre in
+    let q = ap (λ (x : ℕ). x * x) (wide .ensures .0) in omega (arith, pre .0 .square)
 
 mul-read-sends-3 : tie.Need-mul-read-sends-3
-mul-read-sends-3 c = let q = ap (λ (x : ℕ). x * x) (c .before .before .before .before .wide .ensures .0) in omega (arith, c .before .before .before .before .before .before .before .pre .0 .square)
+mul-read-sends-3 c =
+    let past = c .before .before .before .before .before .before in
+    let wide = c .before .before .before .before .wide in
+    let pre = past .before .pre in
+    let q = ap (λ (x : ℕ). x * x) (wide .ensures .0) in omega (arith, pre .0 .square)
 
 add-read-sends-2 : tie.Need-add-read-sends-2
-add-read-sends-2 c = let q = ap (λ (x : ℕ). x * x) (c .before .before .before .before .wide .ensures .0) in omega (arith, c .before .before .before .before .before .before .before .pre .0 .square, c .before .before .before .before .before .before .before .pre .0 .few, c .before .before .before .before .wide .ensures .0)
+add-read-sends-2 c =
+    let past = c .before .before .before .before .before .before in
+    let wide = c .before .before .before .before .wide in
+    let pre = past .before .pre in
+    let q = ap (λ (x : ℕ). x * x) (wide .ensures .0) in omega (arith, pre .0 .square, pre .0 .few, wide .ensures .0)
 
 read-sends-requires : tie.Need-read-sends-requires
-read-sends-requires c κs = let q = ap (λ (x : ℕ). x * x) (c .before .before .before .before .wide .ensures .0) in (omega (arith, c .before .before .wide2 .ensures .1), omega (arith, c .before .before .before .before .before .before .before .pre .0 .size, c .before .before .before .before .wide .ensures .0, c .before .before .wide2 .ensures .0))
+read-sends-requires c κs =
+    let past = c .before .before .before .before .before .before in
+    let wide2 = c .before .before .wide2 in
+    let wide = c .before .before .before .before .wide in
+    let pre = past .before .pre in
+    let q = ap (λ (x : ℕ). x * x) (wide .ensures .0) in
+    (omega (arith, wide2 .ensures .1), omega (arith, pre .0 .size, wide .ensures .0, wide2 .ensures .0))
 
 returns : tie.Need-returns
 unfolding runOf
-returns c = rw (c .read-sends .ensures, c .before .word-at .ensures, c .before .before .quad-at .ensures, c .before .before .before .wide2 .ensures .0, c .before .before .before .before .before .wide .ensures .0, c .before .before .before .before .before .before .before .before .pre .1) refl
+returns c =
+    let past = c .before .before .before .before .before .before in
+    let wide2 = c .before .before .before .wide2 in
+    let wide = c .before .before .before .before .before .wide in
+    let pre = past .before .before .pre in
+    rw (
+      c .read-sends .ensures,
+      c .before .word-at .ensures,
+      c .before .before .quad-at .ensures,
+      wide2 .ensures .0,
+      wide .ensures .0,
+      pre .1,
+    ) refl
 
 pub read-run-spec : {M : Type 1} → statement M
 read-run-spec =

@@ -4,11 +4,12 @@ use Prim.Native.Nat.{_≤_, _-_}
 use native.Mathlib.Omega.{arith}
 use Rattle.base.specs.Over.{over-none, over-step}
 use Rattle.format.specs.Format.{sendsOf}
-use native.Mathlib.Omega.{arith}
+use borrow.Author.Needs.{needs}
 use Rattle.archive.proofs.reader.read_sends.Statement.{statement}
 use Rattle.archive.proofs.reader.read_sends.Tie as tie
 use Rattle.archive.proofs.reader.read_sends.Reads as reads
 use Rattle.archive.proofs.reader.read_sends.Lts as lts
+use Rattle.archive.proofs.reader.no_sends.Reads as no-sends-reads
 use Rattle.archive.proofs.reader.send_at.Reads as send-at-reads
 
 abbrev Inv-loop : tie.InvT-loop
@@ -17,8 +18,11 @@ Inv-loop b p n sends₀ k₀ sends k = (k ≤ n) × (sends ≡ sendsOf b p k)
 abbrev μ-loop : tie.MeasureT-loop
 μ-loop b p n sends₀ k₀ sends k = n - k
 
+no-sends-requires : tie.Need-no-sends-requires Inv-loop μ-loop
+no-sends-requires c κs = search needs
+
 loop-holds : tie.Need-loop-holds Inv-loop μ-loop
-loop-holds c = (omega arith, sym (over-none _ _))
+loop-holds c = (omega arith, c .no-sends .ensures ∙ sym (over-none _ _))
 
 mul-send-at : tie.Need-mul-send-at Inv-loop μ-loop
 mul-send-at c = omega arith
@@ -45,7 +49,7 @@ loop-again : tie.Need-loop-again Inv-loop μ-loop
 loop-again c = (omega arith, over-step _ _ _ _ _ (c .before .before .loop .inv .1) (c .send-at .ensures) (omega arith))
 
 returns : tie.Need-returns Inv-loop μ-loop
-returns c = let e : c .before .loop .k ≡ c .before .before .before .args .n = omega arith in c .before .loop .inv .1 ∙ rw e refl
+returns c = let e : c .before .loop .k ≡ c .before .before .before .before .args .n = omega arith in c .before .loop .inv .1 ∙ rw e refl
 
 pub read-sends-spec : {M : Type 1} → statement M
 read-sends-spec =
@@ -53,6 +57,7 @@ read-sends-spec =
     (tie.spec
     Inv-loop
     μ-loop
+    no-sends-requires
     loop-holds
     mul-send-at
     add-send-at

@@ -46,15 +46,29 @@ loop-less c = omega arith
 
 loop-again : tie.Need-loop-again Inv-loop μ-loop
 loop-again c =
-    let a = c .before .before .before .before .before .before .args in
-    let e = c .before .send-ok .ensures ∙ ap₂ (λ (l : ℕ) (x : StoredSend). sendAfter (a .sites) (a .draws) l x) (c .before .before .before .before .loop .inv .1) (c .before .before .send-at .ensures) in
-    (omega arith, ap (λ (x : StoredSend). x .draw) (c .before .before .send-at .ensures) ∙ draw-next (sendsFrom (a .b .now) (a .p)) (c .before .before .before .before .loop .k), all-more _ _ (c .before .before .before .before .loop .inv .2) (sym e ∙ c .if1 .taken))
+    let send-at = c .before .before .send-at in
+    let loop = c .before .before .before .before .loop in
+    let args = c .before .before .before .before .before .before .args in
+    let a = args in
+    let e =
+    c .before .send-ok .ensures
+    ∙ ap₂ (λ (l : ℕ) (x : StoredSend). sendAfter (a .sites) (a .draws) l x) (loop .inv .1) (send-at .ensures) in (
+      omega arith,
+      ap (λ (x : StoredSend). x .draw) (send-at .ensures) ∙ draw-next (sendsFrom (a .b .now) (a .p)) (loop .k),
+      all-more _ _ (loop .inv .2) (sym e ∙ c .if1 .taken),
+    )
 
 returns : tie.Need-returns Inv-loop μ-loop
 returns c =
-    let a = c .before .before .before .before .before .before .args in
-    let e = c .before .send-ok .ensures ∙ ap₂ (λ (l : ℕ) (x : StoredSend). sendAfter (a .sites) (a .draws) l x) (c .before .before .before .before .loop .inv .1) (c .before .before .send-at .ensures) in
-    sym (all-fails _ (c .before .before .before .before .loop .k) _ (c .before .before .before .loop-test .taken) (sym e ∙ c .if1 .left))
+    let loop-test = c .before .before .before .loop-test in
+    let loop = c .before .before .before .before .loop in
+    let args = c .before .before .before .before .before .before .args in
+    let a = args in
+    let e =
+    c .before .send-ok .ensures
+    ∙ ap₂ (λ (l : ℕ) (x : StoredSend). sendAfter (a .sites) (a .draws) l x) (loop .inv .1)
+    (c .before .before .send-at .ensures) in
+    sym (all-fails _ (loop .k) _ (loop-test .taken) (sym e ∙ c .if1 .left))
 
 returns-2 : tie.Need-returns-2 Inv-loop μ-loop
 returns-2 c = let e : c .before .loop .k ≡ c .before .before .before .args .n = omega arith in sym (rw e at (c .before .loop .inv .2))

@@ -4,7 +4,7 @@ use Prim.Native.Nat.{_≤_, _-_}
 use native.Mathlib.Omega.{arith}
 use lib.ListN.{length, length-set}
 use Rattle.format.specs.Format.{headLength, channelBytes}
-use Rattle.archive.specs.Code.{put}
+use Rattle.base.specs.Put.{put}
 use Rattle.archive.proofs.Put.{channels-none, channels-turn}
 use native.Mathlib.Omega.{arith}
 use Rattle.archive.proofs.writer.put_channels.Statement.{statement}
@@ -37,7 +37,12 @@ loop-less : tie.Need-loop-less Inv-loop μ-loop
 loop-less c = omega arith
 
 loop-again : tie.Need-loop-again Inv-loop μ-loop
-loop-again c = (omega arith, simp length-set (c .before .loop .inv .1), channels-turn (c .before .before .args .t2) _ _ (c .before .loop .k) (c .before .loop .inv .2) (omega arith) (c .before .loop .inv .1))
+loop-again c =
+    let loop = c .before .loop in (
+      omega arith,
+      simp length-set (loop .inv .1),
+      channels-turn (c .before .before .args .t2) _ _ (loop .k) (loop .inv .2) (omega arith) (loop .inv .1),
+    )
 
 same-length : tie.Need-same-length Inv-loop μ-loop
 same-length c = c .before .loop .inv .1

@@ -4,7 +4,7 @@ use Prim.Native.Nat.{_≤_, _-_}
 use native.Mathlib.Omega.{arith}
 use lib.ListN.{length}
 use Rattle.format.specs.Format.{routeBytes}
-use Rattle.archive.specs.Code.{put}
+use Rattle.base.specs.Put.{put}
 use Rattle.archive.proofs.Put.{routes-none, routes-turn, length-put}
 use native.Mathlib.Omega.{arith}
 use Rattle.archive.proofs.writer.put_routes.Statement.{statement}
@@ -44,7 +44,15 @@ loop-less : tie.Need-loop-less Inv-loop μ-loop
 loop-less c = omega arith
 
 loop-again : tie.Need-loop-again Inv-loop μ-loop
-loop-again c = (omega arith, ap length (c .before .before .put-word .ensures) ∙ length-put _ _ _ (omega arith) ∙ c .before .before .before .before .before .loop .inv .1, routes-turn (c .before .before .before .before .before .before .before .args .t2) _ _ _ (c .before .before .before .before .before .before .before .args .p) (c .before .before .before .before .before .loop .k) (c .before .before .before .before .before .loop .inv .2) (c .before .before .put-word .ensures) (omega arith))
+loop-again c =
+    let past = c .before .before .before .before .before .before in
+    let put-word = c .before .before .put-word in
+    let loop = c .before .before .before .before .before .loop in
+    let args = past .before .args in (
+      omega arith,
+      ap length (put-word .ensures) ∙ length-put _ _ _ (omega arith) ∙ loop .inv .1,
+      routes-turn (args .t2) _ _ _ (args .p) (loop .k) (loop .inv .2) (put-word .ensures) (omega arith),
+    )
 
 same-length : tie.Need-same-length Inv-loop μ-loop
 same-length c = c .before .loop .inv .1

@@ -1,47 +1,342 @@
--- `writer::write` meets its contract, one law of Answers for each way. Assumes nothing.
-use mathlib.Core.Path.{sym, _∙_}
+-- `writer::write` meets its contract, one law of Answers for each way: the sends are tested, then written. Assumes nothing.
+use mathlib.Core.Path.{_≡_, refl, sym, ap, _∙_}
+use mathlib.Core.Bool.{true}
+use Prim.Native.Nat.{ℕ, _+_, _*_, _-_, _≤_}
 use native.Mathlib.Omega.{arith}
+use lib.ListN.{length}
+use Rattle.base.specs.Sizes.{sendsMost}
+use Rattle.base.specs.All.{all, all-none, all-more}
+use Rattle.model.specs.Types.{sendAt}
+use Rattle.format.specs.Format.{sendsBytes}
+use Rattle.base.specs.Put.{put}
+use Rattle.archive.specs.Code.{drawBefore, sendAfter, sendIn}
 use Rattle.archive.proofs.Passed.{stored-passes}
-use Rattle.archive.proofs.Answers.{write-no, write-short, write-yes}
+use Rattle.archive.proofs.SendsLaws.{draw-next}
+use Rattle.archive.proofs.Put.{sends-none, sends-turn, length-put, put-parts}
+use Rattle.archive.proofs.Answers.{few-sends, front-refused, sends-tested, sends-failed, write-no, write-short, write-yes}
 use native.Mathlib.Omega.{arith}
 use borrow.Author.Needs.{needs}
 use Rattle.archive.proofs.writer.write.Statement.{statement}
 use Rattle.archive.proofs.writer.write.Tie as tie
 use Rattle.archive.proofs.writer.write.Reads as reads
 use Rattle.archive.proofs.writer.write.Lts as lts
+use Rattle.archive.proofs.sends.send_ok.Reads as send-ok-reads
 use Rattle.archive.proofs.size_of.Reads as size-of-reads
-use Rattle.archive.proofs.writer.put_run.Reads as put-run-reads
-use Rattle.archive.proofs.writer.stored_refusal.Reads as stored-refusal-reads
+use Rattle.archive.proofs.writer.front_refusal.Reads as front-refusal-reads
+use Rattle.archive.proofs.writer.put_front.Reads as put-front-reads
+use Rattle.archive.proofs.writer.put_send.Reads as put-send-reads
+use Rattle.archive.proofs.writer.turned_down.Reads as turned-down-reads
 
-stored-refusal-requires : tie.Need-stored-refusal-requires
-stored-refusal-requires c κs = search needs
+abbrev Inv-loop : tie.InvT-loop
+Inv-loop out run network sites draws count refusal last₀ k₀ last k =
+    let tested = all (sendIn (run .network .sites) (run .draws) (sendAt run)) k in
+    (k ≤ count) × (last ≡ drawBefore (sendAt run) k) × (tested ≡ true)
 
-returns : tie.Need-returns
-returns c = write-no (c .before .before .before .args .run) _ _ (c .before .stored-refusal .ensures) (c .if1 .taken)
+abbrev μ-loop : tie.MeasureT-loop
+μ-loop out run network sites draws count refusal last₀ k₀ last k = count - k
 
-size-of-requires : tie.Need-size-of-requires
-size-of-requires c κs = let f = stored-passes (c .before .before .before .before .args .run) (sym (c .before .before .stored-refusal .ensures) ∙ c .before .if1 .left) .fit in (omega arith, omega arith)
+abbrev Inv-loop2 : tie.InvT-loop2
+Inv-loop2 out₀ run sites draws count refusal last k size p m₀ out m =
+    (m ≤ count)
+    × (length out ≡ length out₀)
+    × (out ≡ put out₀ p (sendsBytes (run .sends) m))
+    × (p + 5 * count ≤ length out₀)
+    × (count ≤ sendsMost)
 
-returns-2 : tie.Need-returns-2
-returns-2 c = write-short (c .before .before .before .before .before .before .args .run) _ (sym (c .before .before .before .before .stored-refusal .ensures) ∙ c .before .before .before .if1 .left) (omega (arith, c .if2 .taken, c .before .size-of .ensures))
+abbrev μ-loop2 : tie.MeasureT-loop2
+μ-loop2 out₀ run sites draws count refusal last k size p m₀ out m = count - m
 
-put-run-requires : tie.Need-put-run-requires
-put-run-requires c κs = (stored-passes (c .before .before .before .before .before .before .before .args .run) (sym (c .before .before .before .before .before .stored-refusal .ensures) ∙ c .before .before .before .before .if1 .left) .fit, omega (arith, c .before .if2 .left, c .before .before .size-of .ensures))
+front-refusal-requires : tie.Need-front-refusal-requires Inv-loop μ-loop Inv-loop2 μ-loop2
+front-refusal-requires c κs = search needs
 
-same-length : tie.Need-same-length
+turned-down-requires : tie.Need-turned-down-requires Inv-loop μ-loop Inv-loop2 μ-loop2
+turned-down-requires c κs = search needs
+
+returns : tie.Need-returns Inv-loop μ-loop Inv-loop2 μ-loop2
+returns c =
+    let args = c .before .before .before .before .before .args in
+    let front = c .before .before .front-refusal .ensures in
+    rw (c .turned-down .ensures)
+    (write-no (args .t1) _ _ (front-refused (args .t1) _ front (c .before .if1 .taken)) (c .before .if1 .taken))
+
+loop-holds : tie.Need-loop-holds Inv-loop μ-loop Inv-loop2 μ-loop2
+loop-holds c = (omega arith, refl, all-none _)
+
+mul-send : tie.Need-mul-send Inv-loop μ-loop Inv-loop2 μ-loop2
+mul-send c =
+    let front-refusal = c .before .before .before .front-refusal in
+    let args = c .before .before .before .before .before .before .args in
+    omega (arith, few-sends (args .t1) (sym (front-refusal .ensures) ∙ c .before .before .if1 .left))
+
+element-copy-out-send : tie.Need-element-copy-out-send Inv-loop μ-loop Inv-loop2 μ-loop2
+element-copy-out-send c =
+    let front-refusal = c .before .before .before .front-refusal in
+    let args = c .before .before .before .before .before .before .args in
+    omega (arith, few-sends (args .t1) (sym (front-refusal .ensures) ∙ c .before .before .if1 .left))
+
+send-ok-requires : tie.Need-send-ok-requires Inv-loop μ-loop Inv-loop2 μ-loop2
+send-ok-requires c κs = search needs
+
+add-k : tie.Need-add-k Inv-loop μ-loop Inv-loop2 μ-loop2
+add-k c =
+    let past = c .before .before .before .before .before .before in
+    let if1 = c .before .before .before .before .before .if1 in
+    let front-refusal = c .before .before .before .before .before .before .front-refusal in
+    let args = past .before .before .before .args in
+    omega (arith, few-sends (args .t1) (sym (front-refusal .ensures) ∙ if1 .left))
+
+loop-less : tie.Need-loop-less Inv-loop μ-loop Inv-loop2 μ-loop2
+loop-less c = omega arith
+
+loop-again : tie.Need-loop-again Inv-loop μ-loop Inv-loop2 μ-loop2
+loop-again c =
+    let past = c .before .before .before .before .before .before in
+    let loop = c .before .before .before .before .loop in
+    let args = past .before .before .before .args in
+    let r = args .t1 in
+    let l = loop in
+    let e =
+    c .before .send-ok .ensures
+    ∙ ap (λ (d : ℕ). sendAfter (r .network .sites) (r .draws) d (sendAt r (l .k))) (l .inv .1) in
+    (omega arith, draw-next (sendAt r) (l .k), all-more _ _ (l .inv .2) (sym e ∙ c .if2 .taken))
+
+turned-down-requires-2 : tie.Need-turned-down-requires-2 Inv-loop μ-loop Inv-loop2 μ-loop2
+turned-down-requires-2 c κs = search needs
+
+returns-2 : tie.Need-returns-2 Inv-loop μ-loop Inv-loop2 μ-loop2
+returns-2 c =
+    let past = c .before .before .before .before .before .before in
+    let loop-test = c .before .before .before .before .loop-test in
+    let loop = c .before .before .before .before .before .loop in
+    let if1 = c .before .before .before .before .before .before .if1 in
+    let front-refusal = past .before .front-refusal in
+    let args = past .before .before .before .before .args in
+    let r = args .t1 in
+    let l = loop in
+    let e =
+    c .before .before .send-ok .ensures
+    ∙ ap (λ (d : ℕ). sendAfter (r .network .sites) (r .draws) d (sendAt r (l .k))) (l .inv .1) in
+    let failed =
+    sends-failed r _ (front-refusal .ensures) (if1 .left) (l .k) (loop-test .taken) (sym e ∙ c .before .if2 .left) in
+    rw (c .turned-down2 .ensures) (write-no r _ 8 failed (λ q. omega arith))
+
+size-of-requires : tie.Need-size-of-requires Inv-loop μ-loop Inv-loop2 μ-loop2
+size-of-requires c κs =
+    let front-refusal = c .before .before .before .front-refusal in
+    let args = c .before .before .before .before .before .before .args in
+    let r = args .t1 in
+    let l = c .before .loop in
+    let f =
+    stored-passes r
+    (sends-tested r _ (front-refusal .ensures) (c .before .before .if1 .left) (l .k) (omega arith) (l .inv .2)) .fit in
+    (omega arith, omega arith)
+
+turned-down-requires-3 : tie.Need-turned-down-requires-3 Inv-loop μ-loop Inv-loop2 μ-loop2
+turned-down-requires-3 c κs = search needs
+
+returns-3 : tie.Need-returns-3 Inv-loop μ-loop Inv-loop2 μ-loop2
+returns-3 c =
+    let past = c .before .before .before .before .before .before in
+    let loop = c .before .before .before .before .loop in
+    let if1 = c .before .before .before .before .before .if1 in
+    let front-refusal = c .before .before .before .before .before .before .front-refusal in
+    let args = past .before .before .before .args in
+    let r = args .t1 in
+    let l = loop in
+    let ok = sends-tested r _ (front-refusal .ensures) (if1 .left) (l .k) (omega arith) (l .inv .2) in
+    rw (c .turned-down3 .ensures)
+    (write-short r _ ok (omega (arith, c .before .if3 .taken, c .before .before .size-of .ensures)))
+
+put-front-requires : tie.Need-put-front-requires Inv-loop μ-loop Inv-loop2 μ-loop2
+put-front-requires c κs =
+    let past = c .before .before .before .before .before .before in
+    let loop = c .before .before .before .before .loop in
+    let if1 = c .before .before .before .before .before .if1 in
+    let front-refusal = c .before .before .before .before .before .before .front-refusal in
+    let args = past .before .before .before .args in
+    let r = args .t1 in
+    let l = loop in
+    let f =
+    stored-passes r (sends-tested r _ (front-refusal .ensures) (if1 .left) (l .k) (omega arith) (l .inv .2)) .fit in
+    (f .few, f .square, f .deep, f .count, omega (arith, c .before .if3 .left, c .before .before .size-of .ensures))
+
+mul-p : tie.Need-mul-p Inv-loop μ-loop Inv-loop2 μ-loop2
+mul-p c =
+    let past = c .before .before .before .before .before .before in
+    let loop = past .before .loop in
+    let if1 = past .before .before .if1 in
+    let front-refusal = past .before .before .before .front-refusal in
+    let args = past .before .before .before .before .before .before .args in
+    let r = args .t1 in
+    let l = loop in
+    let f =
+    stored-passes r (sends-tested r _ (front-refusal .ensures) (if1 .left) (l .k) (omega arith) (l .inv .2)) .fit in
+    omega arith
+
+add-p : tie.Need-add-p Inv-loop μ-loop Inv-loop2 μ-loop2
+add-p c =
+    let past = c .before .before .before .before .before .before in
+    let loop = past .before .loop in
+    let if1 = past .before .before .if1 in
+    let front-refusal = past .before .before .before .front-refusal in
+    let args = past .before .before .before .before .before .before .args in
+    let r = args .t1 in
+    let l = loop in
+    let f =
+    stored-passes r (sends-tested r _ (front-refusal .ensures) (if1 .left) (l .k) (omega arith) (l .inv .2)) .fit in
+    omega arith
+
+mul-p-2 : tie.Need-mul-p-2 Inv-loop μ-loop Inv-loop2 μ-loop2
+mul-p-2 c =
+    let past = c .before .before .before .before .before .before in
+    let loop = past .before .loop in
+    let if1 = past .before .before .if1 in
+    let front-refusal = past .before .before .before .front-refusal in
+    let args = past .before .before .before .before .before .before .args in
+    let r = args .t1 in
+    let l = loop in
+    let f =
+    stored-passes r (sends-tested r _ (front-refusal .ensures) (if1 .left) (l .k) (omega arith) (l .inv .2)) .fit in
+    omega arith
+
+mul-p-3 : tie.Need-mul-p-3 Inv-loop μ-loop Inv-loop2 μ-loop2
+mul-p-3 c =
+    let past = c .before .before .before .before .before .before in
+    let loop = past .before .loop in
+    let if1 = past .before .before .if1 in
+    let front-refusal = past .before .before .before .front-refusal in
+    let args = past .before .before .before .before .before .before .args in
+    let r = args .t1 in
+    let l = loop in
+    let f =
+    stored-passes r (sends-tested r _ (front-refusal .ensures) (if1 .left) (l .k) (omega arith) (l .inv .2)) .fit in
+    omega arith
+
+add-p-2 : tie.Need-add-p-2 Inv-loop μ-loop Inv-loop2 μ-loop2
+add-p-2 c =
+    let past = c .before .before .before .before .before .before in
+    let loop = past .before .loop in
+    let if1 = past .before .before .if1 in
+    let front-refusal = past .before .before .before .front-refusal in
+    let args = past .before .before .before .before .before .before .args in
+    let r = args .t1 in
+    let l = loop in
+    let f =
+    stored-passes r (sends-tested r _ (front-refusal .ensures) (if1 .left) (l .k) (omega arith) (l .inv .2)) .fit in
+    omega arith
+
+loop2-holds : tie.Need-loop2-holds Inv-loop μ-loop Inv-loop2 μ-loop2
+loop2-holds c =
+    let past = c .before .before .before .before .before .before in
+    let if3 = c .before .before .before .before .if3 in
+    let size-of = c .before .before .before .before .before .size-of in
+    let loop = past .before .loop in
+    let if1 = past .before .before .if1 in
+    let front-refusal = past .before .before .before .front-refusal in
+    let args = past .before .before .before .before .before .before .args in
+    let r = args .t1 in
+    let l = loop in
+    let f =
+    stored-passes r (sends-tested r _ (front-refusal .ensures) (if1 .left) (l .k) (omega arith) (l .inv .2)) .fit in
+    (omega arith, refl, sends-none (r .sends) _ _, omega (arith, if3 .left, size-of .ensures), f .count)
+
+mul-send-2 : tie.Need-mul-send-2 Inv-loop μ-loop Inv-loop2 μ-loop2
+mul-send-2 c = omega arith
+
+element-copy-out-send-2 : tie.Need-element-copy-out-send-2 Inv-loop μ-loop Inv-loop2 μ-loop2
+element-copy-out-send-2 c = omega arith
+
+mul-put-send : tie.Need-mul-put-send Inv-loop μ-loop Inv-loop2 μ-loop2
+mul-put-send c = omega arith
+
+add-put-send : tie.Need-add-put-send Inv-loop μ-loop Inv-loop2 μ-loop2
+add-put-send c = omega arith
+
+put-send-requires : tie.Need-put-send-requires Inv-loop μ-loop Inv-loop2 μ-loop2
+put-send-requires c κs = omega arith
+
+add-m : tie.Need-add-m Inv-loop μ-loop Inv-loop2 μ-loop2
+add-m c = omega arith
+
+loop2-less : tie.Need-loop2-less Inv-loop μ-loop Inv-loop2 μ-loop2
+loop2-less c = omega arith
+
+loop2-again : tie.Need-loop2-again Inv-loop μ-loop Inv-loop2 μ-loop2
+loop2-again c =
+    let past = c .before .before .before .before .before .before in
+    let past2 = past .before .before .before .before .before .before in
+    let past3 = past2 .before .before .before .before .before .before in
+    let put-send = c .before .before .put-send in
+    let loop2 = c .before .before .before .before .before .before .loop2 in
+    let args = past3 .before .args in
+    let l = loop2 in (
+      omega arith,
+      ap length (put-send .ensures) ∙ length-put _ _ _ (omega arith) ∙ l .inv .1,
+      sends-turn (args .t1 .sends) _ _ _ _ (l .m) (l .inv .2) (put-send .ensures) (omega arith),
+      l .inv .3,
+      l .inv .4,
+    )
+
+same-length : tie.Need-same-length Inv-loop μ-loop Inv-loop2 μ-loop2
 same-length c = search needs
 
-returns-3 : tie.Need-returns-3
-returns-3 c = write-yes (c .before .before .before .before .before .before .before .before .before .before .args .run) _ _ _ (sym (c .before .before .before .before .before .before .before .before .stored-refusal .ensures) ∙ c .before .before .before .before .before .before .before .if1 .left) (omega (arith, c .before .before .before .before .if2 .left, c .before .before .before .before .before .size-of .ensures)) (c .before .before .before .before .before .size-of .ensures) (c .before .before .put-run .ensures)
+returns-4 : tie.Need-returns-4 Inv-loop μ-loop Inv-loop2 μ-loop2
+returns-4 c =
+    let past = c .before .before .before .before .before .before in
+    let past2 = past .before .before .before .before .before .before in
+    let put-front = c .before .before .before .before .put-front in
+    let if3 = c .before .before .before .before .before .before .if3 in
+    let size-of = past .before .size-of in
+    let loop = past .before .before .before .loop in
+    let if1 = past .before .before .before .before .if1 in
+    let front-refusal = past .before .before .before .before .before .front-refusal in
+    let args = past2 .before .before .args in
+    let r = args .t1 in
+    let l = loop in
+    let ok = sends-tested r _ (front-refusal .ensures) (if1 .left) (l .k) (omega arith) (l .inv .2) in
+    let size = size-of .ensures in
+    let e : c .before .loop2 .m ≡ r .count = omega arith in
+    let sent = rw e at (c .before .loop2 .inv .2) in
+    write-yes r _ _ _ ok (omega (arith, if3 .left, size)) size
+    (put-parts r _ _ _ _ _ _ (omega (arith, if3 .left, size)) size refl refl (put-front .ensures) sent)
 
 pub write-spec : {M : Type 1} → statement M
 write-spec =
     tie.close
     (tie.spec
-    stored-refusal-requires
+    Inv-loop
+    μ-loop
+    Inv-loop2
+    μ-loop2
+    front-refusal-requires
+    turned-down-requires
     returns
-    size-of-requires
+    loop-holds
+    mul-send
+    element-copy-out-send
+    send-ok-requires
+    add-k
+    loop-less
+    loop-again
+    turned-down-requires-2
     returns-2
-    put-run-requires
+    size-of-requires
+    turned-down-requires-3
+    returns-3
+    put-front-requires
+    mul-p
+    add-p
+    mul-p-2
+    mul-p-3
+    add-p-2
+    loop2-holds
+    mul-send-2
+    element-copy-out-send-2
+    mul-put-send
+    add-put-send
+    put-send-requires
+    add-m
+    loop2-less
+    loop2-again
     same-length
-    returns-3)
+    returns-4)

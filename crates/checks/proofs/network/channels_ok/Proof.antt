@@ -36,19 +36,45 @@ loop-less : tie.Need-loop-less Inv-loop μ-loop
 loop-less c = omega arith
 
 loop-again : tie.Need-loop-again Inv-loop μ-loop
-loop-again c = (omega arith, omega arith, no-channel (c .before .before .before .before .before .args .network .channels) (c .before .before .loop .fed) _ (c .before .before .loop .c) _ refl (c .before .before .loop .inv .2) (c .if1 .taken), c .before .before .loop .inv .3, fed-skip (c .before .before .before .before .before .args .network .channels) (c .before .before .loop .fed) (c .before .before .loop .c) (c .before .before .loop .inv .4) (c .if1 .taken))
+loop-again c =
+    let the-args = c .before .before .before .before .before .args in
+    let loop = c .before .before .loop in
+    let args = the-args in (
+      omega arith,
+      omega arith,
+      no-channel (args .network .channels) (loop .fed) _ (loop .c) _ refl (loop .inv .2) (c .if1 .taken),
+      loop .inv .3,
+      fed-skip (args .network .channels) (loop .fed) (loop .c) (loop .inv .4) (c .if1 .taken),
+    )
 
 wide-requires : tie.Need-wide-requires Inv-loop μ-loop
 wide-requires c κs = search needs
 
 returns : tie.Need-returns Inv-loop μ-loop
-returns c = too-high (c .before .before .before .before .before .before .before .args .network .channels) (c .before .before .before .before .loop .fed) _ (c .before .before .before .before .loop .c) (c .before .wide .result) (c .before .wide .ensures .0) (c .before .before .before .loop-test .taken) (c .before .before .if1 .left) (c .if2 .taken)
+returns c =
+    let past = c .before .before .before .before .before .before in
+    let loop-test = c .before .before .before .loop-test in
+    let loop = c .before .before .before .before .loop in
+    let args = past .before .args in
+    too-high (args .network .channels) (loop .fed) _ (loop .c) (c .before .wide .result) (c .before .wide .ensures .0)
+    (loop-test .taken) (c .before .before .if1 .left) (c .if2 .taken)
 
 array-read-if3 : tie.Need-array-read-if3 Inv-loop μ-loop
 array-read-if3 c = omega (arith, c .before .wide .ensures .0, c .if2 .left)
 
 returns-2 : tie.Need-returns-2 Inv-loop μ-loop
-returns-2 c = fed-twice (c .before .before .before .before .before .before .before .before .args .network .channels) (c .before .before .before .before .before .loop .fed) _ (c .before .before .before .before .before .loop .c) (c .before .before .wide .result) (c .before .before .wide .ensures .0) (c .before .before .before .before .before .loop .inv .4) (c .before .before .before .before .before .loop .inv .3) (c .before .before .before .before .loop-test .taken) (c .before .before .before .if1 .left) (c .before .if2 .left) (c .before .before .before .before .before .loop .inv .1) (c .if3 .taken)
+returns-2 c =
+    let the-if1 = c .before .before .before .if1 in
+    let the-loop-test = c .before .before .before .before .loop-test in
+    let the-loop = c .before .before .before .before .before .loop in
+    let past = c .before .before .before .before .before .before in
+    let wide = c .before .before .wide in
+    let if1 = the-if1 in
+    let loop-test = the-loop-test in
+    let loop = the-loop in
+    let args = past .before .before .args in
+    fed-twice (args .network .channels) (loop .fed) _ (loop .c) (wide .result) (wide .ensures .0) (loop .inv .4)
+    (loop .inv .3) (loop-test .taken) (if1 .left) (c .before .if2 .left) (loop .inv .1) (c .if3 .taken)
 
 array-write-fed : tie.Need-array-write-fed Inv-loop μ-loop
 array-write-fed c = omega (arith, c .before .before .wide .ensures .0, c .before .if2 .left)
@@ -60,10 +86,30 @@ loop-less-2 : tie.Need-loop-less-2 Inv-loop μ-loop
 loop-less-2 c = omega arith
 
 loop-again-2 : tie.Need-loop-again-2 Inv-loop μ-loop
-loop-again-2 c = (omega arith, omega arith, fed-once (c .before .before .before .before .before .before .before .before .args .network .channels) (c .before .before .before .before .before .loop .fed) _ (c .before .before .before .before .before .loop .c) (c .before .before .wide .result) (c .before .before .wide .ensures .0) (c .before .before .before .before .before .loop .inv .4) (c .before .before .before .before .before .loop .inv .3) (c .before .before .before .before .loop-test .taken) (c .before .before .before .if1 .left) (c .before .if2 .left) (c .before .before .before .before .before .loop .inv .1) (c .if3 .left) (c .before .before .before .before .before .loop .inv .2), simp length-set (c .before .before .before .before .before .loop .inv .3), fed-now (c .before .before .before .before .before .before .before .before .args .network .channels) (c .before .before .before .before .before .loop .fed) _ (c .before .before .before .before .before .loop .c) (c .before .before .wide .result) (c .before .before .wide .ensures .0) (c .before .before .before .before .before .loop .inv .4) (c .before .before .before .before .before .loop .inv .3) (c .before .before .before .before .loop-test .taken) (c .before .before .before .if1 .left) (c .before .if2 .left) (c .before .before .before .before .before .loop .inv .1))
+loop-again-2 c =
+    let the-if1 = c .before .before .before .if1 in
+    let the-loop-test = c .before .before .before .before .loop-test in
+    let the-loop = c .before .before .before .before .before .loop in
+    let past = c .before .before .before .before .before .before in
+    let wide = c .before .before .wide in
+    let if1 = the-if1 in
+    let loop-test = the-loop-test in
+    let loop = the-loop in
+    let args = past .before .before .args in (
+      omega arith,
+      omega arith,
+      fed-once (args .network .channels) (loop .fed) _ (loop .c) (wide .result) (wide .ensures .0) (loop .inv .4)
+          (loop .inv .3) (loop-test .taken) (if1 .left) (c .before .if2 .left) (loop .inv .1) (c .if3 .left)
+          (loop .inv .2),
+      simp length-set (loop .inv .3),
+      fed-now (args .network .channels) (loop .fed) _ (loop .c) (wide .result) (wide .ensures .0) (loop .inv .4)
+          (loop .inv .3) (loop-test .taken) (if1 .left) (c .before .if2 .left) (loop .inv .1),
+    )
 
 returns-3 : tie.Need-returns-3 Inv-loop μ-loop
-returns-3 c = let e : c .before .loop .c ≡ 4 * c .before .before .before .before .args .network .sites = omega arith in sym (rw e at (c .before .loop .inv .2))
+returns-3 c =
+    let args = c .before .before .before .before .args in
+    let e : c .before .loop .c ≡ 4 * args .network .sites = omega arith in sym (rw e at (c .before .loop .inv .2))
 
 pub channels-ok-spec : {M : Type 1} → statement M
 channels-ok-spec =

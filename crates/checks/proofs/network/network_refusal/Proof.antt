@@ -18,19 +18,47 @@ channels-ok-requires : tie.Need-channels-ok-requires
 channels-ok-requires c κs = sizes-few (c .before .before .args .network) (sym (c .before .sizes-ok .ensures) ∙ c .if1 .taken) .0
 
 routes-ok-requires : tie.Need-routes-ok-requires
-routes-ok-requires c κs = sizes-few (c .before .before .before .before .args .network) (sym (c .before .before .before .sizes-ok .ensures) ∙ c .before .before .if1 .taken) .0
+routes-ok-requires c κs =
+    let sizes-ok = c .before .before .before .sizes-ok in
+    let args = c .before .before .before .before .args in
+    sizes-few (args .network) (sym (sizes-ok .ensures) ∙ c .before .before .if1 .taken) .0
 
 returns : tie.Need-returns
 unfolding networkRefusal
-returns c = rw (sym (c .before .before .before .before .before .sizes-ok .ensures) ∙ c .before .before .before .before .if1 .taken, sym (c .before .before .before .channels-ok .ensures) ∙ c .before .before .if2 .taken, sym (c .before .routes-ok .ensures) ∙ c .if3 .taken) refl
+returns c =
+    let the-channels-ok = c .before .before .before .channels-ok in
+    let the-if1 = c .before .before .before .before .if1 in
+    let the-sizes-ok = c .before .before .before .before .before .sizes-ok in
+    let channels-ok = the-channels-ok in
+    let if1 = the-if1 in
+    let sizes-ok = the-sizes-ok in
+    rw (
+      sym (sizes-ok .ensures) ∙ if1 .taken,
+      sym (channels-ok .ensures) ∙ c .before .before .if2 .taken,
+      sym (c .before .routes-ok .ensures) ∙ c .if3 .taken,
+    ) refl
 
 returns-2 : tie.Need-returns-2
 unfolding networkRefusal
-returns-2 c = rw (sym (c .before .before .before .before .before .sizes-ok .ensures) ∙ c .before .before .before .before .if1 .taken, sym (c .before .before .before .channels-ok .ensures) ∙ c .before .before .if2 .taken, sym (c .before .routes-ok .ensures) ∙ c .if3 .left) refl
+returns-2 c =
+    let the-channels-ok = c .before .before .before .channels-ok in
+    let the-if1 = c .before .before .before .before .if1 in
+    let the-sizes-ok = c .before .before .before .before .before .sizes-ok in
+    let channels-ok = the-channels-ok in
+    let if1 = the-if1 in
+    let sizes-ok = the-sizes-ok in
+    rw (
+      sym (sizes-ok .ensures) ∙ if1 .taken,
+      sym (channels-ok .ensures) ∙ c .before .before .if2 .taken,
+      sym (c .before .routes-ok .ensures) ∙ c .if3 .left,
+    ) refl
 
 returns-3 : tie.Need-returns-3
 unfolding networkRefusal
-returns-3 c = rw (sym (c .before .before .before .sizes-ok .ensures) ∙ c .before .before .if1 .taken, sym (c .before .channels-ok .ensures) ∙ c .if2 .left) refl
+returns-3 c =
+    let sizes-ok = c .before .before .before .sizes-ok in
+    rw (sym (sizes-ok .ensures) ∙ c .before .before .if1 .taken, sym (c .before .channels-ok .ensures) ∙ c .if2 .left)
+    refl
 
 returns-4 : tie.Need-returns-4
 unfolding networkRefusal

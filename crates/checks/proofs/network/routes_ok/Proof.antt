@@ -33,10 +33,15 @@ loop-again : tie.Need-loop-again Inv-loop μ-loop
 loop-again c = (omega arith, all-more _ _ (c .before .before .before .before .loop .inv .1) (sym (c .before .row-ok .ensures) ∙ c .if2 .taken))
 
 returns : tie.Need-returns Inv-loop μ-loop
-returns c = sym (all-fails _ (c .before .before .before .before .loop .s) _ (c .before .before .if1 .taken) (sym (c .before .row-ok .ensures) ∙ c .if2 .left))
+returns c =
+    let loop = c .before .before .before .before .loop in
+    sym (all-fails _ (loop .s) _ (c .before .before .if1 .taken) (sym (c .before .row-ok .ensures) ∙ c .if2 .left))
 
 returns-2 : tie.Need-returns-2 Inv-loop μ-loop
-returns-2 c = let e : c .before .before .loop .s ≡ c .before .before .before .args .network .sites = omega arith in sym (rw e at (c .before .before .loop .inv .1))
+returns-2 c =
+    let loop = c .before .before .loop in
+    let args = c .before .before .before .args in
+    let e : loop .s ≡ args .network .sites = omega arith in sym (rw e at (loop .inv .1))
 
 pub routes-ok-spec : {M : Type 1} → statement M
 routes-ok-spec =

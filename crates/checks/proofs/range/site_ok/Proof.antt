@@ -1,42 +1,24 @@
-use mathlib.Core.Path.{refl}
+use Rattle.checks.proofs.RangeLaws.{site-parts}
 use borrow.Author.Needs.{needs}
 use Rattle.checks.proofs.range.site_ok.Statement.{statement}
 use Rattle.checks.proofs.range.site_ok.Tie as tie
 use Rattle.checks.proofs.range.site_ok.Reads as reads
 use Rattle.checks.proofs.range.site_ok.Lts as lts
-use Rattle.checks.proofs.range.in_queue_ok.Reads as in-queue-ok-reads
-use Rattle.checks.proofs.range.inputs_ok.Reads as inputs-ok-reads
-use Rattle.checks.proofs.range.out_queue_ok.Reads as out-queue-ok-reads
-use Rattle.checks.proofs.range.outputs_ok.Reads as outputs-ok-reads
+use Rattle.checks.proofs.range.net_places_ok.Reads as net-places-ok-reads
+use Rattle.checks.proofs.range.queues_ok.Reads as queues-ok-reads
 
-inputs-ok-requires : tie.Need-inputs-ok-requires
-inputs-ok-requires c κs = search needs
+net-places-ok-requires : tie.Need-net-places-ok-requires
+net-places-ok-requires c κs = search needs
 
-outputs-ok-requires : tie.Need-outputs-ok-requires
-outputs-ok-requires c κs = search needs
-
-out-queue-ok-requires : tie.Need-out-queue-ok-requires
-out-queue-ok-requires c κs = search needs
-
-in-queue-ok-requires : tie.Need-in-queue-ok-requires
-in-queue-ok-requires c κs = search needs
+queues-ok-requires : tie.Need-queues-ok-requires
+queues-ok-requires c κs = search needs
 
 returns : tie.Need-returns
 returns c =
-    rw (
-      c .in-queue-ok .ensures,
-      c .before .out-queue-ok .ensures,
-      c .before .before .outputs-ok .ensures,
-      c .before .before .before .inputs-ok .ensures,
-    )
-    refl
+    let args = c .before .before .before .before .before .before .args in
+    let a = args in
+    rw (c .queues-ok .ensures, c .before .net-places-ok .ensures)
+    (site-parts (a .sites) (a .limit) (a .depth) (a .counter) (a .site))
 
 pub site-ok-spec : {M : Type 1} → statement M
-site-ok-spec =
-    tie.close
-    (tie.spec
-    inputs-ok-requires
-    outputs-ok-requires
-    out-queue-ok-requires
-    in-queue-ok-requires
-    returns)
+site-ok-spec = tie.close (tie.spec net-places-ok-requires queues-ok-requires returns)

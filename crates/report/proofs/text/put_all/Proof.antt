@@ -6,6 +6,7 @@ use native.Mathlib.Numerals.{add-one}
 use lib.ListN.{length, length-set, set, getD}
 use lib.Seq.{paste, paste-zero, paste-suc, take-length}
 use native.Mathlib.Omega.{arith}
+use Rattle.base.specs.Put.{put}
 use Rattle.report.proofs.text.put_all.Statement.{statement}
 use Rattle.report.proofs.text.put_all.Tie as tie
 
@@ -51,6 +52,7 @@ same-length : tie.Need-same-length Inv-loop μ-loop
 same-length c = omega arith
 
 returns : tie.Need-returns Inv-loop μ-loop
+unfolding put
 returns c =
     let l = c .before .loop in
     let bytes = c .before .before .args .bytes .now in

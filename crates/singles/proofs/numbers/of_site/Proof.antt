@@ -49,11 +49,8 @@ loop-less c = search needs
 loop-again : tie.Need-loop-again Inv-loop μ-loop
 loop-again c = search needs
 
-put-out-queue-requires : tie.Need-put-out-queue-requires Inv-loop μ-loop
-put-out-queue-requires c κs = search needs
-
-put-in-queue-requires : tie.Need-put-in-queue-requires Inv-loop μ-loop
-put-in-queue-requires c κs = search needs
+put-queues-requires : tie.Need-put-queues-requires Inv-loop μ-loop
+put-queues-requires c κs = search needs
 
 returns : tie.Need-returns Inv-loop μ-loop
 returns c = search needs
@@ -77,6 +74,5 @@ of-site-spec =
     add-i
     loop-less
     loop-again
-    put-out-queue-requires
-    put-in-queue-requires
+    put-queues-requires
     returns)

@@ -1,43 +1,37 @@
-use mathlib.Core.Path.{_≡_, refl, sym, ap, _∙_}
-use Prim.Native.Nat.{_-_, _≤_}
-use native.Mathlib.Omega.{arith}
+use mathlib.Core.Path.{refl}
+use Rattle.base.specs.All.{any}
 use borrow.Author.Needs.{needs}
-use Rattle.base.specs.Sizes.{outputCount}
-use Rattle.base.specs.All.{any, any-none, any-more}
-use Rattle.model.specs.Types.{mark}
 use Rattle.checks.proofs.range.places.any_mark.Statement.{statement}
 use Rattle.checks.proofs.range.places.any_mark.Tie as tie
 use Rattle.checks.proofs.range.places.any_mark.Reads as reads
 use Rattle.checks.proofs.range.places.any_mark.Lts as lts
 
-abbrev Inv-loop : tie.InvT-loop
-Inv-loop marks found₀ j₀ found j = (j ≤ outputCount) × (found ≡ any (mark marks) j)
+array-read-result : tie.Need-array-read-result
+array-read-result c = search needs
 
-abbrev μ-loop : tie.MeasureT-loop
-μ-loop marks found₀ j₀ found j = outputCount - j
+array-read-result-2 : tie.Need-array-read-result-2
+array-read-result-2 c = search needs
 
-loop-holds : tie.Need-loop-holds Inv-loop μ-loop
-loop-holds c = (omega arith, sym (any-none _))
+array-read-result-3 : tie.Need-array-read-result-3
+array-read-result-3 c = search needs
 
-array-read-found : tie.Need-array-read-found Inv-loop μ-loop
-array-read-found c = search needs
+array-read-result-4 : tie.Need-array-read-result-4
+array-read-result-4 c = search needs
 
-add-j : tie.Need-add-j Inv-loop μ-loop
-add-j c = search needs
+array-read-result-5 : tie.Need-array-read-result-5
+array-read-result-5 c = search needs
 
-loop-less : tie.Need-loop-less Inv-loop μ-loop
-loop-less c = search needs
-
-loop-again : tie.Need-loop-again Inv-loop μ-loop
-loop-again c = (search needs, rw (any-more, ← c .before .loop .inv .1) refl)
-
-returns : tie.Need-returns Inv-loop μ-loop
-returns c =
-    let l = c .before .loop in
-    let e : l .j ≡ outputCount = omega arith in
-    l .inv .1 ∙ ap (any _) e
+returns : tie.Need-returns
+unfolding any
+returns c = refl
 
 pub any-mark-spec : {M : Type 1} → statement M
 any-mark-spec =
     tie.close
-    (tie.spec Inv-loop μ-loop loop-holds array-read-found add-j loop-less loop-again returns)
+    (tie.spec
+    array-read-result
+    array-read-result-2
+    array-read-result-3
+    array-read-result-4
+    array-read-result-5
+    returns)

@@ -1,4 +1,5 @@
-use mathlib.Core.Path.{refl}
+use Rattle.checks.proofs.RangeLaws.{pick-first, pick-second}
+use borrow.Author.Tests.{lt-ltb, le-ltb}
 use borrow.Author.Needs.{needs}
 use Rattle.checks.proofs.range.places.in_entry_ok.Statement.{statement}
 use Rattle.checks.proofs.range.places.in_entry_ok.Tie as tie
@@ -10,11 +11,14 @@ use Rattle.checks.proofs.range.places.zero_in_entry.Reads as zero-in-en
 tag-ok-requires : tie.Need-tag-ok-requires
 tag-ok-requires c κs = search needs
 
+returns : tie.Need-returns
+returns c = pick-first _ _ _ _ (lt-ltb _ _ (c .before .if1 .taken)) (c .tag-ok .ensures)
+
 zero-in-entry-requires : tie.Need-zero-in-entry-requires
 zero-in-entry-requires c κs = search needs
 
-returns : tie.Need-returns
-returns c = rw (c .zero-in-entry .ensures, c .before .tag-ok .ensures) refl
+returns-2 : tie.Need-returns-2
+returns-2 c = pick-second _ _ _ _ (le-ltb _ _ (c .before .if1 .left)) (c .zero-in-entry .ensures)
 
 pub in-entry-ok-spec : {M : Type 1} → statement M
-in-entry-ok-spec = tie.close (tie.spec tag-ok-requires zero-in-entry-requires returns)
+in-entry-ok-spec = tie.close (tie.spec tag-ok-requires returns zero-in-entry-requires returns-2)

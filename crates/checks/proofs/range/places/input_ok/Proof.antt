@@ -1,76 +1,51 @@
-use mathlib.Core.Path.{refl}
+use mathlib.Core.Path.{_≡_, sym, _∙_}
+use Rattle.checks.proofs.RangeLaws.{free-input, used-input}
 use borrow.Author.Needs.{needs}
 use Rattle.checks.proofs.range.places.input_ok.Statement.{statement}
 use Rattle.checks.proofs.range.places.input_ok.Tie as tie
 use Rattle.checks.proofs.range.places.input_ok.Reads as reads
 use Rattle.checks.proofs.range.places.input_ok.Lts as lts
-use Rattle.checks.proofs.range.phases.is_aborting.Reads as is-aborting-reads
-use Rattle.checks.proofs.range.phases.is_connected.Reads as is-connected-reads
-use Rattle.types.proofs.is_free.Reads as is-free-reads
-use Rattle.checks.proofs.range.phases.is_splitting.Reads as is-splitting-reads
-use Rattle.checks.proofs.range.places.any_mark.Reads as any-mark-reads
-use Rattle.checks.proofs.range.places.any_remote.Reads as any-remote-reads
-use Rattle.checks.proofs.range.places.marks_ok.Reads as marks-ok-reads
+use Rattle.checks.proofs.range.places.connection_ok.Reads as connection-ok-reads
 use Rattle.checks.proofs.range.places.tag_ok.Reads as tag-ok-reads
 use Rattle.checks.proofs.range.places.zero_input.Reads as zero-input-reads
+use Rattle.types.proofs.is_free.Reads as is-free-reads
 
 is-free-requires : tie.Need-is-free-requires
 is-free-requires c κs = search needs
 
-any-mark-requires : tie.Need-any-mark-requires
-any-mark-requires c κs = search needs
-
-is-connected-requires : tie.Need-is-connected-requires
-is-connected-requires c κs = search needs
-
-is-splitting-requires : tie.Need-is-splitting-requires
-is-splitting-requires c κs = search needs
-
 zero-input-requires : tie.Need-zero-input-requires
 zero-input-requires c κs = search needs
+
+returns : tie.Need-returns
+returns c =
+    let args = c .before .before .before .before .args in
+    let a = args in
+    c .zero-input .ensures
+    ∙ sym (free-input (a .sites) (a .limit) (a .counter) (a .outputs) (a .i) (a .input)
+    (sym (c .before .before .is-free .ensures) ∙ c .before .if1 .taken))
 
 tag-ok-requires : tie.Need-tag-ok-requires
 tag-ok-requires c κs = search needs
 
-marks-ok-requires : tie.Need-marks-ok-requires
-marks-ok-requires c κs = search needs
+connection-ok-requires : tie.Need-connection-ok-requires
+connection-ok-requires c κs = search needs
 
-array-read-result : tie.Need-array-read-result
-array-read-result c = search needs
-
-is-aborting-requires : tie.Need-is-aborting-requires
-is-aborting-requires c κs = search needs
-
-any-remote-requires : tie.Need-any-remote-requires
-any-remote-requires c κs = search needs
-
-returns : tie.Need-returns
-returns c =
-    rw (
-      c .any-remote .ensures,
-      c .before .is-aborting .ensures,
-      c .before .before .marks-ok .ensures,
-      c .before .before .before .tag-ok .ensures,
-      c .before .before .before .before .zero-input .ensures,
-      c .before .before .before .before .before .before .is-splitting .ensures,
-      c .before .before .before .before .before .before .before .is-connected .ensures,
-      c .before .before .before .before .before .before .before .before .any-mark .ensures,
-      c .before .before .before .before .before .before .before .before .before .is-free .ensures,
-    )
-    refl
+returns-2 : tie.Need-returns-2
+returns-2 c =
+    let if1 = c .before .before .before .if1 in
+    let is-free = c .before .before .before .before .is-free in
+    let args = c .before .before .before .before .before .before .args in
+    let a = args in
+    let law = used-input (a .sites) (a .limit) (a .counter) (a .outputs) (a .i) (a .input) in
+    rw (c .connection-ok .ensures, c .before .tag-ok .ensures) (sym (law (sym (is-free .ensures) ∙ if1 .left)))
 
 pub input-ok-spec : {M : Type 1} → statement M
 input-ok-spec =
     tie.close
     (tie.spec
     is-free-requires
-    any-mark-requires
-    is-connected-requires
-    is-splitting-requires
     zero-input-requires
+    returns
     tag-ok-requires
-    marks-ok-requires
-    array-read-result
-    is-aborting-requires
-    any-remote-requires
-    returns)
+    connection-ok-requires
+    returns-2)

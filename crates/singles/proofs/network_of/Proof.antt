@@ -1,0 +1,84 @@
+-- `network_of` is safe and ends: channels and routes keep their lengths, and what is left of them falls. Assumes nothing.
+use Prim.Native.Nat.{_≤_, _-_}
+use mathlib.Core.Path.{_≡_}
+use lib.ListN.{length}
+use borrow.Author.Needs.{needs}
+use Rattle.singles.proofs.network_of.Statement.{statement}
+use Rattle.singles.proofs.network_of.Tie as tie
+use Rattle.singles.proofs.network_of.Reads as reads
+use Rattle.singles.proofs.network_of.Lts as lts
+use Rattle.singles.proofs.short_of.Reads as short-of-reads
+use Rattle.singles.proofs.site.byte_of.Reads as byte-of-reads
+
+abbrev Inv-loop : tie.InvT-loop
+Inv-loop sites tries depth channel route channels₀ routes₀ i₀ channels routes i = (i ≤ 256) × (length channels ≡ 64) × (length routes ≡ 256)
+
+abbrev μ-loop : tie.MeasureT-loop
+μ-loop sites tries depth channel route channels₀ routes₀ i₀ channels routes i = 256 - i
+
+loop-holds : tie.Need-loop-holds Inv-loop μ-loop
+loop-holds c = search needs
+
+mul-byte-of : tie.Need-mul-byte-of Inv-loop μ-loop
+mul-byte-of c = search needs
+
+element-copy-out-byte-of : tie.Need-element-copy-out-byte-of Inv-loop μ-loop
+element-copy-out-byte-of c = search needs
+
+byte-of-requires : tie.Need-byte-of-requires Inv-loop μ-loop
+byte-of-requires c κs = search needs
+
+array-write-channels : tie.Need-array-write-channels Inv-loop μ-loop
+array-write-channels c = search needs
+
+mul-short-of : tie.Need-mul-short-of Inv-loop μ-loop
+mul-short-of c = search needs
+
+element-copy-out-short-of : tie.Need-element-copy-out-short-of Inv-loop μ-loop
+element-copy-out-short-of c = search needs
+
+short-of-requires : tie.Need-short-of-requires Inv-loop μ-loop
+short-of-requires c κs = search needs
+
+mul-routes : tie.Need-mul-routes Inv-loop μ-loop
+mul-routes c = search needs
+
+array-write-routes : tie.Need-array-write-routes Inv-loop μ-loop
+array-write-routes c = search needs
+
+add-i : tie.Need-add-i Inv-loop μ-loop
+add-i c = search needs
+
+loop-less : tie.Need-loop-less Inv-loop μ-loop
+loop-less c = search needs
+
+loop-again : tie.Need-loop-again Inv-loop μ-loop
+loop-again c = search needs
+
+byte-of-requires-2 : tie.Need-byte-of-requires-2 Inv-loop μ-loop
+byte-of-requires-2 c κs = search needs
+
+returns : tie.Need-returns Inv-loop μ-loop
+returns c = search needs
+
+pub network-of-spec : {M : Type 1} → statement M
+network-of-spec =
+    tie.close
+    (tie.spec
+    Inv-loop
+    μ-loop
+    loop-holds
+    mul-byte-of
+    element-copy-out-byte-of
+    byte-of-requires
+    array-write-channels
+    mul-short-of
+    element-copy-out-short-of
+    short-of-requires
+    mul-routes
+    array-write-routes
+    add-i
+    loop-less
+    loop-again
+    byte-of-requires-2
+    returns)
