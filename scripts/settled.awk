@@ -1,7 +1,6 @@
 # Of scripts/settled.sh: reads the libraries' code, their proofs/Lib.antt and the theorems, and holds each public
 # function to its theorem. Public is each `pub fn`, `pub const fn` and `pub extern "C" fn`, also in an `impl` or a `mod`;
-# what is `pub(crate)` is not. Handed in: the names of the libraries, of those without a function, the exceptions, the
-# further theorems.
+# what is `pub(crate)` is not. Handed in: the names of the libraries, of those without a function, the exceptions.
 
 # every file as one text, without the comments that end with their line
 FNR == 1 { names[++files] = FILENAME }
@@ -59,14 +58,13 @@ function crate_of(file,    part) {
     return part[2]
 }
 
-# public["CRATE::NAME"]: how many there are of that name; any: the same of all functions
+# public["CRATE::NAME"]: how many there are of that name
 function functions(file,    crate, n, w, i, j, one) {
     crate = crate_of(file)
     text[file] = without(text[file], "/*", "*/")
     gsub(/[][{}();<>]/, " & ", text[file])
     n = split(text[file], w)
     for (i = 1; i < n; i++) {
-        if (w[i] == "fn") any[crate "::" w[i + 1]] = 1
         if (w[i] != "pub") continue
         for (j = i + 1; w[j] ~ /^(const|unsafe|extern|"[^"]*")$/; j++);
         if (w[j] != "fn") continue
@@ -127,9 +125,7 @@ function theorem(file, name, words, bound, told,    own, want, path, crate, n, p
     crate = substr(path, length("Rattle·") + 1, n - length("Rattle·") - 1)
     n = split(substr(path, n + length(".proofs.")), part, ".")
     one = crate "::" name
-    if (has(further, crate "::" part[1] "::" name)) {
-        if (!(one in any)) problem(file ": there is no function " one)
-    } else if (part[n] != name || (crate "::" part[1]) in by_hand)
+    if (part[n] != name || (crate "::" part[1]) in by_hand)
         problem(file ": " own " is `" path "`, not the function " name)
     else if (!(one in public)) problem(file ": " one " is no public function")
     else if (!(path in cited)) {

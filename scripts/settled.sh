@@ -19,10 +19,6 @@ bare="model theorems format"
 # Functions without a theorem: what is read and written lies outside the machine in which a contract is stated.
 exceptions="report::read_seen report::print_services report::print_line"
 
-# Theorems of functions that are not public, CRATE::MODULE::NAME: `tick` changes the lent run clock, which document 01
-# names, and that module of `machine` passes its contract on.
-further="machine::LentClock::tick"
-
 fail() {
     echo "settled: $1" >&2
     exit 1
@@ -46,5 +42,5 @@ files=$(for crate in $libraries; do
     find "crates/$crate/src" -name '*.rt'
     find "crates/$crate" -path '*/proofs/Lib.antt'
 done)
-LC_ALL=C awk -v libraries="$libraries" -v bare="$bare" -v exceptions="$exceptions" -v further="$further" -f scripts/settled.awk \
+LC_ALL=C awk -v libraries="$libraries" -v bare="$bare" -v exceptions="$exceptions" -f scripts/settled.awk \
     $files crates/settled/proofs/*.antt

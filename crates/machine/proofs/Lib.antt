@@ -1,23 +1,15 @@
 -- Laws that belong to no one function.
-pub mod ByNumber
-pub mod Cut
-pub mod LentClock
 pub mod Lifts
+pub mod OwingSums
 pub mod PlayedArchive
 pub mod PlayerAnswers
 pub mod PlayerRoom
-pub mod PlayerWays
-pub mod Popped
+pub mod PlayerTurns
 pub mod ProgressLaws
-pub mod ProgressLawsArms
 pub mod ProgressLawsBook
 pub mod ProgressLawsEvents
 pub mod ProgressLawsOrder
+pub mod RangeAt
 pub mod Ready
-pub mod Resting
-pub mod Search
 pub mod Seen
 pub mod Single
-pub mod Table
-pub mod Waiting
-pub mod Work

@@ -2,11 +2,10 @@
 -- refuse. Assumes that the byte of the number of sends is one, which the bytes' type says.
 use Prim.Native.Nat.{ℕ, suc, _+_, _*_, _<_}
 use mathlib.Core.Path.{_≡_, refl, sym, ap, ap₂, _∙_}
-use mathlib.Core.Bool.{Bool, true, false, cond}
+use mathlib.Core.Bool.{cond}
 use mathlib.Core.List.{List, [], _∷_, _++_}
 use native.Mathlib.Omega.{arith}
-use borrow.Author.Tests.{eqb-true, eqb-false}
-use lib.Dec.{eqb, ltb}
+use lib.Dec.{eqb}
 use lib.ListN.{getD, length}
 use Rattle.base.specs.Answers.{atFront}
 use Rattle.base.specs.Sums.{sum, upto, upto-ext}
@@ -15,23 +14,17 @@ use Rattle.types.specs.declared.Run.{Run}
 use Rattle.model.specs.Types.{noState}
 use Rattle.model.specs.Events.{acceptedSet}
 use Rattle.model.specs.Owing.{owed}
-use Rattle.model.specs.Runs.{Service, bookBytes, inBook, inEntries, events, storedRefusal, bookRoom, script, playedRun}
+use Rattle.model.specs.Runs.{Service, bookBytes, inBook, inEntries, events, storedRefusal, script, playedRun}
 use Rattle.theorems.proofs.Played.{played-once}
 use Rattle.theorems.proofs.PlayerCounts.{counts}
 use Rattle.format.specs.Format.{at, countPlace, runOf}
 use Rattle.format.specs.Refusals.{readRefusal, decode}
 use Rattle.machine.specs.Play.{playRefusal, playAnswer, playBook}
-use Rattle.machine.proofs.PlayerAnswers.{read-refusal, read-run, read-count, read-stored}
+use Rattle.machine.proofs.PlayerAnswers.{archive-passes, read-refusal, read-run, read-count, read-stored}
 
 module _ (b : List ℕ) (room : ℕ) (byte : at b countPlace < 256) (z : playRefusal b room ≡ 0) where
   is-archive : readRefusal b ≡ 0
-  unfolding playRefusal
-  is-archive = go (eqb (readRefusal b) 0) refl z
-    where
-      go : (t : Bool) → eqb (readRefusal b) 0 ≡ t → cond t (cond (ltb room (bookRoom (runOf b))) 14 0) (readRefusal b) ≡ 0
-          → readRefusal b ≡ 0
-      go true e h = eqb-true (readRefusal b) 0 e
-      go false e h = absurd (eqb-false (readRefusal b) 0 e h)
+  is-archive = archive-passes b room z
 
   is-stored : storedRefusal (runOf b) ≡ 0
   is-stored =

@@ -1,11 +1,11 @@
--- The ways of `play`: what the reader hands over, and the answer and the book by it. Assumes what each law names.
+-- The ways of a player, from the bytes: what the reader hands over, what `start` makes of it, the answer and the book. Assumes what each law names.
 use Prim.Native.Nat.{ℕ, _+_, _*_, _≤_, _<_}
-use mathlib.Core.Path.{_≡_, refl, sym, ap, _∙_}
+use mathlib.Core.Path.{_≡_, refl, sym, ap, ap₂, _∙_}
 use mathlib.Core.List.{List}
 use mathlib.Core.Bool.{Bool, true, false, cond}
 use native.Mathlib.Omega.{arith}
-use borrow.Author.Tests.{lt-ltb, le-ltb, eqb-true, ne-eqb}
-use lib.Dec.{eqb}
+use borrow.Author.Tests.{lt-ltb, le-ltb, eqb-true, eqb-false, ne-eqb}
+use lib.Dec.{eqb, ltb}
 use lib.ListN.{length, length-replicate}
 use Rattle.base.specs.Sizes.{sendsMost}
 use Rattle.base.specs.Over.{length-over}
@@ -18,7 +18,11 @@ use Rattle.format.specs.Format.{runOf, sendOf, sendsPlace, at, sitesPlace, coun
 use Rattle.format.specs.Refusals.{readRefusal, decode}
 use Rattle.model.specs.Runs.{bodyRefusal}
 use Rattle.archive.proofs.Passed.{head-passes, stored-by}
-use Rattle.machine.specs.Play.{playRefusal, noCounts, playAnswer, bookIn, playBook}
+use Rattle.machine.specs.Play.{playRefusal, noCounts, playAnswer, bookIn, playBook, bookSpace, Playable, startOf}
+use Rattle.machine.proofs.PlayerRoom.{space-is, room-is}
+
+abbrev told : ℕ → Run → Decoded
+told k r = record { refusal = k; run = r }
 
 module _ (b : List ℕ) where
   pub read-refusal : decode b .refusal ≡ readRefusal b
@@ -30,6 +34,16 @@ module _ (b : List ℕ) where
           ≡ readRefusal b
       go true e = sym (eqb-true (readRefusal b) 0 e)
       go false e = refl
+
+  -- bytes that no player refuses are an archive
+  pub archive-passes : (room : ℕ) → playRefusal b room ≡ 0 → readRefusal b ≡ 0
+  unfolding playRefusal
+  archive-passes room = go (eqb (readRefusal b) 0) refl
+    where
+      go : (t : Bool) → eqb (readRefusal b) 0 ≡ t → cond t (cond (ltb room (bookRoom (runOf b))) 14 0) (readRefusal b) ≡ 0
+          → readRefusal b ≡ 0
+      go true e h = eqb-true (readRefusal b) 0 e
+      go false e h = absurd (eqb-false (readRefusal b) 0 e h)
 
   -- an archive: its run
   module _ (d : Decoded) (e : d ≡ decode b) where
@@ -62,27 +76,55 @@ module _ (b : List ℕ) where
           let p = head-passes b (bodyRefusal (runOf b)) passes in
           rw read-run (stored-by (runOf b) (p .0 .sizes) (p .0 .seed) (rw read-run at h) (p .1))
 
-    -- ---- the three ways, with so much room
+      -- the room that is asked for is its book's
+      pub read-room : at b countPlace < 256 → {k : ℕ} → k ≡ bookSpace (d .run .sends) (d .run .count) → k ≡ bookRoom (d .run)
+      read-room h e =
+          let few = read-count h in
+          e ∙ space-is (d .run .sends) (d .run .count) few ∙ room-is (d .run) (omega (arith, few, read-long))
 
-    module _ (room : List ℕ) where
-      pub play-refused : (d .refusal ≡ 0 → ⊥)
-          → (record { refusal = d .refusal; counts = noCounts } ≡ playAnswer b (length room)) × (room ≡ playBook b room)
-      unfolding playAnswer playBook playRefusal
-      play-refused ne =
+    -- ---- what `start` answers, d being what the reader handed over
+
+    module _ (room : ℕ) where
+      pub start-refused : (d .refusal ≡ 0 → ⊥) → d ≡ startOf b room
+      unfolding startOf playRefusal
+      start-refused ne =
           let f = ne-eqb (readRefusal b) 0 (λ z. ne (same-refusal ∙ z)) in
-          (rw (same-refusal, f, f) refl, rw (f, f) refl)
+          rw f (ap₂ told same-refusal (ap (λ (d : Decoded). d .run) e))
 
-      pub play-short : d .refusal ≡ 0 → length room < bookRoom (d .run)
-          → (record { refusal = 14; counts = noCounts } ≡ playAnswer b (length room)) × (room ≡ playBook b room)
-      unfolding playAnswer playBook playRefusal
-      play-short z h =
-          let f = lt-ltb (length room) (bookRoom (runOf b)) (rw (read-run z) at h) in
-          (rw (passes z, f) refl, rw (passes z, f) refl)
+      module _ (z : d .refusal ≡ 0) where
+        pub start-short : room < bookRoom (d .run) → record { refusal = 14; run = d .run } ≡ startOf b room
+        unfolding startOf playRefusal
+        start-short h =
+            let f = lt-ltb room (bookRoom (runOf b)) (rw (read-run z) at h) in
+            rw (passes z, f) (ap (told 14) (ap (λ (d : Decoded). d .run) e))
 
-      pub play-done : (z : d .refusal ≡ 0) (counts : Counts) (book : List ℕ) → bookRoom (d .run) ≤ length room
-          → counts ≡ countsOf (playedRun (d .run)) → book ≡ bookIn (d .run) room
-          → (record { refusal = 0; counts = counts } ≡ playAnswer b (length room)) × (book ≡ playBook b room)
-      unfolding playAnswer playBook playRefusal
-      play-done z counts book h hc hb =
-          let f = le-ltb (length room) (bookRoom (runOf b)) (rw (read-run z) at h) in
-          (rw (hc, read-run z, passes z, f) refl, rw (hb, read-run z, passes z, f) refl)
+        pub start-done : bookRoom (d .run) ≤ room → d ≡ startOf b room
+        unfolding startOf playRefusal
+        start-done h =
+            let f = le-ltb room (bookRoom (runOf b)) (rw (read-run z) at h) in
+            rw (passes z, f) (ap₂ told z (ap (λ (d : Decoded). d .run) e))
+
+        pub start-playable : at b countPlace < 256 → bookRoom (d .run) ≤ room → Playable (d .run) room
+        start-playable h w = record { valid = read-stored z (read-count z h); held = read-long z; wide = w }
+
+-- ---- what a player answers, d being what it started from with so much room
+
+module _ (b room : List ℕ) {d : Decoded} (e : d ≡ startOf b (length room)) where
+  play-refusal : d .refusal ≡ playRefusal b (length room)
+  unfolding startOf
+  play-refusal = ap (λ (d : Decoded). d .refusal) e
+
+  pub play-refused : (d .refusal ≡ 0 → ⊥)
+      → (record { refusal = d .refusal; counts = noCounts } ≡ playAnswer b (length room)) × (room ≡ playBook b room)
+  unfolding playAnswer playBook
+  play-refused ne =
+      let f = ne-eqb (playRefusal b (length room)) 0 (λ z. ne (play-refusal ∙ z)) in
+      (rw (play-refusal, f) refl, rw f refl)
+
+  pub play-done : d .refusal ≡ 0 → {counts : Counts} → counts ≡ countsOf (playedRun (d .run)) → {book : List ℕ} → book ≡ bookIn (d .run) room
+      → (record { refusal = 0; counts = counts } ≡ playAnswer b (length room)) × (book ≡ playBook b room)
+  unfolding playAnswer playBook startOf
+  play-done z hc hb =
+      let f = sym play-refusal ∙ z in
+      let g = ap (λ (d : Decoded). d .run) e ∙ read-run b (decode b) refl (read-refusal b ∙ archive-passes b (length room) f) in
+      (rw (hc, g, f) refl, rw (hb, g, f) refl)

@@ -3,19 +3,14 @@
 use Prim.Native.Nat.{ℕ, zero, suc, _+_, _*_, _≤_, _<_}
 use mathlib.Core.Path.{_≡_, refl, sym, ap, _∙_}
 use mathlib.Core.List.{List}
-use mathlib.Core.Logic.{⊎-elim}
 use mathlib.Core.Bool.{true, false}
-use native.Mathlib.Nat.{le-of-suc-le-suc, eq-or-lt-of-le}
-use native.Mathlib.Numerals.{add-one}
 use native.Mathlib.Omega.{arith}
 use borrow.Author.Tests.{ltb-true, leb-true, eqb-true}
 use lib.Dec.{eqb, ltb, leb}
 use lib.ListN.{length}
 use Rattle.base.specs.Sizes.{setBits, sendsMost}
 use Rattle.base.specs.Bools.{cond-ok, both, first-of, second-of}
-use Rattle.base.specs.Sums.{upto, upto-last}
-use Rattle.sets.specs.Sets.{size}
-use Rattle.sets.proofs.LawsBit.{size-most}
+use Rattle.base.specs.Sums.{upto}
 use Rattle.draws.specs.Draws.{drawn, valueAfter}
 use Rattle.draws.proofs.Laws.{value-none, value-more}
 use Rattle.types.specs.declared.State.{State}
@@ -27,7 +22,9 @@ use Rattle.types.specs.declared.Ran.the-variants.{the-data as Ran, Nothing, Cha
 use Rattle.model.specs.Types.{sendAt}
 use Rattle.model.specs.Network.{sizesOk, channelsOk, routesOk}
 use Rattle.model.specs.Runs.{sendsOk, bodyRefusal, storedRefusal, trySend}
-use Rattle.machine.specs.Progress.{Progress, due, answered, sendTurn, went, drew, drawnRun, drawTurn, turned, progress, entered-length}
+use Rattle.machine.specs.Progress.{Progress, due, answered, sendTurn, drew, drawnRun, drawTurn, turned, progress}
+use Rattle.machine.specs.Progress.{entriesBy, bookBy, entries-most, book-length}
+use Rattle.machine.proofs.PlayerRoom.{sizesTo, sizes-next, sizes-most}
 
 -- ---- a turn's two ways
 
@@ -55,32 +52,19 @@ stored-sends r h =
     let e = first-of (routesOk (r .network)) _ 7 0 (λ e. omega arith) (d .1) in
     (leb-true _ _ (c .0), first-of (sendsOk r) 0 8 0 (λ e. omega arith) (e .1) .0)
 
--- ---- the sizes of the sends' sets, summed
+-- ---- what a RUN leaves of the book
 
--- of the first k sends
-abbrev pub sizesTo : Run → ℕ → ℕ
-sizesTo r k = upto k (λ j. size (sendAt r j .set))
+entries-by-most : (a : Ran) (b : List ℕ) (k : ℕ) → entriesBy a b k ≤ k + 1
+entries-by-most Nothing b k = omega arith
+entries-by-most Changed b k = omega arith
+entries-by-most (Serviced q s) b k = entries-most b k
+entries-by-most (RunRefused f) b k = omega arith
 
-pub sizes-more : (r : Run) (k : ℕ) → sizesTo r (k + 1) ≡ sizesTo r k + size (sendAt r k .set)
-sizes-more r k = rw (add-one k) (upto-last k (λ j. size (sendAt r j .set)))
-
-pub sizes-most : (r : Run) (k : ℕ) → sizesTo r k ≤ setBits * k
-unfolding upto
-sizes-most r zero = omega arith
-sizes-most r (suc k) =
-    omega (
-      arith,
-      sizes-most r k,
-      upto-last k (λ j. size (sendAt r j .set)),
-      size-most setBits (sendAt r k .set),
-    )
-
-pub sizes-grow : (r : Run) (k m : ℕ) → k ≤ m → sizesTo r k ≤ sizesTo r m
-sizes-grow r k zero h = let e : k ≡ 0 = omega arith in rw e (omega arith)
-sizes-grow r k (suc m) h =
-    ⊎-elim (λ e. rw e (omega arith))
-    (λ l. omega (arith, sizes-grow r k m (le-of-suc-le-suc l), upto-last m (λ j. size (sendAt r j .set))))
-    (eq-or-lt-of-le h)
+pub book-by-length : (a : Ran) (b : List ℕ) (k d : ℕ) → length (bookBy a b k d) ≡ length b
+book-by-length Nothing b k d = refl
+book-by-length Changed b k d = refl
+book-by-length (Serviced q s) b k d = book-length b k d q s
+book-by-length (RunRefused f) b k d = refl
 
 -- ---- after k turns
 
@@ -88,7 +72,7 @@ pub record Facts (r : Run) (room : List ℕ) (k : ℕ) (p : Progress) : Type 0 w
   pub turns : p .next + p .draw ≡ k
   pub sends : p .next ≤ r .count
   pub accepted : p .accepted ≤ p .next
-  pub pairs : p .pairs ≤ sizesTo r (p .next)
+  pub pairs : p .pairs ≤ sizesTo (r .sends) (p .next)
   pub serviced : p .serviced ≤ p .draw
   pub value : p .value ≡ valueAfter (p .draw) (r .seed)
   pub kept : length (p .book) ≡ length room
@@ -101,7 +85,7 @@ module _ (r : Run) (room : List ℕ) (k : ℕ) (p : Progress) (ok : Facts r room
         turns = omega (arith, ok .turns);
         sends = omega (arith, h);
         accepted = omega (arith, ok .accepted);
-        pairs = omega (arith, ok .pairs, sizes-more r (p .next));
+        pairs = omega (arith, ok .pairs, sizes-next (r .sends) (p .next));
         serviced = ok .serviced;
         value = ok .value;
         kept = ok .kept;
@@ -111,7 +95,7 @@ module _ (r : Run) (room : List ℕ) (k : ℕ) (p : Progress) (ok : Facts r room
         turns = omega (arith, ok .turns);
         sends = omega (arith, h);
         accepted = omega (arith, ok .accepted);
-        pairs = omega (arith, ok .pairs, sizes-more r (p .next));
+        pairs = omega (arith, ok .pairs, sizes-next (r .sends) (p .next));
         serviced = ok .serviced;
         value = ok .value;
         kept = ok .kept;
@@ -120,34 +104,17 @@ module _ (r : Run) (room : List ℕ) (k : ℕ) (p : Progress) (ok : Facts r room
   pub next-value : drawn (p .value) ≡ valueAfter (p .draw + 1) (r .seed)
   next-value = ap drawn (ok .value) ∙ sym (value-more (p .draw) (r .seed))
 
-  went-facts : (y : State) → Facts r room (suc k) (went p (drawn (p .value)) y)
-  went-facts y =
-      record {
-        turns = omega (arith, ok .turns);
-        sends = ok .sends;
-        accepted = ok .accepted;
-        pairs = ok .pairs;
-        serviced = omega (arith, ok .serviced);
-        value = next-value;
-        kept = ok .kept;
-      }
-
   drew-facts : (y : State) (s : Ran) → Facts r room (suc k) (drew p (drawn (p .value)) y s)
-  drew-facts y Nothing = went-facts y
-  drew-facts y Changed = went-facts y
-  drew-facts y (Serviced q s) =
-      cond-ok (Facts r room (suc k)) (ltb (length (p .book)) (4 * p .serviced + 4)) _ _ (λ h. went-facts y)
-      (λ h.
+  drew-facts y s =
       record {
         turns = omega (arith, ok .turns);
         sends = ok .sends;
         accepted = ok .accepted;
         pairs = ok .pairs;
-        serviced = omega (arith, ok .serviced);
+        serviced = omega (arith, ok .serviced, entries-by-most s (p .book) (p .serviced));
         value = next-value;
-        kept = entered-length (p .book) (4 * p .serviced) (p .draw) q s ∙ ok .kept;
-      })
-  drew-facts y (RunRefused q) = went-facts y
+        kept = book-by-length s (p .book) (p .serviced) (p .draw) ∙ ok .kept;
+      }
 
   turned-facts : Facts r room (suc k) (turned r p)
   turned-facts =
@@ -173,7 +140,7 @@ facts r room (suc k) = turned-facts r room k (progress r room k) (facts r room k
 module _ (r : Run) (room : List ℕ) (k : ℕ) where
   pub pairs-count : progress r room k .pairs ≤ setBits * r .count
   pairs-count =
-      let p = progress r room k in omega (arith, facts r room k .sends, facts r room k .pairs, sizes-most r (p .next))
+      let p = progress r room k in omega (arith, facts r room k .sends, facts r room k .pairs, sizes-most (r .sends) (p .next))
 
   -- at most 255 * 64
   pub pairs-most : storedRefusal r ≡ 0 → progress r room k .pairs ≤ sendsMost * setBits

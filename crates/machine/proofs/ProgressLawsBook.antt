@@ -6,10 +6,10 @@ use mathlib.Core.Path.{_≡_, refl, sym, ap, ap₂, _∙_}
 use mathlib.Core.List.{List, [], _∷_, _++_}
 use mathlib.Core.Bool.{Bool, true, false, cond}
 use native.Mathlib.Omega.{arith}
-use borrow.Author.Tests.{le-ltb}
 use lib.ListN.{length, take, drop, length-append, length-drop}
 use lib.Seq.{take-at, drop-append-add, drop-drop, sets-eq}
 use Rattle.base.specs.Sizes.{sendsMost}
+use Rattle.draws.specs.Draws.{drawn}
 use Rattle.types.specs.declared.State.{State}
 use Rattle.types.specs.declared.Run.{Run}
 use Rattle.types.specs.declared.AfterSend.{AfterSend}
@@ -18,7 +18,7 @@ use Rattle.types.specs.declared.Ran.the-variants.{the-data as Ran, Nothing, Cha
 use Rattle.model.specs.Types.{sendAt}
 use Rattle.base.specs.Answers.{atFront}
 use Rattle.model.specs.Runs.{Service, Played, unplayed, serviceBytes, bookBytes, bookRoom, storedRefusal, entered, trySend, played, playedRun}
-use Rattle.machine.specs.Progress.{Progress, due, answered, sendTurn, enteredAt, drew, drawnRun, drawTurn, turned, progress}
+use Rattle.machine.specs.Progress.{Progress, due, answered, sendTurn, enteredAt, drew, drawnRun, drawTurn, turned, progress, room-left}
 use Rattle.machine.proofs.ProgressLaws.{stored-sends, facts}
 use Rattle.machine.proofs.ProgressLawsEvents.{bookTurn, servicesTo, asPlayed, turns-played, services-fit}
 use Rattle.machine.proofs.ProgressLawsOrder.{turns-script}
@@ -81,9 +81,9 @@ module _ (room : List ℕ) (p : Progress) (l : List Service) (ok : Booked room p
   drew-booked v y Changed k h = ok
   drew-booked v y (Serviced q s) k h =
       let e = length-append l (record { draw = p .draw; packet = q; site = s } ∷ []) in
-      rw (le-ltb (length (p .book)) (4 * p .serviced + 4) (omega (arith, k, h, e, ok .0))) (
-        omega (arith, ok .0, e),
-        rw (ok .0, ok .1) (filled-more l room (p .draw) q s (omega (arith, h, e))),
+      let f = room-left (p .book) (p .serviced) (p .draw) q s (omega (arith, k, h, e, ok .0)) in (
+        omega (arith, f .0, ok .0, e),
+        f .1 ∙ (rw (ok .0, ok .1) (filled-more l room (p .draw) q s (omega (arith, h, e)))),
       )
   drew-booked v y (RunRefused q) k h = ok
 
@@ -98,7 +98,7 @@ module _ (room : List ℕ) (p : Progress) (l : List Service) (ok : Booked room p
           let e = sendAt r (p .next) in
           let a = trySend (r .network) (p .state) (e .site) (e .set) in
           sent-booked (e .set) a (a .answer)
-      go false h = drew-booked _ (drawnRun r p .state) (drawnRun r p .answer) k h
+      go false h = drew-booked (drawn (p .value)) (drawnRun r p .state) (drawnRun r p .answer) k h
 
 -- ---- after k turns
 

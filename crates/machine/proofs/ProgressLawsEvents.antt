@@ -5,22 +5,15 @@ use mathlib.Core.Path.{_≡_, refl, sym, ap, _∙_}
 use mathlib.Core.List.{List, [], _∷_, _++_}
 use mathlib.Core.Bool.{Bool, true, false, cond}
 use native.Mathlib.Omega.{arith}
-use lib.Dec.{ltb}
-use lib.ListN.{length, take}
-use lib.Seq.{length-take-le, getD-take}
+use lib.ListN.{length}
 use Rattle.base.specs.Bools.{cond-ok}
-use Rattle.base.specs.Sums.{sum, sum-upto, upto-ext}
-use Rattle.sets.specs.Sets.{size}
 use Rattle.draws.specs.Draws.{drawn, drawnSite, drawnCode}
 use Rattle.draws.proofs.Laws.{site-below, code-below}
-use Rattle.types.specs.declared.State.{State}
 use Rattle.types.specs.declared.Network.{Network}
-use Rattle.types.specs.declared.StoredSend.{StoredSend}
 use Rattle.types.specs.declared.Run.{Run as StoredRun}
 use Rattle.types.specs.declared.AfterSend.{AfterSend}
 use Rattle.types.specs.declared.Sent.the-variants.{the-data as Sent, Accepted, Refused as SendRefused}
-use Rattle.types.specs.declared.Ran.the-variants.{the-data as Ran, Nothing, Changed, Serviced, Refused as RunRefused}
-use Rattle.model.specs.Types.{noState, sendD, sendAt}
+use Rattle.model.specs.Types.{noState, sendAt}
 use Rattle.model.specs.Range.{inRange}
 use Rattle.model.specs.Events.{Event, Send, Run, final}
 use Rattle.model.specs.Owing.{owedPairs}
@@ -29,8 +22,9 @@ use Rattle.theorems.proofs.Networks.{valid-ok}
 use Rattle.theorems.proofs.RangeKept.{empty-shaped, empty-in-range, reached}
 use Rattle.theorems.proofs.Played.{AllNamed, singly-state, same-played, stored-network}
 use Rattle.theorems.proofs.PlayerCounts.{singly-counts}
-use Rattle.machine.specs.Progress.{Progress, due, answered, sendTurn, drew, drawnRun, drawTurn, turned, progress}
-use Rattle.machine.proofs.ProgressLaws.{sizesTo, sizes-grow, facts}
+use Rattle.machine.specs.Progress.{Progress, due, answered, sendTurn, drawnRun, drawTurn, turned, progress}
+use Rattle.machine.proofs.PlayerRoom.{sizes-grow, room-is}
+use Rattle.machine.proofs.ProgressLaws.{facts}
 use Rattle.model.specs.Runs.{events}
 
 -- ---- the events of the first k turns, and their services
@@ -82,16 +76,6 @@ send-same : (p : Progress) (l : List Service) (X : ℕ) (a : AfterSend) (s : Sen
 send-same p l X a (Accepted q) = refl
 send-same p l X a (SendRefused k) = refl
 
-draw-same : (p : Progress) (l : List Service) (v : ℕ) (y : State) (s : Ran)
-    → record { state = y; accepted = p .accepted; pairs = p .pairs; book = l } ≡ asPlayed (drew p v y s) l
-draw-same p l v y Nothing = refl
-draw-same p l v y Changed = refl
-draw-same p l v y (Serviced q s) =
-    cond-ok
-    (λ (w : Progress). record { state = y; accepted = p .accepted; pairs = p .pairs; book = l } ≡ asPlayed w l)
-    (ltb (length (p .book)) (4 * p .serviced + 4)) _ _ (λ h. refl) (λ h. refl)
-draw-same p l v y (RunRefused k) = refl
-
 turn-same : (r : StoredRun) (p : Progress) (l : List Service)
     → advance (r .network) (asPlayed p l) (p .draw) (turnEvent r p) ≡ asPlayed (turned r p) (bookTurn r p l)
 unfolding turned sendTurn drawTurn
@@ -106,9 +90,7 @@ turn-same r p l = go (due r p)
         let e = sendAt r (p .next) in
         let a = trySend (r .network) (p .state) (e .site) (e .set) in
         send-same p l (e .set) a (a .answer)
-    go false =
-        let a = drawnRun r p in
-        draw-same p (entered (p .draw) (a .answer) l) (drawn (p .value)) (a .state) (a .answer)
+    go false = refl
 
 -- ---- after k turns
 
@@ -176,11 +158,11 @@ module _ (r : StoredRun) (room : List ℕ) where
     pub services-fit : (k : ℕ) → r .count ≤ length (r .sends) → 4 * length (servicesTo r room k) ≤ bookRoom r
     services-fit k h =
         let p = progress r room k in
-        let l = take (r .count) (r .sends) in
-        let e : sum (λ (e : StoredSend). size (e .set)) l ≡ sizesTo r (r .count) =
-        sum-upto (λ (e : StoredSend). size (e .set)) l sendD
-        ∙ rw (length-take-le (r .count) (r .sends) h)
-        (upto-ext (r .count) _ (λ j. size (sendAt r j .set))
-        (λ j i. ap (λ (e : StoredSend). size (e .set)) (getD-take (r .count) (r .sends) j sendD i))) in
         let f = facts r room k in
-        omega (arith, e, progress-counts k, f .pairs, sizes-grow r (p .next) (r .count) (f .sends))
+        omega (
+          arith,
+          room-is r h,
+          progress-counts k,
+          f .pairs,
+          sizes-grow (r .sends) (p .next) (r .count) (f .sends),
+        )

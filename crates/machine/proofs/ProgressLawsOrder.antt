@@ -1,6 +1,6 @@
 -- The events that turns take are those of the model's script, in its order: as the sends' draw numbers do not fall, the
 -- sends marked d stand together. Assumes a valid run; for the script also that it has as many sends as it says.
-use Prim.Native.Nat.{ℕ, zero, suc, _+_, _-_, _*_, _≤_, _<_}
+use Prim.Native.Nat.{ℕ, zero, suc, _+_, _-_, _≤_, _<_}
 use mathlib.Core.Path.{_≡_, refl, sym, ap, ap₂, _∙_}
 use mathlib.Core.Logic.{⊎-elim}
 use mathlib.Core.List.{List, [], _∷_, _++_, append-nil, append-assoc}
@@ -12,20 +12,18 @@ use native.Mathlib.Omega.{arith}
 use borrow.Author.Tests.{leb-true, eq-eqb, ne-eqb, eqb-true, eqb-false, ltb-false}
 use lib.Dec.{eqb, ltb, leb}
 use lib.ListN.{length, getD, take}
-use Rattle.base.specs.Bools.{clash, cond-ok, both, either, not-both, either-way}
+use Rattle.base.specs.Bools.{clash, both, either, not-both, either-way}
 use Rattle.base.specs.All.{all-at}
 use Rattle.sets.specs.Sets.{targets}
-use Rattle.draws.specs.Draws.{drawn, drawnSite, drawnCode}
-use Rattle.types.specs.declared.State.{State}
+use Rattle.draws.specs.Draws.{drawnSite, drawnCode}
 use Rattle.types.specs.declared.StoredSend.{StoredSend}
 use Rattle.types.specs.declared.Run.{Run as StoredRun}
 use Rattle.types.specs.declared.AfterSend.{AfterSend}
 use Rattle.types.specs.declared.Sent.the-variants.{the-data as Sent, Accepted, Refused as SendRefused}
-use Rattle.types.specs.declared.Ran.the-variants.{the-data as Ran, Nothing, Changed, Serviced, Refused as RunRefused}
 use Rattle.model.specs.Types.{sendD, sendAt}
 use Rattle.model.specs.Events.{Event, Send, Run}
 use Rattle.model.specs.Runs.{Timed, sendOk, sendsOk, storedRefusal, marked, sendsAt, drawAt, atDraw, scriptTo, script}
-use Rattle.machine.specs.Progress.{Progress, due, answered, drew, turned, progress}
+use Rattle.machine.specs.Progress.{Progress, due, answered, turned, progress}
 use Rattle.machine.proofs.ProgressLaws.{is-due, turned-by, stored-sends, next-value, Facts, facts, facts-of}
 use Rattle.machine.proofs.ProgressLawsEvents.{turnEvent, andThen, eventsTo}
 
@@ -148,17 +146,7 @@ turned-draw : (r : StoredRun) (p : Progress) → due r p ≡ false
     → (turned r p .next ≡ p .next) × (turned r p .draw ≡ suc (p .draw))
 turned-draw r p h =
     turned-by (λ (w : Progress). (w .next ≡ p .next) × (w .draw ≡ suc (p .draw))) r p
-    (λ e a s. absurd (clash (sym e ∙ h))) (λ e a. drawn-by (drawn (p .value)) (a .state) (a .answer))
-  where
-    drawn-by : (v : ℕ) (y : State) (s : Ran)
-        → (drew p v y s .next ≡ p .next) × (drew p v y s .draw ≡ suc (p .draw))
-    drawn-by v y Nothing = (refl, add-one (p .draw))
-    drawn-by v y Changed = (refl, add-one (p .draw))
-    drawn-by v y (Serviced q s) =
-        cond-ok (λ (w : Progress). (w .next ≡ p .next) × (w .draw ≡ suc (p .draw)))
-        (ltb (length (p .book)) (4 * p .serviced + 4)) _ _ (λ e. (refl, add-one (p .draw)))
-        (λ e. (refl, add-one (p .draw)))
-    drawn-by v y (RunRefused q) = (refl, add-one (p .draw))
+    (λ e a s. absurd (clash (sym e ∙ h))) (λ e a. (refl, add-one (p .draw)))
 
 -- ---- after k turns
 

@@ -1,32 +1,27 @@
--- RUN looks at the inputs at the ends of its own channels alone, and what it passes on goes to one of them; what a site of a state in range has.
--- Assumes nothing.
+-- RUN looks at the inputs at the ends of its own channels alone, and what it passes on goes to one of them. Assumes nothing.
 use Prim.Native.Nat.{ℕ, zero, suc, _-_, _<_}
 use mathlib.Core.Path.{_≡_, refl, sym, ap, ap₂, _∙_}
 use mathlib.Core.List.{List}
-use mathlib.Core.Bool.{Bool, true, false, cond, not, _&&_}
+use mathlib.Core.Bool.{Bool, true, false, cond, _&&_}
 use native.Mathlib.Omega.{arith}
-use borrow.Author.Tests.{ltb-true, leb-true, eqb-true, lt-ltb}
-use lib.Dec.{eqb, ltb, leb}
-use Rattle.base.specs.Bools.{cond-ok, both, both3, both6, clash, implies, pick, alike, pick-at, either-way}
-use Rattle.base.specs.All.{all, all-at, all-same}
-use Rattle.sets.proofs.Laws.{targets-at}
+use borrow.Author.Tests.{ltb-true}
+use lib.Dec.{eqb, ltb}
+use Rattle.base.specs.Bools.{cond-ok, clash, implies, either-way}
+use Rattle.base.specs.All.{all-same}
 use Rattle.types.specs.declared.Phase.the-variants.{the-data as Phase, Free, Seek, Open, Wait, Done, Last, Abort as Aborted, FinAbort}
 use Rattle.types.specs.declared.Terminator.the-variants.{the-data as Terminator, None as tNone, End as tEnd, Abort as tAbort, KeepLocal as tKeep}
 use Rattle.types.specs.declared.Input.{Input}
 use Rattle.types.specs.declared.Output.{Output}
 use Rattle.types.specs.declared.Site.{Site}
-use Rattle.types.specs.declared.State.{State}
 use Rattle.types.specs.declared.Network.{Network}
-use Rattle.model.specs.Types.{inAt, outAt, siteAt, mark, outOf, setIn, setOut, withInQueue, withOutQueue}
-use Rattle.types.specs.Numbers.{stateNumber}
+use Rattle.model.specs.Types.{inAt, outAt, mark, outOf, setIn, setOut, withInQueue, withOutQueue}
 use Rattle.model.specs.Network.{joined, channel}
-use Rattle.types.specs.Phases.{isFree, listening, connected, splitting, aborting, isNone}
-use Rattle.model.specs.Range.{inputOk, outputOk, outQueueOk, inQueueOk, siteOk, placeOk, inRange, tagOk, zeroInput, zeroOutput, anyMark, anyRemote, fedBy}
+use Rattle.types.specs.Phases.{listening}
 use Rattle.model.specs.NetInput.{Turn, Stay, To, allReady, hears, ready, inState, netInput}
 use Rattle.model.specs.Places.{Work, Rest, Cleared, Service, localOutput, deliver, channelOutput, outQueue, operator, timeout}
 use Rattle.model.specs.Steps.{Act, ownTurn, passTurn, workDone, setBoth, netOutput, act}
 use Rattle.theorems.proofs.Networks.{Valid}
-use Rattle.machine.specs.Step.{ofAct, Runnable, EndsWithin, Passable, farAt, fourEnds}
+use Rattle.machine.specs.Step.{ofAct, EndsWithin, Passable, farAt, fourEnds}
 
 -- ---- an output without a channel does nothing
 
@@ -56,10 +51,16 @@ module _ (n : Network) (s : ℕ) (x : Site) (f g : ℕ → Input)
       go true e = ap (λ (y : Input). listening (y .phase)) (same j (omega arith) e)
       go false e = refl
 
-  all-same-ready : (os : List Output) (bs : List Bool) → allReady (ready (joined n s) f os) bs ≡ allReady (ready (joined n s) g os) bs
-  all-same-ready os bs = all-same (λ j. implies (mark bs j) (ready (joined n s) f os j)) (λ j. implies (mark bs j) (ready (joined n s) g os j)) 5 (λ j h. ap (λ (b : Bool). implies (mark bs j) b) (ready-same os j h))
+  -- readiness as the rules see it
+  abbrev by : (ℕ → Input) → List Output → ℕ → Bool
+  by far os = ready (joined n s) far os
 
-  state-same : (i : ℕ) (y : Input) (os : List Output) (ph : Phase) → inState n s i y os (ready (joined n s) f os) ph ≡ inState n s i y os (ready (joined n s) g os) ph
+  all-same-ready : (os : List Output) (bs : List Bool) → allReady (by f os) bs ≡ allReady (by g os) bs
+  all-same-ready os bs =
+      all-same (λ j. implies (mark bs j) (by f os j)) (λ j. implies (mark bs j) (by g os j)) 5
+      (λ j h. ap (λ (b : Bool). implies (mark bs j) b) (ready-same os j h))
+
+  state-same : (i : ℕ) (y : Input) (os : List Output) (ph : Phase) → inState n s i y os (by f os) ph ≡ inState n s i y os (by g os) ph
   unfolding inState
   state-same i y os Free = refl
   state-same i y os Seek = refl
@@ -133,73 +134,19 @@ module _ (n : Network) (val : Valid n) (s : ℕ) (x : Site) (hs : s < n .sites) 
   pub act-passable : (far : ℕ → Input) (code : ℕ) → PassOk (act n s x far code)
   unfolding act
   act-passable far code =
-      cond-ok PassOk (ltb code 5) _ _ (λ h. own-ok (setBoth x code) (netInput n s code (inAt x code) (x .outputs) (ready (joined n s) far (x .outputs))))
+      cond-ok PassOk (ltb code 5) _ _
+      (λ h. own-ok (setBoth x code) (netInput n s code (inAt x code) (x .outputs) (ready (joined n s) far (x .outputs))))
       (λ h.
       cond-ok PassOk (ltb code 10) _ _ (λ h. output-ok far (code - 5) (omega (arith, ltb-true code 10 h)))
       (λ h.
       cond-ok PassOk (eqb code 10) _ _ (λ h. own-ok (λ q y. setIn (withOutQueue x q) 0 y) (outQueue (x .outgoing) (inAt x 0)))
       (λ h.
       cond-ok PassOk (eqb code 11) _ _ (λ h. work-ok (operator (n .depth) s (x .incoming) (x .outgoing)))
-      (λ h. cond-ok PassOk (eqb code 12) _ _ (λ h. own-ok (setBoth x (outAt x 0 .input)) (timeout (x .incoming) (x .outputs) (inAt x (outAt x 0 .input)))) (λ h e. absurd (clash (sym e)))))))
+      (λ h.
+      let i = outAt x 0 .input in
+      cond-ok PassOk (eqb code 12) _ _ (λ h. own-ok (setBoth x i) (timeout (x .incoming) (x .outputs) (inAt x i)))
+      (λ h e. absurd (clash (sym e)))))))
 
 -- the channels of a valid network end within the sites
 pub valid-bytes : (n : Network) → Valid n → (s : ℕ) → s < n .sites → EndsWithin n s
 valid-bytes n val s hs j hj e = omega (arith, val .ends s j hs hj e, val .few)
-
--- ---- a site of a state in range
-
-seek-used : (ph : Phase) → stateNumber ph ≡ 1 → isFree ph ≡ false
-seek-used Free e = absurd (omega arith)
-seek-used Seek e = refl
-seek-used (Open c) e = refl
-seek-used (Wait c) e = refl
-seek-used (Done c r) e = refl
-seek-used (Last c r) e = refl
-seek-used (Aborted c) e = refl
-seek-used (FinAbort c r) e = refl
-
-zero-feeder : (o : Output) → zeroOutput o ≡ true → o .input ≡ 0
-zero-feeder o e = eqb-true (o .input) 0 (both6 (not (o .used)) (eqb (o .packet) 0) (eqb (o .set) 0) (eqb (o .input) 0) (not (o .head)) (isNone (o .terminator)) e .3)
-
-tagged : (y : Input) (S T k : ℕ) (os : List Output) (i : ℕ) → inputOk S T k os i y ≡ true → pick (isFree (y .phase)) (zeroInput y) (tagOk S k (y .packet) (y .set)) ≡ true
-tagged y S T k os i e =
-    both6 (leb (y .tries) T) (pick (isFree (y .phase)) (zeroInput y) (tagOk S k (y .packet) (y .set))) (alike (anyMark (y .outputs)) (connected (y .phase)))
-    (all (λ j. implies (mark (y .outputs) j) (fedBy i (outOf os j))) 5) (implies (splitting (y .phase)) (mark (y .outputs) 0))
-    (implies (aborting (y .phase)) (splitting (y .phase) && not (anyRemote (y .outputs)))) e .1
-
-pub range-runnable : (n : Network) → Valid n → (st : State) → inRange n st ≡ true → (s : ℕ) → s < n .sites → Runnable n s (siteAt (st .sites) s)
-unfolding inRange
-range-runnable n val st h s hs =
-    record {
-      site = hs;
-      few = val .few;
-      deep = val .deep;
-      incoming = omega (arith, leb-true (x .incoming .count) (n .depth) (both (leb (x .incoming .count) (n .depth)) _ (parts .2) .0), val .deep);
-      feeder = either-way (outAt x 0 .used) (λ u. ltb-true _ 5 (both3 (tagOk (n .sites) (st .counter) (outAt x 0 .packet) (outAt x 0 .set)) (ltb (outAt x 0 .input) 5) _ (pick-at (outAt x 0 .used) _ _ out0 .0 u) .1)) (λ u. omega (arith, zero-feeder (outAt x 0) (pick-at (outAt x 0 .used) _ _ out0 .1 u)));
-      sought = λ i hi e. let t = targets-at (n .sites) (inAt x i .set) (both (ltb (inAt x i .packet) (st .counter)) _ (pick-at (isFree (inAt x i .phase)) _ _ (tag i hi) .1 (seek-used (inAt x i .phase) e)) .1) in (t .0, t .1);
-    }
-  where
-    x : Site
-    x = siteAt (st .sites) s
-
-    ok : siteOk (n .sites) (n .tries) (n .depth) (st .counter) x ≡ true
-    ok = pick-at (ltb s (n .sites)) _ _ (all-at (λ s. placeOk (n .sites) (n .tries) (n .depth) (st .counter) s (siteAt (st .sites) s)) s 16 (omega (arith, val .few)) h) .0 (lt-ltb s (n .sites) hs)
-
-    ins : Bool
-    ins = all (λ i. inputOk (n .sites) (n .tries) (st .counter) (x .outputs) i (inAt x i)) 5
-
-    outs : Bool
-    outs = all (λ j. outputOk (n .sites) (st .counter) j (outAt x j)) 5
-
-    parts : (ins ≡ true) × (outs ≡ true) × (inQueueOk (n .sites) (n .depth) (st .counter) (x .incoming) ≡ true)
-    parts =
-        let a = both (ins && outs && outQueueOk (n .sites) (n .depth) (st .counter) (x .outgoing)) _ ok in
-        let b = both (ins && outs) _ (a .0) in
-        let c = both ins outs (b .0) in
-        (c .0, c .1, a .1)
-
-    out0 : outputOk (n .sites) (st .counter) 0 (outAt x 0) ≡ true
-    out0 = all-at (λ j. outputOk (n .sites) (st .counter) j (outAt x j)) 0 5 (omega arith) (parts .1)
-
-    tag : (i : ℕ) → i < 5 → pick (isFree (inAt x i .phase)) (zeroInput (inAt x i)) (tagOk (n .sites) (st .counter) (inAt x i .packet) (inAt x i .set)) ≡ true
-    tag i hi = let e = all-at (λ i. inputOk (n .sites) (n .tries) (st .counter) (x .outputs) i (inAt x i)) i 5 hi (parts .0) in tagged (inAt x i) (n .sites) (n .tries) (st .counter) (x .outputs) i e

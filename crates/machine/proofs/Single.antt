@@ -1,24 +1,24 @@
 -- The single events by their refusals, as the code tests them, and RUN by the change that it stores. Assumes nothing.
-use Prim.Native.Nat.{suc, ℕ, _<_}
+use Prim.Native.Nat.{ℕ, _≤_, _<_}
 use mathlib.Core.Path.{_≡_, refl, ap, _∙_}
-use mathlib.Core.List.{List}
 use mathlib.Core.Bool.{Bool, true, false, cond, _&&_}
 use native.Mathlib.Omega.{arith}
-use borrow.Author.Tests.{ne-eqb}
+use borrow.Author.Tests.{ne-eqb, ltb-true}
 use lib.Dec.{eqb, ltb}
 use Rattle.base.specs.Sizes.{codeCount}
-use Rattle.types.specs.declared.Input.{Input}
+use Rattle.base.specs.Bools.{first-of}
+use Rattle.sets.specs.Sets.{targets}
 use Rattle.types.specs.declared.Network.{Network}
 use Rattle.types.specs.declared.State.{State}
 use Rattle.types.specs.declared.Sent.the-variants.{Refused as SendRefused}
 use Rattle.types.specs.declared.Ran.the-variants.{Refused as RunRefused}
 use Rattle.model.specs.Types.{siteAt}
-use Rattle.model.specs.Network.{networkRefusal, joined}
+use Rattle.model.specs.Network.{networkRefusal}
 use Rattle.model.specs.Range.{inRange}
 use Rattle.model.specs.Steps.{Act, Idle, Own, Serve, Pass, patch, act, ends, run}
+use Rattle.model.specs.Runs.{trySend}
 use Rattle.model.specs.Events.{refusalThen, runFault, sendFault, runRefusal, sendRefusal, runs, sends, ran, sent}
-use Rattle.theorems.proofs.Networks.{valid-ok}
-use Rattle.theorems.proofs.Refusals.{not-refused, send-passes}
+use Rattle.theorems.proofs.Refusals.{not-refused}
 use Rattle.machine.specs.Step.{ofAct, stored, farAt, fourEnds}
 use Rattle.machine.proofs.Seen.{act-same, four-at}
 
@@ -29,7 +29,8 @@ module _ (n : Network) (st : State) where
   shared : (own : ℕ) → (refusalThen n st 0 ≡ 0 → ⊥) → refusalThen n st own ≡ refusalThen n st 0
   shared own ne = go (eqb (networkRefusal n) 0) (inRange n st) ne
     where
-      go : (a b : Bool) → (cond a (cond b 0 13) (networkRefusal n) ≡ 0 → ⊥) → cond a (cond b own 13) (networkRefusal n) ≡ cond a (cond b 0 13) (networkRefusal n)
+      go : (a b : Bool) → (cond a (cond b 0 13) (networkRefusal n) ≡ 0 → ⊥)
+          → cond a (cond b own 13) (networkRefusal n) ≡ cond a (cond b 0 13) (networkRefusal n)
       go true true h = absurd (h refl)
       go true false h = refl
       go false b h = refl
@@ -39,7 +40,8 @@ module _ (n : Network) (st : State) where
   alone own h = let p = not-refused n st 0 h in rw (p .0, p .1) refl
 
   module _ (s code : ℕ) where
-    pub run-shared : (k : ℕ) → k ≡ refusalThen n st 0 → (k ≡ 0 → ⊥) → record { answer = RunRefused k; state = st } ≡ ran n st s code
+    pub run-shared : (k : ℕ) → k ≡ refusalThen n st 0 → (k ≡ 0 → ⊥)
+        → record { answer = RunRefused k; state = st } ≡ ran n st s code
     unfolding ran runRefusal
     run-shared k e ne = rw (shared (runFault n s code) (λ z. ne (e ∙ z)), ← e, ne-eqb k 0 ne) refl
 
@@ -56,43 +58,48 @@ module _ (n : Network) (st : State) where
     unfolding sent sendRefusal
     send-shared k e ne = rw (shared (sendFault n st s X) (λ z. ne (e ∙ z)), ← e, ne-eqb k 0 ne) refl
 
-    pub send-own : (k : ℕ) → refusalThen n st 0 ≡ 0 → k ≡ sendFault n st s X → (k ≡ 0 → ⊥) → record { answer = SendRefused k; state = st } ≡ sent n st s X
+    -- behind them SEND's own refusals
+    pub try-is : refusalThen n st 0 ≡ 0 → trySend n st s X ≡ sent n st s X
     unfolding sent sendRefusal
-    send-own k h e ne = rw (alone (sendFault n st s X) h, ← e, ne-eqb k 0 ne) refl
+    try-is h = rw (alone (sendFault n st s X) h) refl
 
-    pub send-passes-on : refusalThen n st 0 ≡ 0 → sendFault n st s X ≡ 0 → sends st s X ≡ sent n st s X
-    unfolding sent sendRefusal
-    send-passes-on h e = rw (alone (sendFault n st s X) h, e) refl
+    pub try-refused : {k : ℕ} → k ≡ sendFault n st s X → (k ≡ 0 → ⊥) → record { answer = SendRefused k; state = st } ≡ trySend n st s X
+    try-refused {k = k} e ne = rw (← e, ne-eqb k 0 ne) refl
+
+    pub try-sent : sendFault n st s X ≡ 0 → sends st s X ≡ trySend n st s X
+    try-sent e = rw e refl
 
     -- what a SEND that is not refused is known by
-    pub send-facts : refusalThen n st 0 ≡ 0 → sendFault n st s X ≡ 0 → (s < 16) × (st .counter < 255) × (siteAt (st .sites) s .outgoing .count < 8)
-    unfolding sendRefusal
-    send-facts h e =
-        let p = send-passes n st s X (alone (sendFault n st s X) h ∙ e) in
-        let v = valid-ok n (p .network) in
-        (omega (arith, p .site, v .few), p .number, omega (arith, p .room, v .deep))
+    pub send-room : n .sites ≤ 16 → n .depth ≤ 8 → sendFault n st s X ≡ 0
+        → (s < 16) × (st .counter < 255) × (siteAt (st .sites) s .outgoing .count < 8)
+    send-room few deep e =
+        let room = ltb (siteAt (st .sites) s .outgoing .count) (n .depth) in
+        let number = ltb (st .counter) 255 in
+        let a = first-of (ltb s (n .sites)) (cond (targets (n .sites) X) (cond number (cond room 0 11) 12) 10) 9 0 (λ e. omega arith) e in
+        let b = first-of (targets (n .sites) X) (cond number (cond room 0 11) 12) 10 0 (λ e. omega arith) (a .1) in
+        let c = first-of number (cond room 0 11) 12 0 (λ e. omega arith) (b .1) in
+        let d = first-of room 0 11 0 (λ e. omega arith) (c .1) in
+        let site = ltb-true s (n .sites) (a .0) in
+        let entry = ltb-true (siteAt (st .sites) s .outgoing .count) (n .depth) (d .0) in
+        (omega (arith, site, few), ltb-true (st .counter) 255 (c .0), omega (arith, entry, deep))
 
 -- ---- RUN is the change that it stores
 
 stored-is : (n : Network) (st : State) (s : ℕ) (a : Act)
-    → stored st s (ofAct n s (siteAt (st .sites) s) a) ≡ record { answer = patch n (st .sites) s a .answer; state = record { sites = patch n (st .sites) s a .sites; counter = st .counter } }
+    → let w = patch n (st .sites) s a in
+    stored st s (ofAct n s (siteAt (st .sites) s) a)
+    ≡ record { answer = w .answer; state = record { sites = w .sites; counter = st .counter } }
 stored-is n st s Idle = refl
 stored-is n st s (Own x) = refl
 stored-is n st s (Serve x q) = refl
 stored-is n st s (Pass x j y) = refl
 
 pub run-stored : (n : Network) (st : State) (s code : ℕ)
-    → stored st s (ofAct n s (siteAt (st .sites) s) (act n s (siteAt (st .sites) s) (farAt (fourEnds (ends n (st .sites) s))) code)) ≡ runs n st s code
+    → let x = siteAt (st .sites) s in
+    stored st s (ofAct n s x (act n s x (farAt (fourEnds (ends n (st .sites) s))) code)) ≡ runs n st s code
 unfolding run
 run-stored n st s code =
-    ap (λ (a : Act). stored st s (ofAct n s (siteAt (st .sites) s) a)) (act-same n s (siteAt (st .sites) s) (farAt (fourEnds (ends n (st .sites) s))) (ends n (st .sites) s) (λ j h e. four-at (ends n (st .sites) s) j h) code)
-    ∙ stored-is n st s (act n s (siteAt (st .sites) s) (ends n (st .sites) s) code)
-
--- the same with other inputs in the places of channels that there are not
-pub run-heard : (n : Network) (st : State) (s code : ℕ) (far : List Input)
-    → ((j : ℕ) → j < 4 → joined n s (suc j) ≡ true → farAt far (suc j) ≡ ends n (st .sites) s (suc j))
-    → stored st s (ofAct n s (siteAt (st .sites) s) (act n s (siteAt (st .sites) s) (farAt far) code)) ≡ runs n st s code
-unfolding run
-run-heard n st s code far same =
-    ap (λ (a : Act). stored st s (ofAct n s (siteAt (st .sites) s) a)) (act-same n s (siteAt (st .sites) s) (farAt far) (ends n (st .sites) s) same code)
-    ∙ stored-is n st s (act n s (siteAt (st .sites) s) (ends n (st .sites) s) code)
+    let x = siteAt (st .sites) s in
+    let far = ends n (st .sites) s in
+    ap (λ (a : Act). stored st s (ofAct n s x a)) (act-same n s x (farAt (fourEnds far)) far (λ j h e. four-at far j h) code)
+    ∙ stored-is n st s (act n s x far code)

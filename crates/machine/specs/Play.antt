@@ -1,10 +1,12 @@
 -- Document 01, "Draws and the stored run": what the player answers to any bytes, with any room lent for the book.
 -- Assumes nothing.
-use Prim.Native.Nat.{ℕ, _*_}
+use Prim.Native.Nat.{ℕ, _*_, _≤_}
+use mathlib.Core.Path.{_≡_}
 use mathlib.Core.List.{List}
 use mathlib.Core.Bool.{cond}
 use lib.Dec.{eqb, ltb}
 use lib.ListN.{length, getD}
+use Rattle.base.specs.Sizes.{sendsMost}
 use Rattle.base.specs.Answers.{orNext, atFront}
 use Rattle.base.specs.Sums.{upto}
 use Rattle.sets.specs.Sets.{size}
@@ -12,12 +14,11 @@ use Rattle.types.specs.declared.Counts.{Counts}
 use Rattle.types.specs.declared.Network.{Network}
 use Rattle.types.specs.declared.Run.{Run}
 use Rattle.types.specs.declared.StoredSend.{StoredSend}
-use Rattle.types.specs.declared.Sent.the-variants.{the-data as Sent, Accepted, Refused as SendRefused}
 use Rattle.model.specs.Types.{sendD}
-use Rattle.model.specs.Events.{sendFaultBy}
-use Rattle.model.specs.Runs.{bookBytes, bookRoom, playedRun, countsOf}
+use Rattle.model.specs.Runs.{storedRefusal, bookBytes, bookRoom, playedRun, countsOf}
 use Rattle.format.specs.Format.{runOf}
-use Rattle.format.specs.Refusals.{readRefusal}
+use Rattle.format.specs.declared.Decoded.{Decoded}
+use Rattle.format.specs.Refusals.{readRefusal, decode}
 use Rattle.machine.specs.declared.player.PlayAnswer.{PlayAnswer}
 
 -- "player 1 to 8, then 14": the reader's, then "14 .. for the book below 4 times the summed sizes of the stored sends'
@@ -54,7 +55,16 @@ runWith n sends count seed draws =
 abbrev pub roomOf : List StoredSend → ℕ → ℕ
 roomOf sends count = 4 * upto count (λ k. size (getD sends k sendD .set))
 
--- SEND's answer, from the same numbers as its refusal: "The answer is the packet number."
-unfoldable pub sendAnswer : ℕ → ℕ → ℕ → ℕ → ℕ → ℕ → Sent
-sendAnswer S D c entries s X =
-    cond (eqb (sendFaultBy S D c entries s X) 0) (Accepted c) (SendRefused (sendFaultBy S D c entries s X))
+-- the same for any count: there are no more than 255 places
+unfoldable pub bookSpace : List StoredSend → ℕ → ℕ
+bookSpace sends count = roomOf sends (cond (ltb count sendsMost) count sendsMost)
+
+-- a run that a player plays: valid, with as many places for sends as its type says, and lent bytes for its book
+pub record Playable (r : Run) (room : ℕ) : Type 0 where
+  pub valid : storedRefusal r ≡ 0
+  pub held : length (r .sends) ≡ sendsMost
+  pub wide : bookRoom r ≤ room
+
+-- what a player starts from, with so many bytes lent: its refusal, and the run that the reader hands over
+unfoldable pub startOf : List ℕ → ℕ → Decoded
+startOf b room = record { refusal = playRefusal b room; run = decode b .run }

@@ -1,13 +1,16 @@
 -- The player by turns, as a loop takes them: a turn is a send that is due, or a draw. The quoted phrases are document
 -- 01's. Assumes nothing.
-use Prim.Native.Nat.{ℕ, zero, suc, _+_, _*_, _/_, _%_, _<_}
+use Prim.Native.Nat.{ℕ, zero, suc, _+_, _-_, _*_, _/_, _%_, _≤_, _<_}
 use mathlib.Core.Path.{_≡_, refl, ap, _∙_}
 use mathlib.Core.List.{List}
 use mathlib.Core.Bool.{Bool, true, false, cond, _&&_}
 use native.Mathlib.Numerals.{add-one}
-use borrow.Author.Tests.{ltb-true}
+use native.Mathlib.Omega.{arith}
+use borrow.Author.Tests.{lt-ltb, le-ltb, ltb-true}
 use lib.Dec.{eqb, ltb}
 use lib.ListN.{length, set, length-set}
+use Rattle.base.specs.Sizes.{sendsMost}
+use Rattle.base.specs.Bools.{cond-ok}
 use Rattle.sets.specs.Sets.{size}
 use Rattle.draws.specs.Draws.{drawn, drawnSite, drawnCode}
 use Rattle.types.specs.declared.State.{State}
@@ -82,11 +85,37 @@ sendTurn r p =
     let a = trySend (r .network) (p .state) (e .site) (e .set) in
     answered p (e .set) a (a .answer)
 
+-- ---- the book: "The book is 4 bytes a service: draw 2, packet 1, site 1."
+
+-- the service of packet q at site s by draw d, stored at a
+unfoldable pub enteredAt : List ℕ → ℕ → ℕ → ℕ → ℕ → List ℕ
+enteredAt b a d q s = set (set (set (set b a (d / 256 % 256)) (a + 1) (d % 256)) (a + 2) q) (a + 3) s
+
+-- behind k services: how many there are then, and the lent bytes; a service that they have no room for is not entered
+unfoldable pub entriesAfter : List ℕ → ℕ → ℕ
+entriesAfter b k = cond (ltb (length b) (4 * k + 4)) k (k + 1)
+
+unfoldable pub bookAfter : List ℕ → ℕ → ℕ → ℕ → ℕ → List ℕ
+bookAfter b k d q s = cond (ltb (length b) (4 * k + 4)) b (enteredAt b (4 * k) d q s)
+
+-- the same by RUN's answer
+abbrev pub entriesBy : Ran → List ℕ → ℕ → ℕ
+entriesBy Nothing b k = k
+entriesBy Changed b k = k
+entriesBy (Serviced q s) b k = entriesAfter b k
+entriesBy (RunRefused f) b k = k
+
+abbrev pub bookBy : Ran → List ℕ → ℕ → ℕ → List ℕ
+bookBy Nothing b k d = b
+bookBy Changed b k d = b
+bookBy (Serviced q s) b k d = bookAfter b k d q s
+bookBy (RunRefused f) b k d = b
+
 -- ---- a draw: "Each draw advances first."
 
--- after a draw with the value v that leaves the state y and services nothing
-abbrev pub went : Progress → ℕ → State → Progress
-went p v y =
+-- after a draw with the value v that leaves the state y and answers a
+abbrev pub drew : Progress → ℕ → State → Ran → Progress
+drew p v y a =
     record {
       state = y;
       value = v;
@@ -94,31 +123,9 @@ went p v y =
       draw = p .draw + 1;
       accepted = p .accepted;
       pairs = p .pairs;
-      serviced = p .serviced;
-      book = p .book;
+      serviced = entriesBy a (p .book) (p .serviced);
+      book = bookBy a (p .book) (p .serviced) (p .draw);
     }
-
--- "The book is 4 bytes a service: draw 2, packet 1, site 1." The service of packet q at site s by draw d, stored at a
-unfoldable pub enteredAt : List ℕ → ℕ → ℕ → ℕ → ℕ → List ℕ
-enteredAt b a d q s = set (set (set (set b a (d / 256 % 256)) (a + 1) (d % 256)) (a + 2) q) (a + 3) s
-
--- by its answer; a service that the lent bytes have no room for is not entered
-abbrev pub drew : Progress → ℕ → State → Ran → Progress
-drew p v y Nothing = went p v y
-drew p v y Changed = went p v y
-drew p v y (Serviced q s) =
-    cond (ltb (length (p .book)) (4 * p .serviced + 4)) (went p v y)
-    (record {
-      state = y;
-      value = v;
-      next = p .next;
-      draw = p .draw + 1;
-      accepted = p .accepted;
-      pairs = p .pairs;
-      serviced = p .serviced + 1;
-      book = enteredAt (p .book) (4 * p .serviced) (p .draw) q s;
-    })
-drew p v y (RunRefused k) = went p v y
 
 -- the RUN that the next draw names
 abbrev pub drawnRun : Run → Progress → AfterRun
@@ -152,9 +159,37 @@ pub one-turn : (r : Run) (room : List ℕ) (k : ℕ) (p p′ : Progress) → p �
 unfolding progress
 one-turn r room k p p′ e f = rw (add-one k) (f ∙ ap (turned r) e)
 
-pub entered-length : (b : List ℕ) (a d q s : ℕ) → length (enteredAt b a d q s) ≡ length b
-unfolding enteredAt
-entered-length b a d q s = rw (length-set, length-set, length-set, length-set)
+-- with room for one more, and without
+pub room-left : (b : List ℕ) (k d q s : ℕ) → 4 * k + 4 ≤ length b
+    → (entriesAfter b k ≡ k + 1) × (bookAfter b k d q s ≡ enteredAt b (4 * k) d q s)
+unfolding entriesAfter bookAfter
+room-left b k d q s h = let e = le-ltb (length b) (4 * k + 4) h in (rw e refl, rw e refl)
+
+pub no-room : (b : List ℕ) (k d q s : ℕ) → length b < 4 * k + 4 → (entriesAfter b k ≡ k) × (bookAfter b k d q s ≡ b)
+unfolding entriesAfter bookAfter
+no-room b k d q s h = let e = lt-ltb (length b) (4 * k + 4) h in (rw e refl, rw e refl)
+
+pub entries-most : (b : List ℕ) (k : ℕ) → entriesAfter b k ≤ k + 1
+unfolding entriesAfter
+entries-most b k = cond-ok (λ (m : ℕ). m ≤ k + 1) (ltb (length b) (4 * k + 4)) _ _ (λ h. omega arith) (λ h. omega arith)
+
+pub book-length : (b : List ℕ) (k d q s : ℕ) → length (bookAfter b k d q s) ≡ length b
+unfolding bookAfter enteredAt
+book-length b k d q s =
+    cond-ok (λ (l : List ℕ). length l ≡ length b) (ltb (length b) (4 * k + 4)) _ _ (λ h. refl)
+    (λ h. rw (length-set, length-set, length-set, length-set))
+
+-- ---- the next stored send
+
+-- the place of send k, or the last one
+abbrev pub cappedAt : ℕ → ℕ
+cappedAt k = cond (ltb k sendsMost) k (sendsMost - 1)
+
+pub capped-below : (k : ℕ) → cappedAt k < sendsMost
+capped-below k = cond-ok (λ (m : ℕ). m < sendsMost) (ltb k sendsMost) _ _ (λ h. ltb-true k sendsMost h) (λ h. omega arith)
+
+pub capped-same : (k : ℕ) → k < sendsMost → cappedAt k ≡ k
+capped-same k h = rw (lt-ltb k sendsMost h) refl
 
 -- the test for a send, where the place that is read is the next send's only if there is one
 pub due-at : (r : Run) (p : Progress) (e : StoredSend) (k : ℕ) → (p .next < r .count → k ≡ p .next) → e ≡ sendAt r k

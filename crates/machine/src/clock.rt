@@ -19,14 +19,14 @@ fn advance(clock: Clock) -> Clock
 }
 
 // Advances a lent run clock by a draw.
-pub(crate) fn tick(clock: &mut Clock)
+pub fn tick(clock: &mut Clock)
     ensures { λ _. ⌜ now (clock .exit) ≡ advanced (now (clock .entry)) ⌝ }
 {
     *clock = advance(*clock);
 }
 
 // The same by value: a local is lent to `tick`.
-pub(crate) fn ticked(clock: Clock) -> Clock
+pub fn ticked(clock: Clock) -> Clock
     ensures { λ r. ⌜ r ≡ advanced clock ⌝ }
 {
     let mut k = clock;

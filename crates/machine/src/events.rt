@@ -1,17 +1,17 @@
 // Single SEND and RUN, with their refusals 3, 6, 7, 13, 9, 10, 12, 11, and the empty state.
 ghost use mathlib.Core.Path.{_≡_};
 ghost use mathlib.Core.Bool.{true};
-ghost use Prim.Native.Nat.{_<_};
-ghost use Rattle.model.specs.Types.{noSite, noState, siteAt};
+ghost use Prim.Native.Nat.{_<_, _≤_};
+ghost use Rattle.model.specs.Types.{noSite, noState, siteAt, pushOut};
 ghost use Rattle.model.specs.Network.{networkRefusal};
 ghost use Rattle.model.specs.Range.{inRange};
 ghost use Rattle.model.specs.Events as spec;
-use crate::phases::empty_output;
-use crate::phases::free_input;
-use crate::queues::push_out;
+ghost use Rattle.model.specs.Runs.{trySend};
 use crate::step::step;
 use crate::store::far_inputs;
 use crate::store::store_change;
+use rules::empty_output;
+use rules::free_input;
 use types::AfterRun;
 use types::AfterSend;
 use types::InEntry;
@@ -66,7 +66,7 @@ pub fn empty_state() -> State
 }
 
 // RUN on a state in range of a valid network.
-fn run_checked(network: Network, state: State, s: usize, code: usize) -> AfterRun
+pub(crate) fn run_checked(network: Network, state: State, s: usize, code: usize) -> AfterRun
     requires { ⌜ (networkRefusal network ≡ 0) × (inRange network state ≡ true) × (s < network .sites) ⌝ }
     ensures { λ r. ⌜ r ≡ spec.runs network state s code ⌝ }
 {
@@ -109,8 +109,16 @@ fn out_entries(sites: [Site; base::SITES], s: usize) -> usize
     0
 }
 
+// The out-queue with an entry more, where there is room.
+fn push_out(queue: OutQueue, entry: OutEntry) -> OutQueue
+    requires { ⌜ queue .count < 8 ⌝ }
+    ensures { λ r. ⌜ r ≡ pushOut queue entry ⌝ }
+{
+    rules::push_out(base::QUEUE, queue, entry)
+}
+
 // The state with a packet more, at the back of site s's out-queue under the counter's number.
-pub(crate) fn send_checked(state: State, s: usize, set: u64) -> AfterSend
+fn send_checked(state: State, s: usize, set: u64) -> AfterSend
     requires { ⌜ (s < 16) × (state .counter < 255) × (siteAt (state .sites) s .outgoing .count < 8) ⌝ }
     ensures { λ r. ⌜ r ≡ spec.sends state s set ⌝ }
 {
@@ -135,14 +143,30 @@ pub(crate) fn send_checked(state: State, s: usize, set: u64) -> AfterSend
     }
 }
 
-// SEND (site, set): the packet number and the next state; a refusal hands the state back.
-pub fn send(network: Network, state: State, site: usize, set: u64) -> AfterSend
-    ensures { λ r. ⌜ r ≡ spec.sent network state site set ⌝ }
+// SEND behind the checks that all events share: its own refusal and the state as it was, or the packet number and the next state.
+pub(crate) fn try_send(network: Network, state: State, s: usize, set: u64) -> AfterSend
+    requires { ⌜ (network .sites ≤ 16) × (network .depth ≤ 8) ⌝ }
+    ensures { λ r. ⌜ r ≡ trySend network state s set ⌝ }
 {
     let sites = network.sites;
     let depth = network.depth;
     let counter = state.counter;
     let all = state.sites;
+    let entries = out_entries(all, s);
+    let refusal = checks::send_fault(sites, depth, counter, entries, s, set);
+    if refusal != 0 {
+        return AfterSend {
+            answer: Sent::Refused(refusal),
+            state,
+        };
+    }
+    send_checked(state, s, set)
+}
+
+// SEND (site, set): the packet number and the next state; a refusal hands the state back.
+pub fn send(network: Network, state: State, site: usize, set: u64) -> AfterSend
+    ensures { λ r. ⌜ r ≡ spec.sent network state site set ⌝ }
+{
     let refusal = checks::event_refusal(network, state);
     if refusal != 0 {
         return AfterSend {
@@ -150,13 +174,5 @@ pub fn send(network: Network, state: State, site: usize, set: u64) -> AfterSend
             state,
         };
     }
-    let entries = out_entries(all, site);
-    let own = checks::send_fault(sites, depth, counter, entries, site, set);
-    if own != 0 {
-        return AfterSend {
-            answer: Sent::Refused(own),
-            state,
-        };
-    }
-    send_checked(state, site, set)
+    try_send(network, state, site, set)
 }

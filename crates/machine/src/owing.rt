@@ -1,11 +1,12 @@
 // The owed pairs of a state, counted place by place (document 01, "Owing").
 ghost use mathlib.Core.Path.{_≡_};
-ghost use Prim.Native.Nat.{_≤_};
+ghost use mathlib.Core.Bool.{cond};
+ghost use Prim.Native.Nat.{_+_, _≤_};
+ghost use lib.Dec.{ltb};
 ghost use lib.ListN.{take};
 ghost use Rattle.base.specs.Sums.{sum};
 ghost use Rattle.model.specs.Owing as spec;
-ghost use Rattle.machine.specs.Owing.{QueuesFit, SitesFit};
-use crate::phases::held_terminator;
+use rules::held_terminator;
 use types::InEntry;
 use types::Input;
 use types::OutEntry;
@@ -31,58 +32,55 @@ fn place_pairs(terminator: Terminator, s: usize, set: u64) -> usize
     }
 }
 
-fn input_pairs(s: usize, inputs: [Input; base::INPUTS]) -> usize
-    ensures { λ r. ⌜ (r ≡ sum (spec.pairsInput s) inputs) × (r ≤ 320) ⌝ }
+// The same of entry m of a queue that has `count`: nothing beyond them.
+fn entry_pairs(terminator: Terminator, s: usize, set: u64, m: usize, count: usize) -> usize
+    ensures { λ r. ⌜ (r ≡ cond (ltb m count) (spec.pairsAs terminator s set) 0) × (r ≤ 64) ⌝ }
+{
+    if m < count {
+        return place_pairs(terminator, s, set);
+    }
+    0
+}
+
+// Of the net-inputs and the net-outputs of site s.
+fn net_pairs(s: usize, inputs: [Input; base::INPUTS], outputs: [Output; base::OUTPUTS]) -> usize
+    ensures { λ r. ⌜ (r ≡ sum (spec.pairsInput s) inputs + sum (spec.pairsOutput s) outputs) × (r ≤ 640) ⌝ }
 {
     let mut n = 0usize;
     for i in 0usize..5 {
         let input = inputs[i];
         let phase = input.phase;
-        let terminator = held_terminator(phase);
-        n += place_pairs(terminator, s, input.set);
-    }
-    n
-}
-
-fn output_pairs(s: usize, outputs: [Output; base::OUTPUTS]) -> usize
-    ensures { λ r. ⌜ (r ≡ sum (spec.pairsOutput s) outputs) × (r ≤ 320) ⌝ }
-{
-    let mut n = 0usize;
-    for j in 0usize..5 {
-        let output = outputs[j];
+        let held = held_terminator(phase);
+        let output = outputs[i];
         let terminator = output.terminator;
-        n += place_pairs(terminator, s, output.set);
+        n += place_pairs(held, s, input.set) + place_pairs(terminator, s, output.set);
     }
     n
 }
 
-fn out_entry_pairs(entries: [OutEntry; base::QUEUE], count: usize, s: usize) -> usize
-    requires { ⌜ count ≤ 8 ⌝ }
-    ensures { λ r. ⌜ (r ≡ sum (spec.pairsOutEntry s) (take count entries)) × (r ≤ 512) ⌝ }
+// Of the first `left` entries of an out-queue and the first `came` of an in-queue.
+fn queue_pairs(
+    s: usize,
+    leaving: [OutEntry; base::QUEUE],
+    left: usize,
+    arrived: [InEntry; base::QUEUE],
+    came: usize,
+) -> usize
+    ensures { λ r. ⌜ (r ≡ sum (spec.pairsOutEntry s) (take left leaving) + sum (spec.pairsInEntry s) (take came arrived)) × (r ≤ 1024) ⌝ }
 {
     let mut n = 0usize;
-    for m in 0..count {
-        let entry = entries[m];
-        n += place_pairs(Terminator::End, s, entry.set);
+    for m in 0usize..8 {
+        let first = leaving[m];
+        let second = arrived[m];
+        let terminator = second.terminator;
+        n += entry_pairs(Terminator::End, s, first.set, m, left)
+            + entry_pairs(terminator, s, second.set, m, came);
     }
     n
 }
 
-fn in_entry_pairs(entries: [InEntry; base::QUEUE], count: usize, s: usize) -> usize
-    requires { ⌜ count ≤ 8 ⌝ }
-    ensures { λ r. ⌜ (r ≡ sum (spec.pairsInEntry s) (take count entries)) × (r ≤ 512) ⌝ }
-{
-    let mut n = 0usize;
-    for m in 0..count {
-        let entry = entries[m];
-        let terminator = entry.terminator;
-        n += place_pairs(terminator, s, entry.set);
-    }
-    n
-}
-
-fn site_pairs(s: usize, site: Site) -> usize
-    requires { ⌜ (site .outgoing .count ≤ 8) × (site .incoming .count ≤ 8) ⌝ }
+// The owed pairs of site s. Of a queue whose count is above its room every entry counts.
+pub fn site_pairs(s: usize, site: Site) -> usize
     ensures { λ r. ⌜ (r ≡ spec.pairsSite s site) × (r ≤ 1664) ⌝ }
 {
     let inputs = site.inputs;
@@ -91,15 +89,11 @@ fn site_pairs(s: usize, site: Site) -> usize
     let leaving = outgoing.entries;
     let incoming = site.incoming;
     let arrived = incoming.entries;
-    input_pairs(s, inputs)
-        + output_pairs(s, outputs)
-        + out_entry_pairs(leaving, outgoing.count, s)
-        + in_entry_pairs(arrived, incoming.count, s)
+    net_pairs(s, inputs, outputs) + queue_pairs(s, leaving, outgoing.count, arrived, incoming.count)
 }
 
 // The owed pairs of all sites.
 pub(crate) fn owed_pairs(state: State) -> usize
-    requires { ⌜ QueuesFit state ⌝ }
     ensures { λ r. ⌜ r ≡ spec.owedPairs (state .sites) ⌝ }
 {
     let sites = state.sites;
@@ -107,7 +101,6 @@ pub(crate) fn owed_pairs(state: State) -> usize
 }
 
 fn sites_pairs(sites: [Site; base::SITES]) -> usize
-    requires { ⌜ SitesFit sites ⌝ }
     ensures { λ r. ⌜ r ≡ spec.owedPairs sites ⌝ }
 {
     let mut n = 0usize;

@@ -1,27 +1,23 @@
 // RUN on a site by value: what the event sees in (the site, the inputs at the ends of its channels), what becomes of it out.
 ghost use mathlib.Core.Path.{_≡_};
-ghost use Prim.Native.Nat.{suc, _<_, _≤_};
-ghost use mathlib.Core.Bool.{true, _&&_};
-ghost use Prim.Native.Nat.{_+_};
-ghost use lib.ListN.{getD};
-ghost use Rattle.types.specs.Phases.{listening};
+ghost use Prim.Native.Nat.{_<_, _≤_};
+ghost use mathlib.Core.Bool.{cond};
 ghost use Rattle.model.specs.Types as spec;
-ghost use Rattle.model.specs.Network as net;
-ghost use Rattle.model.specs.NetInput as rule;
-ghost use Rattle.model.specs.Places as places;
 ghost use Rattle.model.specs.Steps as steps;
-ghost use Rattle.machine.specs.Step.{ofAct, unchanged, changed, farAt, thereAt, flags, fourFlags, Runnable};
+ghost use Rattle.machine.specs.Step.{ofAct, unchanged, changed, farAt, Runnable};
+ghost use Rattle.machine.specs.Step.{inputAct, localAct, channelAct, queueAct, operatorAct, timeoutAct};
+use crate::heard::ends_there;
+use crate::heard::is_channel;
+use crate::heard::ready_outputs;
 use crate::inputs::net_input;
-use crate::phases::free_input;
-use crate::phases::is_listening;
-use crate::places::channel_output;
-use crate::places::local_output;
-use crate::places::operator;
-use crate::places::out_queue;
-use crate::timeout::time_out;
+use rules::channel_output;
+use rules::free_input;
+use rules::local_output;
+use rules::operator;
+use rules::out_queue;
+use rules::time_out;
 use types::Input;
 use types::Network;
-use types::Output;
 use types::Site;
 
 // What RUN does: nothing; its site changes; the same and a service of a packet; the site and the input at the end of a channel change.
@@ -62,88 +58,39 @@ fn owns(site: Site) -> Change
     }
 }
 
-// Whether a channel byte stands for a channel.
-pub(crate) fn is_channel(byte: u8) -> bool
-    ensures { λ r. ⌜ r ≡ net.isChannel byte ⌝ }
+// The site becomes `next`, where it moved.
+fn took(site: Site, next: Site, moved: bool) -> Change
+    ensures { λ r. ⌜ r ≡ cond moved (changed next) (unchanged site) ⌝ }
 {
-    byte != base::NO_CHANNEL
-}
-
-// Whether output 0 is ready: in use with its head taken.
-fn is_ready(output: Output) -> bool
-    ensures { λ r. ⌜ r ≡ (output .used && output .head && true) ⌝ }
-{
-    output.used & output.head & true
-}
-
-// Which of four channels there are, by their bytes.
-pub(crate) fn are_ends(bytes: [u8; base::PORTS]) -> [bool; base::PORTS]
-    ensures { λ r. ⌜ r ≡ fourFlags (λ j. net.isChannel (getD bytes j 0)) ⌝ }
-{
-    [
-        is_channel(bytes[0]),
-        is_channel(bytes[1]),
-        is_channel(bytes[2]),
-        is_channel(bytes[3]),
-    ]
-}
-
-// Whether an output 1 to 4 is ready: it has a channel, and the input at its end is open or abort.
-fn is_heard(there: bool, output: Output, input: Input) -> bool
-    ensures { λ r. ⌜ r ≡ (output .used && output .head && (there && listening (input .phase))) ⌝ }
-{
-    let phase = input.phase;
-    let open = is_listening(phase);
-    output.used & output.head & (there & open)
-}
-
-// Which outputs are ready; there tells which of 1 to 4 have a channel, far has the inputs at their ends.
-pub(crate) fn ready_outputs(
-    there: [bool; base::PORTS],
-    far: [Input; base::PORTS],
-    outputs: [Output; base::OUTPUTS],
-) -> [bool; base::OUTPUTS]
-    ensures { λ r. ⌜ r ≡ flags (rule.ready (thereAt there) (farAt far) outputs) ⌝ }
-{
-    [
-        is_ready(outputs[0]),
-        is_heard(there[0], outputs[1], far[0]),
-        is_heard(there[1], outputs[2], far[1]),
-        is_heard(there[2], outputs[3], far[2]),
-        is_heard(there[3], outputs[4], far[3]),
-    ]
-}
-
-// Codes 0 to 4: net-input i.
-fn input_step(network: Network, s: usize, site: Site, far: [Input; base::PORTS], i: usize) -> Change
-    requires { ⌜ Runnable network s site ⌝ ∗ ⌜ i < 5 ⌝ }
-    ensures { λ r. ⌜ r ≡ ofAct network s site (steps.ownTurn (steps.setBoth site i) (rule.netInput network s i (spec.inAt site i) (site .outputs) (rule.ready (net.joined network s) (farAt far) (site .outputs)))) ⌝ }
-{
-    let input = site.inputs[i];
-    let outputs = site.outputs;
-    let there = are_ends([
-        network.channels[4 * s],
-        network.channels[4 * s + 1],
-        network.channels[4 * s + 2],
-        network.channels[4 * s + 3],
-    ]);
-    let ready = ready_outputs(there, far, outputs);
-    let turn = net_input(network, s, i, input, outputs, ready);
-    let after = turn.outputs;
-    let now = turn.input;
-    if turn.changed {
-        let mut next = site;
-        next.outputs = after;
-        next.inputs[i] = now;
+    if moved {
         return owns(next);
     }
     stays(site)
 }
 
+// Codes 0 to 4: net-input i.
+fn input_step(network: Network, s: usize, site: Site, far: [Input; base::PORTS], i: usize) -> Change
+    requires { ⌜ Runnable network s site ⌝ ∗ ⌜ i < 5 ⌝ }
+    ensures { λ r. ⌜ r ≡ ofAct network s site (inputAct network s site (farAt far) i) ⌝ }
+{
+    let input = site.inputs[i];
+    let outputs = site.outputs;
+    let there = ends_there(network, s);
+    let ready = ready_outputs(there, far, outputs);
+    let turn = net_input(network, s, i, input, outputs, ready);
+    let after = turn.outputs;
+    let now = turn.input;
+    let moved = turn.changed;
+    let mut next = site;
+    next.outputs = after;
+    next.inputs[i] = now;
+    took(site, next, moved)
+}
+
 // Code 5: net-output 0.
 fn local_step(network: Network, s: usize, site: Site) -> Change
     requires { ⌜ (network .depth ≤ 8) × (site .incoming .count ≤ 8) ⌝ }
-    ensures { λ r. ⌜ r ≡ ofAct network s site (steps.ownTurn (λ o q. spec.setOut (spec.withInQueue site q) 0 o) (places.localOutput (network .depth) (spec.outAt site 0) (site .incoming))) ⌝ }
+    ensures { λ r. ⌜ r ≡ ofAct network s site (localAct network site) ⌝ }
 {
     let depth = network.depth;
     let output = site.outputs[0];
@@ -151,13 +98,11 @@ fn local_step(network: Network, s: usize, site: Site) -> Change
     let turn = local_output(depth, output, queue);
     let after = turn.queue;
     let now = turn.output;
-    if turn.changed {
-        let mut next = site;
-        next.incoming = after;
-        next.outputs[0] = now;
-        return owns(next);
-    }
-    stays(site)
+    let moved = turn.changed;
+    let mut next = site;
+    next.incoming = after;
+    next.outputs[0] = now;
+    took(site, next, moved)
 }
 
 // Codes 6 to 9: net-output j + 1.
@@ -169,7 +114,7 @@ fn channel_step(
     j: usize,
 ) -> Change
     requires { ⌜ (s < 16) × (j < 4) ⌝ }
-    ensures { λ r. ⌜ r ≡ ofAct network s site (steps.passTurn site (suc j) (places.channelOutput (net.joined network s (suc j)) (spec.outAt site (j + 1)) (farAt far (suc j)))) ⌝ }
+    ensures { λ r. ⌜ r ≡ ofAct network s site (channelAct network s site (farAt far) j) ⌝ }
 {
     let output = site.outputs[j + 1];
     let input = far[j];
@@ -193,26 +138,24 @@ fn channel_step(
 
 // Code 10: the out-queue.
 fn queue_step(network: Network, s: usize, site: Site) -> Change
-    ensures { λ r. ⌜ r ≡ ofAct network s site (steps.ownTurn (λ q y. spec.setIn (spec.withOutQueue site q) 0 y) (places.outQueue (site .outgoing) (spec.inAt site 0))) ⌝ }
+    ensures { λ r. ⌜ r ≡ ofAct network s site (queueAct site) ⌝ }
 {
     let queue = site.outgoing;
     let input = site.inputs[0];
     let turn = out_queue(queue, input);
     let after = turn.queue;
     let now = turn.input;
-    if turn.changed {
-        let mut next = site;
-        next.outgoing = after;
-        next.inputs[0] = now;
-        return owns(next);
-    }
-    stays(site)
+    let moved = turn.changed;
+    let mut next = site;
+    next.outgoing = after;
+    next.inputs[0] = now;
+    took(site, next, moved)
 }
 
 // Code 11: the operator.
 fn operator_step(network: Network, s: usize, site: Site) -> Change
     requires { ⌜ network .depth ≤ 8 ⌝ }
-    ensures { λ r. ⌜ r ≡ ofAct network s site (steps.workDone site (places.operator (network .depth) s (site .incoming) (site .outgoing))) ⌝ }
+    ensures { λ r. ⌜ r ≡ ofAct network s site (operatorAct network s site) ⌝ }
 {
     let depth = network.depth;
     let incoming = site.incoming;
@@ -240,7 +183,7 @@ fn operator_step(network: Network, s: usize, site: Site) -> Change
 // Code 12: the timeout.
 fn timeout_step(network: Network, s: usize, site: Site) -> Change
     requires { ⌜ (site .incoming .count ≤ 8) × (spec.outAt site 0 .input < 5) ⌝ }
-    ensures { λ r. ⌜ r ≡ ofAct network s site (steps.ownTurn (steps.setBoth site (spec.outAt site 0 .input)) (places.timeout (site .incoming) (site .outputs) (spec.inAt site (spec.outAt site 0 .input)))) ⌝ }
+    ensures { λ r. ⌜ r ≡ ofAct network s site (timeoutAct site) ⌝ }
 {
     let own = site.outputs[0];
     let i = own.input as usize;
@@ -250,13 +193,11 @@ fn timeout_step(network: Network, s: usize, site: Site) -> Change
     let turn = time_out(queue, outputs, input);
     let after = turn.outputs;
     let now = turn.input;
-    if turn.changed {
-        let mut next = site;
-        next.outputs = after;
-        next.inputs[i] = now;
-        return owns(next);
-    }
-    stays(site)
+    let moved = turn.changed;
+    let mut next = site;
+    next.outputs = after;
+    next.inputs[i] = now;
+    took(site, next, moved)
 }
 
 // Codes 5 to 9: net-output j.

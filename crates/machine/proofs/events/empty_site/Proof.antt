@@ -4,8 +4,8 @@ use Rattle.machine.proofs.events.empty_site.Statement.{statement}
 use Rattle.machine.proofs.events.empty_site.Tie as tie
 use Rattle.machine.proofs.events.empty_site.Reads as reads
 use Rattle.machine.proofs.events.empty_site.Lts as lts
-use Rattle.machine.proofs.phases.empty_output.Reads as empty-output-reads
-use Rattle.machine.proofs.phases.free_input.Reads as free-input-reads
+use Rattle.rules.proofs.empty_output.Reads as empty-output-reads
+use Rattle.rules.proofs.free_input.Reads as free-input-reads
 
 free-input-requires : tie.Need-free-input-requires
 free-input-requires c κs = search needs

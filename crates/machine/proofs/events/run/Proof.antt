@@ -15,16 +15,28 @@ event-refusal-requires : tie.Need-event-refusal-requires
 event-refusal-requires c κs = search needs
 
 returns : tie.Need-returns
-returns c = let a = c .before .before .args in run-shared (a .network) (a .state) (a .site) (a .code) _ (c .before .event-refusal .ensures) (c .if1 .taken)
+returns c =
+    let a = c .before .before .args in
+    run-shared (a .network) (a .state) (a .site) (a .code) _ (c .before .event-refusal .ensures) (c .if1 .taken)
 
 run-checked-requires : tie.Need-run-checked-requires
-run-checked-requires c κs = let a = c .before .before .before .args in let p = not-refused (a .network) (a .state) 0 (sym (c .before .before .event-refusal .ensures) ∙ c .before .if1 .left) in (p .0, p .1, ltb-true _ _ (both _ _ (c .if2 .taken) .0))
+run-checked-requires c κs =
+    let a = c .before .before .before .args in
+    let passed = sym (c .before .before .event-refusal .ensures) ∙ c .before .if1 .left in
+    let p = not-refused (a .network) (a .state) 0 passed in
+    (p .0, p .1, ltb-true _ _ (both _ _ (c .if2 .taken) .0))
 
 returns-2 : tie.Need-returns-2
-returns-2 c = let a = c .before .before .before .before .args in c .run-checked .ensures ∙ run-passes-on (a .network) (a .state) (a .site) (a .code) (sym (c .before .before .before .event-refusal .ensures) ∙ c .before .before .if1 .left) (c .before .if2 .taken)
+returns-2 c =
+    let a = c .before .before .before .before .args in
+    let passed = sym (c .before .before .before .event-refusal .ensures) ∙ c .before .before .if1 .left in
+    c .run-checked .ensures ∙ run-passes-on (a .network) (a .state) (a .site) (a .code) passed (c .before .if2 .taken)
 
 returns-3 : tie.Need-returns-3
-returns-3 c = let a = c .before .before .before .args in run-none (a .network) (a .state) (a .site) (a .code) (sym (c .before .before .event-refusal .ensures) ∙ c .before .if1 .left) (c .if2 .left)
+returns-3 c =
+    let a = c .before .before .before .args in
+    let passed = sym (c .before .before .event-refusal .ensures) ∙ c .before .if1 .left in
+    run-none (a .network) (a .state) (a .site) (a .code) passed (c .if2 .left)
 
 pub run-spec : {M : Type 1} → statement M
 run-spec =

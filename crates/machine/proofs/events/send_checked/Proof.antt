@@ -5,7 +5,7 @@ use Rattle.machine.proofs.events.send_checked.Statement.{statement}
 use Rattle.machine.proofs.events.send_checked.Tie as tie
 use Rattle.machine.proofs.events.send_checked.Reads as reads
 use Rattle.machine.proofs.events.send_checked.Lts as lts
-use Rattle.machine.proofs.queues.push_out.Reads as push-out-reads
+use Rattle.machine.proofs.events.push_out.Reads as push-out-reads
 
 mul-site : tie.Need-mul-site
 mul-site c = search needs

@@ -34,7 +34,11 @@ returns-2 : tie.Need-returns-2
 returns-2 c = (rw (c .enum-told .given .1) refl, omega arith)
 
 returns-3 : tie.Need-returns-3
-returns-3 c = (rw (c .before .enum-told2 .given .1) (c .size .ensures), omega (arith, c .size .ensures, size-most 64 (c .before .before .before .args .set)))
+returns-3 c =
+    let args = c .before .before .before .args in (
+      rw (c .before .enum-told2 .given .1) (c .size .ensures),
+      omega (arith, c .size .ensures, size-most 64 (args .set)),
+    )
 
 returns-4 : tie.Need-returns-4
 returns-4 c = (rw (c .enum-told3 .given .1) refl, omega arith)

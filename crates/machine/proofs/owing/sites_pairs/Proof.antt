@@ -30,7 +30,7 @@ array-copy-out-site : tie.Need-array-copy-out-site Inv-loop μ-loop
 array-copy-out-site c = let e : length (c .before .before .args .t1) ≡ 16 = search needs in omega arith
 
 site-pairs-requires : tie.Need-site-pairs-requires Inv-loop μ-loop
-site-pairs-requires c κs = c .before .before .before .pre (c .before .before .loop .s) (omega arith)
+site-pairs-requires c κs = search needs
 
 add-n : tie.Need-add-n Inv-loop μ-loop
 add-n c = omega (arith, c .site-pairs .ensures .1)
@@ -43,13 +43,22 @@ loop-less c = search needs
 
 loop-again : tie.Need-loop-again Inv-loop μ-loop
 loop-again c =
-    let l = c .before .before .before .loop in
-    let e : length (c .before .before .before .before .args .t1) ≡ 16 = search needs in
-    (omega arith, omega (arith, c .site-pairs .ensures .1), omega (arith, l .inv .2, c .site-pairs .ensures .0, isum-next pairsSite (c .before .before .before .before .args .t1) (l .s) siteD (omega arith)))
+    let loop = c .before .before .before .loop in
+    let args = c .before .before .before .before .args in
+    let l = loop in
+    let e : length (args .t1) ≡ 16 = search needs in (
+      omega arith,
+      omega (arith, c .site-pairs .ensures .1),
+      omega (arith, l .inv .2, c .site-pairs .ensures .0, isum-next pairsSite (args .t1) (l .s) siteD (omega arith)),
+    )
 
 returns : tie.Need-returns Inv-loop μ-loop
 unfolding owedPairs
-returns c = let l = c .before .loop in let e : length (c .before .before .args .t1) ≡ 16 = search needs in l .inv .2 ∙ ap (isum pairsSite 0) (take-all (l .s) (c .before .before .args .t1) (omega arith))
+returns c =
+    let args = c .before .before .args in
+    let l = c .before .loop in
+    let e : length (args .t1) ≡ 16 = search needs in
+    l .inv .2 ∙ ap (isum pairsSite 0) (take-all (l .s) (args .t1) (omega arith))
 
 pub sites-pairs-spec : {M : Type 1} → statement M
 sites-pairs-spec =

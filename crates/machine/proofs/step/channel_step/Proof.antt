@@ -1,18 +1,18 @@
-use mathlib.Core.Path.{refl}
-use Prim.Native.Nat.{suc, _+_}
+use mathlib.Core.Path.{refl, _∙_}
+use Prim.Native.Nat.{suc}
 use native.Mathlib.Numerals.{add-one}
 use Rattle.model.specs.Types.{outAt}
 use Rattle.model.specs.Network.{joined}
 use Rattle.model.specs.Places.{channelOutput}
 use Rattle.machine.specs.Step.{farAt}
-use Rattle.machine.proofs.Lifts.{channel-changed, channel-stayed}
+use Rattle.machine.proofs.Lifts.{channel-took}
 use borrow.Author.Needs.{needs}
 use Rattle.machine.proofs.step.channel_step.Statement.{statement}
 use Rattle.machine.proofs.step.channel_step.Tie as tie
 use Rattle.machine.proofs.step.channel_step.Reads as reads
 use Rattle.machine.proofs.step.channel_step.Lts as lts
-use Rattle.machine.proofs.places.channel_output.Reads as channel-output-reads
-use Rattle.machine.proofs.step.is_channel.Reads as is-channel-reads
+use Rattle.rules.proofs.channel_output.Reads as channel-output-reads
+use Rattle.machine.proofs.heard.is_channel.Reads as is-channel-reads
 use Rattle.machine.proofs.step.stays.Reads as stays-reads
 
 add-output : tie.Need-add-output
@@ -56,26 +56,26 @@ element-set-from-now c = search needs
 
 returns : tie.Need-returns
 returns c =
-    let a = c .before .before .before .before .before .before .before .before .args in
-    let x = a .t3 in
-    let o = outAt x (a .j + 1) in
+    let k = c .before .before .before in
+    let a = k .before .before .before .before .before .args in
+    let o = outAt (a .t3) (suc (a .j)) in
     let y = farAt (a .t4) (suc (a .j)) in
-    let e = rw (c .before .before .before .before .is-channel .ensures) at (c .before .before .before .channel-output .ensures) in
-    let w = channelOutput (joined (a .t1) (a .s) (suc (a .j))) o y in
-    rw (channel-changed x (suc (a .j)) o y (c .before .before .before .channel-output .result) w e (c .if1 .taken), add-one (a .j)) refl
+    let t = channelOutput (joined (a .t1) (a .s) (suc (a .j))) o y in
+    let e = rw (k .before .is-channel .ensures, add-one (a .j)) at (k .channel-output .ensures) in
+    rw (add-one (a .j)) (rw (c .if1 .taken) at (channel-took (a .t1) (a .s) (a .t3) (suc (a .j)) o y t e))
 
 stays-requires : tie.Need-stays-requires
 stays-requires c κs = search needs
 
 returns-2 : tie.Need-returns-2
 returns-2 c =
-    let a = c .before .before .before .before .before .before .before .before .before .args in
-    let x = a .t3 in
-    let o = outAt x (a .j + 1) in
+    let k = c .before .before .before .before in
+    let a = k .before .before .before .before .before .args in
+    let o = outAt (a .t3) (suc (a .j)) in
     let y = farAt (a .t4) (suc (a .j)) in
-    let e = rw (c .before .before .before .before .before .is-channel .ensures) at (c .before .before .before .before .channel-output .ensures) in
-    let w = channelOutput (joined (a .t1) (a .s) (suc (a .j))) o y in
-    rw (c .stays .ensures, channel-stayed x (suc (a .j)) o y (c .before .before .before .before .channel-output .result) w e (c .before .if1 .left)) refl
+    let t = channelOutput (joined (a .t1) (a .s) (suc (a .j))) o y in
+    let e = rw (k .before .is-channel .ensures, add-one (a .j)) at (k .channel-output .ensures) in
+    c .stays .ensures ∙ (rw (c .before .if1 .left) at (channel-took (a .t1) (a .s) (a .t3) (suc (a .j)) o y t e))
 
 pub channel-step-spec : {M : Type 1} → statement M
 channel-step-spec =

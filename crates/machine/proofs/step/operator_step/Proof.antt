@@ -1,13 +1,13 @@
-use mathlib.Core.Path.{refl}
+use mathlib.Core.Path.{refl, _∙_}
 use Rattle.model.specs.Places.{operator}
-use Rattle.machine.proofs.Lifts.{work-serviced, work-cleared, work-rested}
+use Rattle.machine.proofs.Lifts.{work-took}
 use borrow.Author.Needs.{needs}
 use Rattle.machine.proofs.step.operator_step.Statement.{statement}
 use Rattle.machine.proofs.step.operator_step.Tie as tie
 use Rattle.machine.proofs.step.operator_step.Reads as reads
 use Rattle.machine.proofs.step.operator_step.Lts as lts
-use Rattle.machine.proofs.phases.free_input.Reads as free-input-reads
-use Rattle.machine.proofs.places.operator.Reads as operator-reads
+use Rattle.rules.proofs.free_input.Reads as free-input-reads
+use Rattle.rules.proofs.operator.Reads as operator-reads
 use Rattle.machine.proofs.step.owns.Reads as owns-reads
 use Rattle.machine.proofs.step.stays.Reads as stays-reads
 
@@ -18,19 +18,37 @@ free-input-requires : tie.Need-free-input-requires
 free-input-requires c κs = search needs
 
 returns : tie.Need-returns
-returns c = let x = c .before .before .before .before .before .before .before .before .args .site in rw (c .free-input .ensures, work-serviced x (x .incoming) (x .outgoing) (c .before .before .before .before .before .operator .result) (operator (c .before .before .before .before .before .before .before .before .args .network .depth) (c .before .before .before .before .before .before .before .before .args .s) (x .incoming) (x .outgoing)) (c .before .before .before .before .before .operator .ensures) (c .before .before .if1 .taken) (c .before .if2 .taken)) refl
+returns c =
+    let k = c .before .before .before .before .before in
+    let a = k .before .before .before .args in
+    let x = a .site in
+    let done = operator (a .network .depth) (a .s) (x .incoming) (x .outgoing) in
+    let w = work-took (a .network) (a .s) x (x .incoming) (x .outgoing) done (k .operator .ensures) in
+    rw (c .free-input .ensures) (rw (c .before .before .if1 .taken, c .before .if2 .taken) at w)
 
 owns-requires : tie.Need-owns-requires
 owns-requires c κs = search needs
 
 returns-2 : tie.Need-returns-2
-returns-2 c = let x = c .before .before .before .before .before .before .before .before .args .site in rw (c .owns .ensures, work-cleared x (x .incoming) (x .outgoing) (c .before .before .before .before .before .operator .result) (operator (c .before .before .before .before .before .before .before .before .args .network .depth) (c .before .before .before .before .before .before .before .before .args .s) (x .incoming) (x .outgoing)) (c .before .before .before .before .before .operator .ensures) (c .before .before .if1 .taken) (c .before .if2 .left)) refl
+returns-2 c =
+    let k = c .before .before .before .before .before in
+    let a = k .before .before .before .args in
+    let x = a .site in
+    let done = operator (a .network .depth) (a .s) (x .incoming) (x .outgoing) in
+    let w = work-took (a .network) (a .s) x (x .incoming) (x .outgoing) done (k .operator .ensures) in
+    c .owns .ensures ∙ (rw (c .before .before .if1 .taken, c .before .if2 .left) at w)
 
 stays-requires : tie.Need-stays-requires
 stays-requires c κs = search needs
 
 returns-3 : tie.Need-returns-3
-returns-3 c = let x = c .before .before .before .before .before .before .before .args .site in rw (c .stays .ensures, work-rested x (x .incoming) (x .outgoing) (c .before .before .before .before .operator .result) (operator (c .before .before .before .before .before .before .before .args .network .depth) (c .before .before .before .before .before .before .before .args .s) (x .incoming) (x .outgoing)) (c .before .before .before .before .operator .ensures) (c .before .if1 .left)) refl
+returns-3 c =
+    let k = c .before .before .before .before in
+    let a = k .before .before .before .args in
+    let x = a .site in
+    let done = operator (a .network .depth) (a .s) (x .incoming) (x .outgoing) in
+    let w = work-took (a .network) (a .s) x (x .incoming) (x .outgoing) done (k .operator .ensures) in
+    c .stays .ensures ∙ (rw (c .before .if1 .left) at w)
 
 pub operator-step-spec : {M : Type 1} → statement M
 operator-step-spec =

@@ -13,7 +13,9 @@ local-step-requires : tie.Need-local-step-requires
 local-step-requires c κs = search needs
 
 returns : tie.Need-returns
-returns c = let a = c .before .before .args in rw (c .local-step .ensures, c .before .if1 .taken, output-zero (a .network) (a .s) (a .site) (farAt (a .far))) refl
+returns c =
+    let a = c .before .before .args in
+    rw (c .local-step .ensures, c .before .if1 .taken, output-zero (a .network) (a .s) (a .site) (farAt (a .far))) refl
 
 sub-channel-step : tie.Need-sub-channel-step
 sub-channel-step c = search needs
@@ -22,7 +24,10 @@ channel-step-requires : tie.Need-channel-step-requires
 channel-step-requires c κs = search needs
 
 returns-2 : tie.Need-returns-2
-returns-2 c = let a = c .before .before .args in rw (c .channel-step .ensures, output-other (a .network) (a .s) (a .site) (farAt (a .far)) (a .j) (c .before .if1 .left)) refl
+returns-2 c =
+    let a = c .before .before .args in
+    let other = output-other (a .network) (a .s) (a .site) (farAt (a .far)) (a .j) (c .before .if1 .left) in
+    rw (c .channel-step .ensures, other) refl
 
 pub output-step-spec : {M : Type 1} → statement M
 output-step-spec =

@@ -4,7 +4,7 @@ use Rattle.machine.proofs.step.owns.Statement.{statement}
 use Rattle.machine.proofs.step.owns.Tie as tie
 use Rattle.machine.proofs.step.owns.Reads as reads
 use Rattle.machine.proofs.step.owns.Lts as lts
-use Rattle.machine.proofs.phases.free_input.Reads as free-input-reads
+use Rattle.rules.proofs.free_input.Reads as free-input-reads
 
 free-input-requires : tie.Need-free-input-requires
 free-input-requires c κs = search needs

@@ -50,11 +50,20 @@ returns-4 c = let a = c .before .before .before .args in rw (c .input-step .ensu
 
 returns-5 : tie.Need-returns-5
 unfolding act
-returns-5 c = let a = c .before .before .before .before .args in rw (c .output-step .ensures, le-ltb (a .code) 5 (omega arith), lt-ltb (a .code) 10 (omega arith)) refl
+returns-5 c =
+    let a = c .before .before .before .before .args in
+    rw (c .output-step .ensures, le-ltb (a .code) 5 (omega arith), lt-ltb (a .code) 10 (omega arith)) refl
 
 returns-6 : tie.Need-returns-6
 unfolding act
-returns-6 c = let a = c .before .before .before .before .args in let m = c .before .before .before .match .rest in rw (c .stays .ensures, le-ltb (a .code) 5 (omega arith), le-ltb (a .code) 10 (omega arith), ne-eqb (a .code) 10 (λ z. m .0 .0 .1 z), ne-eqb (a .code) 11 (λ z. m .0 .1 z), ne-eqb (a .code) 12 (λ z. m .1 z)) refl
+returns-6 c =
+    let a = c .before .before .before .before .args in
+    let m = c .before .before .before .match .rest in
+    let high = le-ltb (a .code) 5 (omega arith) in
+    let higher = le-ltb (a .code) 10 (omega arith) in
+    let queue = ne-eqb (a .code) 10 (λ z. m .0 .0 .1 z) in
+    let operator = ne-eqb (a .code) 11 (λ z. m .0 .1 z) in
+    rw (c .stays .ensures, high, higher, queue, operator, ne-eqb (a .code) 12 (λ z. m .1 z)) refl
 
 pub step-spec : {M : Type 1} → statement M
 step-spec =

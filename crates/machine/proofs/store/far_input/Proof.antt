@@ -7,8 +7,8 @@ use Rattle.machine.proofs.store.far_input.Statement.{statement}
 use Rattle.machine.proofs.store.far_input.Tie as tie
 use Rattle.machine.proofs.store.far_input.Reads as reads
 use Rattle.machine.proofs.store.far_input.Lts as lts
-use Rattle.machine.proofs.phases.free_input.Reads as free-input-reads
-use Rattle.machine.proofs.step.is_channel.Reads as is-channel-reads
+use Rattle.rules.proofs.free_input.Reads as free-input-reads
+use Rattle.machine.proofs.heard.is_channel.Reads as is-channel-reads
 use Rattle.machine.proofs.store.end_of.Reads as end-of-reads
 
 mul-byte : tie.Need-mul-byte
@@ -24,16 +24,22 @@ is-channel-requires : tie.Need-is-channel-requires
 is-channel-requires c κs = search needs
 
 end-of-requires : tie.Need-end-of-requires
-end-of-requires c κs = c .before .before .before .pre .1 (c .before .before .before .args .j) (omega arith) (sym (c .before .is-channel .ensures) ∙ c .if1 .taken)
+end-of-requires c κs =
+    let k = c .before .before .before in
+    k .pre .1 (k .args .j) (omega arith) (sym (c .before .is-channel .ensures) ∙ c .if1 .taken)
 
 returns : tie.Need-returns
-returns c = rw (c .end-of .ensures, le-leb (suc (c .before .before .before .before .args .j)) 4 (omega arith), ← c .before .before .is-channel .ensures, c .before .if1 .taken) refl
+returns c =
+    let port = le-leb (suc (c .before .before .before .before .args .j)) 4 (omega arith) in
+    rw (c .end-of .ensures, port, ← c .before .before .is-channel .ensures, c .before .if1 .taken) refl
 
 free-input-requires : tie.Need-free-input-requires
 free-input-requires c κs = search needs
 
 returns-2 : tie.Need-returns-2
-returns-2 c = rw (c .free-input .ensures, le-leb (suc (c .before .before .before .before .args .j)) 4 (omega arith), ← c .before .before .is-channel .ensures, c .before .if1 .left) refl
+returns-2 c =
+    let port = le-leb (suc (c .before .before .before .before .args .j)) 4 (omega arith) in
+    rw (c .free-input .ensures, port, ← c .before .before .is-channel .ensures, c .before .if1 .left) refl
 
 pub far-input-spec : {M : Type 1} → statement M
 far-input-spec =

@@ -1,0 +1,130 @@
+-- What the sites of a state in range have: what RUN asks of one, and that every queue fits its room. Assumes nothing.
+use Prim.Native.Nat.{ℕ, _^_, _≤_, _<_}
+use mathlib.Core.Path.{_≡_, refl}
+use mathlib.Core.List.{List}
+use mathlib.Core.Bool.{Bool, true, false, not, _&&_}
+use native.Mathlib.Omega.{arith}
+use borrow.Author.Tests.{ltb-true, leb-true, eqb-true, lt-ltb}
+use lib.Dec.{eqb, ltb, leb}
+use Rattle.base.specs.Bools.{both, both3, both6, implies, pick, alike, pick-at, either-way}
+use Rattle.base.specs.All.{all, all-at}
+use Rattle.sets.specs.Sets.{targets}
+use Rattle.sets.proofs.Laws.{targets-at}
+use Rattle.types.specs.declared.Phase.the-variants.{the-data as Phase, Free, Seek, Open, Wait, Done, Last, Abort as Aborted, FinAbort}
+use Rattle.types.specs.declared.Input.{Input}
+use Rattle.types.specs.declared.Output.{Output}
+use Rattle.types.specs.declared.Site.{Site}
+use Rattle.types.specs.declared.State.{State}
+use Rattle.types.specs.declared.Network.{Network}
+use Rattle.types.specs.Numbers.{stateNumber}
+use Rattle.types.specs.Phases.{isFree, connected, splitting, aborting, isNone, isKeep}
+use Rattle.model.specs.Types.{inAt, outAt, siteAt, mark, outOf, outEntry, inEntry}
+use Rattle.model.specs.Range.{inputOk, outputOk, outEntryOk, inEntryOk, outQueueOk, inQueueOk, siteOk, zeroSite, placeOk, inRange}
+use Rattle.model.specs.Range.{tagOk, zeroInput, zeroOutput, zeroOutEntry, zeroInEntry, anyMark, anyRemote, fedBy}
+use Rattle.theorems.proofs.Networks.{Valid}
+use Rattle.machine.specs.Step.{Runnable}
+
+-- ---- the tests of one site, apart
+
+module _ (S T D k : ℕ) (x : Site) where
+  abbrev ins : Bool
+  ins = all (λ i. inputOk S T k (x .outputs) i (inAt x i)) 5
+
+  abbrev outs : Bool
+  outs = all (λ j. outputOk S k j (outAt x j)) 5
+
+  -- of the network
+  site-parts : siteOk S T D k x ≡ true
+      → (ins ≡ true) × (outs ≡ true) × (x .outgoing .count ≤ D) × (x .incoming .count ≤ D)
+  site-parts h =
+      let out = all (λ m. outEntryOk S k (x .outgoing .count) m (outEntry (x .outgoing) m)) 8 in
+      let inn = all (λ m. inEntryOk S k (x .incoming .count) m (inEntry (x .incoming) m)) 8 in
+      let a = both (ins && outs && outQueueOk S D k (x .outgoing)) (inQueueOk S D k (x .incoming)) h in
+      let b = both3 ins outs (outQueueOk S D k (x .outgoing)) (a .0) in (
+        b .0,
+        b .1,
+        leb-true _ D (both (leb (x .outgoing .count) D) out (b .2) .0),
+        leb-true _ D (both (leb (x .incoming .count) D) inn (a .1) .0),
+      )
+
+-- beyond it
+zero-counts : (x : Site) → zeroSite x ≡ true → (x .outgoing .count ≡ 0) × (x .incoming .count ≡ 0)
+zero-counts x h =
+    let ins = all (λ i. zeroInput (inAt x i)) 5 in
+    let outs = all (λ j. zeroOutput (outAt x j)) 5 in
+    let out = all (λ m. zeroOutEntry (outEntry (x .outgoing) m)) 8 in
+    let inn = all (λ m. zeroInEntry (inEntry (x .incoming) m)) 8 in
+    let none = eqb (x .outgoing .count) 0 in
+    let a = both (ins && outs && (none && out)) (eqb (x .incoming .count) 0 && inn) h in
+    let b = both3 ins outs (none && out) (a .0) in
+    (eqb-true _ 0 (both none out (b .2) .0), eqb-true _ 0 (both (eqb (x .incoming .count) 0) inn (a .1) .0))
+
+-- ---- a place's own
+
+seek-used : (ph : Phase) → stateNumber ph ≡ 1 → isFree ph ≡ false
+seek-used Free e = absurd (omega arith)
+seek-used Seek e = refl
+seek-used (Open c) e = refl
+seek-used (Wait c) e = refl
+seek-used (Done c r) e = refl
+seek-used (Last c r) e = refl
+seek-used (Aborted c) e = refl
+seek-used (FinAbort c r) e = refl
+
+-- an input that seeks has a set of targets
+sought-at : (S T k : ℕ) (os : List Output) (i : ℕ) (y : Input) → inputOk S T k os i y ≡ true → stateNumber (y .phase) ≡ 1
+    → (0 < y .set) × (y .set < 2 ^ S)
+sought-at S T k os i y h e =
+    let tag = tagOk S k (y .packet) (y .set) in
+    let own =
+    both6 (leb (y .tries) T) (pick (isFree (y .phase)) (zeroInput y) tag) (alike (anyMark (y .outputs)) (connected (y .phase)))
+    (all (λ j. implies (mark (y .outputs) j) (fedBy i (outOf os j))) 5) (implies (splitting (y .phase)) (mark (y .outputs) 0))
+    (implies (aborting (y .phase)) (splitting (y .phase) && not (anyRemote (y .outputs)))) h .1 in
+    let used = pick-at (isFree (y .phase)) (zeroInput y) tag own .1 (seek-used (y .phase) e) in
+    let t = targets-at S (y .set) (both (ltb (y .packet) k) (targets S (y .set)) used .1) in
+    (t .0, t .1)
+
+-- an output is fed by one of five inputs
+fed-below : (S k j : ℕ) (o : Output) → outputOk S k j o ≡ true → o .input < 5
+fed-below S k j o h =
+    let tag = tagOk S k (o .packet) (o .set) in
+    let keep = implies (isKeep (o .terminator)) (eqb j 0) in
+    let w = pick-at (o .used) (tag && ltb (o .input) 5 && keep) (zeroOutput o) h in
+    either-way (o .used) (λ u. ltb-true (o .input) 5 (both3 tag (ltb (o .input) 5) keep (w .0 u) .1))
+    (λ u.
+    let z =
+    both6 (not (o .used)) (eqb (o .packet) 0) (eqb (o .set) 0) (eqb (o .input) 0) (not (o .head)) (isNone (o .terminator)) (w .1 u) .3 in
+    omega (arith, eqb-true (o .input) 0 z))
+
+-- ---- a state
+
+module _ (n : Network) (val : Valid n) (st : State) (h : inRange n st ≡ true) where
+  abbrev at : ℕ → Site
+  at s = siteAt (st .sites) s
+
+  abbrev isOk : ℕ → Bool
+  isOk s = siteOk (n .sites) (n .tries) (n .depth) (st .counter) (at s)
+
+  place-at : (s : ℕ) → s < 16 → (ltb s (n .sites) ≡ true → isOk s ≡ true) × (ltb s (n .sites) ≡ false → zeroSite (at s) ≡ true)
+  unfolding inRange
+  place-at s hs =
+      pick-at (ltb s (n .sites)) (isOk s) (zeroSite (at s))
+      (all-at (λ s. placeOk (n .sites) (n .tries) (n .depth) (st .counter) s (at s)) s 16 hs h)
+
+  pub range-runnable : (s : ℕ) → s < n .sites → Runnable n s (at s)
+  range-runnable s hs =
+      let S = n .sites in
+      let k = st .counter in
+      let x = at s in
+      let parts = site-parts S (n .tries) (n .depth) k x (place-at s (omega (arith, hs, val .few)) .0 (lt-ltb s S hs)) in
+      record {
+        site = hs;
+        few = val .few;
+        deep = val .deep;
+        incoming = omega (arith, parts .3, val .deep);
+        feeder = fed-below S k 0 (outAt x 0) (all-at (λ j. outputOk S k j (outAt x j)) 0 5 (omega arith) (parts .1));
+        sought =
+            λ i hi.
+            sought-at S (n .tries) k (x .outputs) i (inAt x i)
+            (all-at (λ i. inputOk S (n .tries) k (x .outputs) i (inAt x i)) i 5 hi (parts .0));
+      }

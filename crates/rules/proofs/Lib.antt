@@ -1,0 +1,10 @@
+-- Laws that belong to no one function.
+pub mod Asked
+pub mod ByNumber
+pub mod Cut
+pub mod Gather
+pub mod Kept
+pub mod Queued
+pub mod Search
+pub mod Services
+pub mod Table

@@ -1,0 +1,53 @@
+-- The router's answers as the structs that the code returns, and the router asked with any routes.
+use Prim.Native.Nat.{ℕ, _*_, _≤_, _<_}
+use mathlib.Core.Path.{_≡_}
+use mathlib.Core.Bool.{Bool, true, false, cond, _&&_}
+use mathlib.Core.List.{List, []}
+use lib.Dec.{eqb, ltb, leb}
+use lib.ListN.{length}
+use Rattle.base.specs.Sizes.{sitesMost}
+use Rattle.sets.specs.Sets.{minus, lowest, targets}
+use Rattle.types.specs.declared.Connection.the-variants.{Unicast, Passthru}
+use Rattle.types.specs.declared.Output.{Output}
+use Rattle.types.specs.declared.Network.{Network}
+use Rattle.model.specs.Router.{Choice as ModelChoice, Chosen, Unserved, Gathered, Every, Missing, unchosen, isEmpty}
+use Rattle.model.specs.Router.{gather, spread, orElse, toOther, route}
+use Rattle.rules.specs.declared.router.Choice.{Choice}
+use Rattle.rules.specs.declared.ports.Gathering.{Gathering}
+
+abbrev pub ofGathered : Gathered → Gathering
+ofGathered (Every sets) = record { sets = sets; every = true }
+ofGathered Missing = record { sets = unchosen; every = false }
+
+abbrev pub ofChoice : ModelChoice → Choice
+ofChoice (Chosen c sets) = record { sets = sets; connection = c; served = true }
+ofChoice Unserved = record { sets = unchosen; connection = Unicast; served = false }
+
+-- a network of S sites with these routes, all that the router reads of one
+abbrev pub routesOnly : ℕ → List ℕ → Network
+routesOnly S l = record { sites = S; depth = 0; tries = 0; channels = []; routes = l }
+
+-- "Two or more targets": the rules after those for a single target, first the spread over the targets in Y
+abbrev pub spreadTargets : Network → ℕ → List Output → ℕ → ℕ → ModelChoice
+spreadTargets n s os X Y = cond (isEmpty os 0) (spread s X (gather n s os Y)) Unserved
+
+abbrev pub several : Network → ℕ → List Output → ℕ → ModelChoice
+several n s os X = orElse (spreadTargets n s os X (minus s X)) (toOther n s os Passthru X (lowest (minus s X)))
+
+-- site s is one of S sites, X a target set of theirs
+abbrev pub proper : ℕ → ℕ → ℕ → Bool
+proper S s X = ltb s S && leb S sitesMost && targets S X
+
+-- the router can be asked: that, and l has the room of all routes
+abbrev pub askable : List ℕ → ℕ → ℕ → ℕ → Bool
+askable l S s X = ltb s S && leb S sitesMost && eqb (length l) (sitesMost * sitesMost) && targets S X
+
+-- what the router says of routes l; where it can not be asked nothing serves
+abbrev pub askedBy : List ℕ → ℕ → ℕ → List Output → ℕ → ModelChoice
+askedBy l S s os X = cond (askable l S s X) (route (routesOnly S l) s os X) Unserved
+
+-- routes of S sites, s one of them, in room for all
+pub record Routed (l : List ℕ) (S s : ℕ) : Type 0 where
+  pub site : s < S
+  pub few : S ≤ sitesMost
+  pub room : length l ≡ sitesMost * sitesMost
