@@ -23,17 +23,22 @@ fn main() {
     copies(rounds);
 }
 
+type Player = fn(&[u8], &mut [u8]) -> usize;
+
 fn player(rounds: usize) {
     println!("| player, 255 sends, 65,535 draws | second model, ns a draw | product, ns a draw | ratio |");
     println!("|---|---:|---:|---:|");
-    for (name, bytes) in archives::runs() {
-        let (mut theirs, mut ours) = (vec![0; BOOK], vec![0; BOOK]);
-        assert_eq!(second::play(&bytes, &mut theirs), product::play(&bytes, &mut ours), "services of {name}");
-        assert!(theirs == ours, "the book of {name}");
-        let a = || timed(|| second::play(&bytes, &mut theirs)).0;
-        let b = || timed(|| product::play(&bytes, &mut ours)).0;
-        let (a, b) = medians(rounds, DRAWS as f64, a, b);
-        println!("| {name} | {a:.1} | {b:.1} | {:.2} |", b / a);
+    let players: [(&str, Player); 2] = [("", product::play), (", by the book", product::play_by_book)];
+    for (how, play) in players {
+        for (name, bytes) in archives::runs() {
+            let (mut theirs, mut ours) = (vec![0; BOOK], vec![0; BOOK]);
+            assert_eq!(second::play(&bytes, &mut theirs), play(&bytes, &mut ours), "services of {name}");
+            assert!(theirs == ours, "the book of {name}");
+            let a = || timed(|| second::play(&bytes, &mut theirs)).0;
+            let b = || timed(|| play(&bytes, &mut ours)).0;
+            let (a, b) = medians(rounds, DRAWS as f64, a, b);
+            println!("| {name}{how} | {a:.1} | {b:.1} | {:.2} |", b / a);
+        }
     }
     println!();
 }

@@ -3,6 +3,7 @@
 mod c {
     extern "C" {
         pub fn timing_play(bytes: *const u8, n: usize, book: *mut u8, room: usize) -> usize;
+        pub fn timing_by_book(bytes: *const u8, n: usize, book: *mut u8, room: usize) -> usize;
         pub fn timing_read(bytes: *mut u8, n: usize, times: usize) -> usize;
         pub fn timing_write(bytes: *const u8, n: usize, out: *mut u8, room: usize, times: usize) -> usize;
         pub fn timing_runs(
@@ -22,6 +23,11 @@ mod c {
 /// Plays the archive into the book: its services.
 pub fn play(bytes: &[u8], book: &mut [u8]) -> usize {
     unsafe { c::timing_play(bytes.as_ptr(), bytes.len(), book.as_mut_ptr(), book.len()) }
+}
+
+/// The same by the book.
+pub fn play_by_book(bytes: &[u8], book: &mut [u8]) -> usize {
+    unsafe { c::timing_by_book(bytes.as_ptr(), bytes.len(), book.as_mut_ptr(), book.len()) }
 }
 
 /// Reads the archive so many times, each time with another seed.

@@ -35,7 +35,7 @@ pub fn play_file(name: &[u8], services: bool, totals: Totals) -> Totals {
     }
     let n = seen.count;
     let mut book = [0u8; report::BOOK];
-    let played = machine::play(&bytes[..n], &mut book);
+    let played = words::play(&bytes[..n], &mut book);
     let counts = played.counts;
     let shown = if services { counts.serviced } else { 0 };
     let are_printed = report::print_services(&book, shown);

@@ -51,7 +51,7 @@ pub extern "C" fn fennqualo_play(bytes: &[u8], book: &mut [u8], counts: &mut [u6
         }
         return 14;
     }
-    let played = machine::play(bytes, book);
+    let played = words::play(bytes, book);
     let refusal = played.refusal;
     let four = played.counts;
     if refusal != 0 {

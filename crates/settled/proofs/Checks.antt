@@ -6,6 +6,7 @@ use Rattle.settled.proofs.Shown.{settled, same}
 use Rattle.checks.proofs.network_refusal as the-network-refusal
 use Rattle.checks.proofs.is_in_range as the-is-in-range
 use Rattle.checks.proofs.event_refusal as the-event-refusal
+use Rattle.checks.proofs.place_ok as the-place-ok
 use Rattle.checks.proofs.send_fault as the-send-fault
 
 pub network-refusal-settled : Settles the-network-refusal.ended (λ M. the-network-refusal.clauses) (λ M. the-network-refusal.spec)
@@ -13,6 +14,9 @@ network-refusal-settled = settled (λ κs a x y p q. refl) (λ κs a x y p q i. 
 
 pub is-in-range-settled : Settles the-is-in-range.ended (λ M. the-is-in-range.clauses) (λ M. the-is-in-range.spec)
 is-in-range-settled = settled (λ κs a x y p q. refl) (λ κs a x y p q i. (same p q i, x .1))
+
+pub place-ok-settled : Settles the-place-ok.ended (λ M. the-place-ok.clauses) (λ M. the-place-ok.spec)
+place-ok-settled = settled (λ κs a x y p q. refl) (λ κs a x y p q i. (same p q i, x .1))
 
 pub event-refusal-settled : Settles the-event-refusal.ended (λ M. the-event-refusal.clauses) (λ M. the-event-refusal.spec)
 event-refusal-settled = settled (λ κs a x y p q. refl) (λ κs a x y p q i. (same p q i, x .1))

@@ -9,6 +9,8 @@ pub mod Types
 pub mod Checks
 pub mod Report
 pub mod Archive
+pub mod Rules
 pub mod Machine
+pub mod Words
 pub mod Callers
 pub mod Exports

@@ -14,7 +14,10 @@ read-requires : tie.Need-read-requires
 read-requires c κs = search needs
 
 returns : tie.Need-returns
-returns c = copy-refused (now (c .before .before .before .before .before .args .bytes)) (now (c .before .before .before .before .before .args .out)) (c .before .before .read .result) (c .before .before .read .ensures) (c .if1 .taken)
+returns c =
+    let read = c .before .before .read in
+    let args = c .before .before .before .before .before .args in
+    copy-refused (now (args .bytes)) (now (args .out)) (read .result) (read .ensures) (c .if1 .taken)
 
 write-requires : tie.Need-write-requires
 write-requires c κs = search needs
@@ -23,7 +26,16 @@ same-length : tie.Need-same-length
 same-length c = search needs
 
 returns-2 : tie.Need-returns-2
-returns-2 c = copy-written (now (c .before .before .before .before .before .before .before .before .before .args .bytes)) (now (c .before .before .before .before .before .before .before .before .before .args .out)) (c .before .before .before .before .before .before .read .result) (c .before .before .before .before .before .before .read .ensures) (λ i. omega (arith, c .before .before .before .before .before .before .before .before .shared-slice-known .given i)) (c .before .before .before .before .if1 .left) (c .before .before .write .result) _ (c .before .before .write .ensures .0) (c .before .before .write .ensures .1)
+returns-2 c =
+    let past = c .before .before .before .before .before .before in
+    let write = c .before .before .write in
+    let if1 = c .before .before .before .before .if1 in
+    let read = c .before .before .before .before .before .before .read in
+    let shared-slice-known = past .before .before .shared-slice-known in
+    let args = past .before .before .before .args in
+    copy-written (now (args .bytes)) (now (args .out)) (read .result) (read .ensures)
+    (λ i. omega (arith, shared-slice-known .given i)) (if1 .left) (write .result) _ (write .ensures .0)
+    (write .ensures .1)
 
 pub fennqualo-copy-spec : {M : Type 1} → statement M
 fennqualo-copy-spec =

@@ -1,0 +1,156 @@
+-- What RUN decides and what its code has stored. Assumes what each law names.
+use mathlib.Core.Path.{_≡_, refl, sym, ap, ap₂, subst, _∙_}
+use mathlib.Core.List.{List}
+use mathlib.Core.Bool.{Bool, true, false, cond, _||_}
+use Prim.Native.Nat.{ℕ, suc, _+_}
+use native.Mathlib.Numerals.{add-one}
+use borrow.Author.Tests.{eq-eqb}
+use lib.Dec.{eqb}
+use lib.ListN.{length}
+use Rattle.types.specs.declared.Input.{Input}
+use Rattle.types.specs.declared.Output.{Output}
+use Rattle.types.specs.declared.OutQueue.{OutQueue}
+use Rattle.types.specs.declared.InQueue.{InQueue}
+use Rattle.types.specs.declared.Site.{Site}
+use Rattle.types.specs.declared.Network.{Network}
+use Rattle.types.specs.declared.Ran.the-variants.{the-data as Ran, Nothing, Changed, Serviced}
+use Rattle.types.specs.Phases.{isNone}
+use Rattle.model.specs.Types.{inAt, outAt, inEntry, setSite, setIn, setOut, withInQueue, withOutQueue}
+use Rattle.model.specs.Network.{channel, isChannel}
+use Rattle.model.specs.NetInput.{Turn, Stay, To}
+use Rattle.model.specs.Places.{Work, Rest, Cleared, Service, localOutput, channelOutput, outQueue, operator, timeout, stalled}
+use Rattle.model.specs.Steps.{Act, Idle, Own, Serve, Pass, ownTurn, passTurn, workDone, setBoth, farEnd, setFar}
+use Rattle.rules.specs.declared.inputs.InputTurn.{InputTurn}
+use Rattle.rules.specs.declared.places.LocalTurn.{LocalTurn}
+use Rattle.rules.specs.declared.places.ChannelTurn.{ChannelTurn}
+use Rattle.rules.specs.declared.places.QueueTurn.{QueueTurn}
+use Rattle.rules.specs.declared.work.OperatorTurn.{OperatorTurn}
+use Rattle.rules.specs.Turns.{ofLocalTurn, ofChannelTurn, ofQueueTurn, ofWork, ofInputTurn}
+use Rattle.words.specs.Layout.{wordCount}
+use Rattle.words.specs.Words.{sitesOf}
+use Rattle.words.specs.Stored.{Stored}
+use Rattle.words.specs.Events.{Did, DidOwn, DidPass, siteIn, endOf, atRest, localAct, queueAct, operatorAct, timeoutAct}
+use Rattle.words.specs.Events.{localBack, channelBack, queueBack, inputBack, workBack}
+use Rattle.words.proofs.Chained.{stays}
+use Rattle.words.proofs.Rests.{local-idle, queue-idle, operator-idle, timeout-idle, channel-rests, pass-none}
+
+-- ---- what a rule's struct says is what the rule decided
+
+pub local-back : (o : Output) (q : InQueue) (t : Turn Output InQueue) → localBack (ofLocalTurn o q t) ≡ t
+local-back o q Stay = refl
+local-back o q (To p r) = refl
+
+pub channel-back : (o : Output) (y : Input) (t : Turn Output Input) → channelBack (ofChannelTurn o y t) ≡ t
+channel-back o y Stay = refl
+channel-back o y (To p z) = refl
+
+pub queue-back : (q : OutQueue) (y : Input) (t : Turn OutQueue Input) → queueBack (ofQueueTurn q y t) ≡ t
+queue-back q y Stay = refl
+queue-back q y (To r z) = refl
+
+pub input-back : (y : Input) (os : List Output) (t : Turn Input (List Output)) → inputBack (ofInputTurn y os t) ≡ t
+input-back y os Stay = refl
+input-back y os (To z ps) = refl
+
+pub work-back : (a : InQueue) (b : OutQueue) (t : Work) → workBack (ofWork a b t) ≡ t
+work-back a b Rest = refl
+work-back a b (Cleared c d) = refl
+work-back a b (Service c d q) = refl
+
+-- ---- an act by what is stored
+
+module _ (n : Network) (c : List ℕ) (s : ℕ) where
+  pub did-nothing : (a : Act) → length c ≡ wordCount → a ≡ Idle → Did n c c s Nothing a
+  did-nothing a h e = rw e (record { answer = refl; stored = stays c h })
+
+  pub did-own : (d : List ℕ) (x : Site) → Stored c d (setSite (sitesOf c) s x) → Did n c d s Changed (Own x)
+  did-own d x p = record { answer = refl; stored = p }
+
+  pub did-serve : (d : List ℕ) (x : Site) (q : ℕ) → Stored c d (setSite (sitesOf c) s x) → Did n c d s (Serviced q s) (Serve x q)
+  did-serve d x q p = record { answer = refl; stored = p }
+
+  pub did-pass : (d : List ℕ) (x : Site) (j : ℕ) (y : Input) (b : ℕ) → channel n s j ≡ b
+      → Stored c d (setFar (setSite (sitesOf c) s x) b y) → Did n c d s Changed (Pass x j y)
+  did-pass d x j y b e p = record { answer = refl; stored = rw e p }
+
+-- ---- an arm: what its rule decided is stored
+
+module _ (c d : List ℕ) (s : ℕ) (r : Ran) where
+  abbrev x : Site
+  x = siteIn c s
+
+  pub local-done : (D : ℕ) (w : LocalTurn) → w ≡ ofLocalTurn (outAt x 0) (x .incoming) (localOutput D (outAt x 0) (x .incoming))
+      → DidOwn c d s r (ownTurn (λ o iq. setOut (withInQueue x iq) 0 o) (localBack w)) → DidOwn c d s r (localAct D x)
+  local-done D w e p n =
+      subst (λ (t : Turn Output InQueue). Did n c d s r (ownTurn (λ o iq. setOut (withInQueue x iq) 0 o) t))
+      (ap localBack e ∙ local-back (outAt x 0) (x .incoming) (localOutput D (outAt x 0) (x .incoming))) (p n)
+
+  pub channel-done : (j b : ℕ) (there : isChannel b ≡ true) (w : ChannelTurn)
+      → w ≡ ofChannelTurn (outAt x (suc j)) (farEnd (sitesOf c) b) (channelOutput true (outAt x (suc j)) (farEnd (sitesOf c) b))
+      → DidPass c d s r j b (channelBack w) → DidPass c d s r j b (channelOutput (isChannel b) (outAt x (suc j)) (endOf (sitesOf c) b))
+  channel-done j b there w e p n f =
+      rw there
+      (subst (λ (t : Turn Output Input). Did n c d s r (passTurn x (suc j) t))
+      (ap channelBack e
+      ∙ channel-back (outAt x (suc j)) (farEnd (sitesOf c) b) (channelOutput true (outAt x (suc j)) (farEnd (sitesOf c) b)))
+      (p n f))
+
+  pub queue-done : (w : QueueTurn) → w ≡ ofQueueTurn (x .outgoing) (inAt x 0) (outQueue (x .outgoing) (inAt x 0))
+      → DidOwn c d s r (ownTurn (λ oq y. setIn (withOutQueue x oq) 0 y) (queueBack w)) → DidOwn c d s r (queueAct x)
+  queue-done w e p n =
+      subst (λ (t : Turn OutQueue Input). Did n c d s r (ownTurn (λ oq y. setIn (withOutQueue x oq) 0 y) t))
+      (ap queueBack e ∙ queue-back (x .outgoing) (inAt x 0) (outQueue (x .outgoing) (inAt x 0))) (p n)
+
+  pub work-done : (D : ℕ) (w : OperatorTurn) → w ≡ ofWork (x .incoming) (x .outgoing) (operator D s (x .incoming) (x .outgoing))
+      → DidOwn c d s r (workDone x (workBack w)) → DidOwn c d s r (operatorAct D s x)
+  work-done D w e p n =
+      subst (λ (t : Work). Did n c d s r (workDone x t))
+      (ap workBack e ∙ work-back (x .incoming) (x .outgoing) (operator D s (x .incoming) (x .outgoing))) (p n)
+
+  -- a net-input and the outputs, whatever the rule
+  pub input-done : (i : ℕ) (t : Turn Input (List Output)) (w : InputTurn) → w ≡ ofInputTurn (inAt x i) (x .outputs) t
+      → DidOwn c d s r (ownTurn (setBoth x i) (inputBack w)) → DidOwn c d s r (ownTurn (setBoth x i) t)
+  input-done i t w e p n =
+      subst (λ (t : Turn Input (List Output)). Did n c d s r (ownTurn (setBoth x i) t))
+      (ap inputBack e ∙ input-back (inAt x i) (x .outputs) t) (p n)
+
+  -- the timeout, i being the input that feeds output 0
+  pub timeout-done : (i : ℕ) → i ≡ outAt x 0 .input → (w : InputTurn)
+      → w ≡ ofInputTurn (inAt x i) (x .outputs) (timeout (x .incoming) (x .outputs) (inAt x i))
+      → DidOwn c d s r (ownTurn (setBoth x i) (inputBack w)) → DidOwn c d s r (timeoutAct x)
+  timeout-done i e w f p n =
+      subst (λ (k : ℕ). Did n c d s r (ownTurn (setBoth x k) (timeout (x .incoming) (x .outputs) (inAt x k)))) e
+      (input-done i (timeout (x .incoming) (x .outputs) (inAt x i)) w f p n)
+
+-- ---- an arm that ends at its place's packed word
+
+module _ (c : List ℕ) (s : ℕ) (h : length c ≡ wordCount) where
+  abbrev z : Site
+  z = siteIn c s
+
+  pub local-none : (D : ℕ) → atRest (outAt z 0) ≡ true → DidOwn c c s Nothing (localAct D z)
+  local-none D e n = did-nothing n c s (localAct D z) h (local-idle D z e)
+
+  pub queue-none : (m : ℕ) → m ≡ z .outgoing .count → m ≡ 0 → DidOwn c c s Nothing (queueAct z)
+  queue-none m e f n = did-nothing n c s (queueAct z) h (queue-idle z (eq-eqb (z .outgoing .count) 0 (sym e ∙ f)))
+
+  pub operator-none : (D m : ℕ) (l : Bool) → m ≡ z .incoming .count → l ≡ isNone (inEntry (z .incoming) 0 .terminator)
+      → (eqb m 0 || l) ≡ true → DidOwn c c s Nothing (operatorAct D s z)
+  operator-none D m l e f g n =
+      did-nothing n c s (operatorAct D s z) h (operator-idle D s z (sym (ap₂ (λ (k : ℕ) (b : Bool). eqb k 0 || b) e f) ∙ g))
+
+  pub timeout-none : stalled (outAt z 0) ≡ false → DidOwn c c s Nothing (timeoutAct z)
+  timeout-none e n = did-nothing n c s (timeoutAct z) h (timeout-idle z e)
+
+  module _ (j b : ℕ) where
+    abbrev t : Turn Output Input
+    t = channelOutput (isChannel b) (outAt z (suc j)) (endOf (sitesOf c) b)
+
+    pub pass-rests : atRest (outAt z (j + 1)) ≡ true → DidPass c c s Nothing j b t
+    pass-rests e n f =
+        did-nothing n c s (passTurn z (suc j) t) h
+        (ap (passTurn z (suc j)) (channel-rests (isChannel b) (outAt z (suc j)) (endOf (sitesOf c) b) (rw (add-one j) at e)))
+
+    pub pass-never : isChannel b ≡ false → DidPass c c s Nothing j b t
+    pass-never e n f =
+        did-nothing n c s (passTurn z (suc j) t) h (ap (passTurn z (suc j)) (pass-none (outAt z (suc j)) (endOf (sitesOf c) b) b e))

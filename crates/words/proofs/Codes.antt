@@ -1,0 +1,80 @@
+-- RUN's arms by the code number, and what an arm asks of the words. Assumes what each law names.
+use mathlib.Core.Path.{_≡_, refl, ap, _∙_}
+use mathlib.Core.List.{List}
+use mathlib.Core.Bool.{true, false, cond, _&&_}
+use Prim.Native.Nat.{ℕ, suc, _+_, _-_, _*_, _<_, _≤_}
+use native.Mathlib.Omega.{arith}
+use borrow.Author.Tests.{lt-ltb, le-ltb, le-leb, ne-eqb}
+use lib.Dec.{eqb, ltb, leb}
+use lib.ListN.{length, getD}
+use Rattle.types.specs.declared.Input.{Input}
+use Rattle.types.specs.declared.Network.{Network}
+use Rattle.types.specs.declared.Site.{Site}
+use Rattle.types.specs.declared.Ran.the-variants.{the-data as Ran, Nothing}
+use Rattle.model.specs.Types.{outAt, noInput}
+use Rattle.model.specs.Network.{channel, isChannel}
+use Rattle.model.specs.Places.{channelOutput}
+use Rattle.model.specs.Steps.{Idle, passTurn, netOutput, act, ends, farEnd}
+use Rattle.words.specs.Layout.{wordCount}
+use Rattle.words.specs.Words.{sitesOf}
+use Rattle.words.specs.Events.{Did, DidPass, Runnable, Seekable, EndsWithin, networkOf, siteIn, endOf}
+use Rattle.words.specs.Events.{inputAct, localAct, queueAct, operatorAct, timeoutAct}
+use Rattle.words.proofs.Acts.{did-nothing}
+
+-- ---- what the arms ask
+
+module _ (S D T : ℕ) (l m c : List ℕ) (s : ℕ) (ok : Runnable (networkOf S D T l m) c s) where
+  pub below : s < 16
+  below = omega (arith, ok .site, ok .few)
+
+  pub seekable : (i : ℕ) → i < 5 → Seekable m S c s i
+  seekable i h =
+      record { site = ok .site; few = ok .few; words = ok .words; routes = ok .routes; set = λ e. ok .sought i h e }
+
+-- ---- an arm by its code
+
+module _ (n : Network) (c d : List ℕ) (s : ℕ) (r : Ran) (code : ℕ) where
+  abbrev x : Site
+  x = siteIn c s
+
+  abbrev far : ℕ → Input
+  far = ends n (sitesOf c) s
+
+  pub by-input : code < 5 → Did n c d s r (inputAct n s x far code) → Did n c d s r (act n s x far code)
+  unfolding act
+  by-input h p = rw (lt-ltb code 5 h) p
+
+  pub by-local : code ≡ 5 → Did n c d s r (localAct (n .depth) x) → Did n c d s r (act n s x far code)
+  unfolding act netOutput
+  by-local e p = rw e p
+
+  pub by-channel : 5 < code → code < 10
+      → DidPass c d s r (code - 6) (channel n s (suc (code - 6)))
+      (channelOutput (isChannel (channel n s (suc (code - 6)))) (outAt x (suc (code - 6))) (endOf (sitesOf c) (channel n s (suc (code - 6)))))
+      → Did n c d s r (act n s x far code)
+  unfolding act netOutput
+  by-channel h k p =
+      let e : code - 5 ≡ suc (code - 6) = omega arith in
+      rw (le-ltb code 5 (omega arith), lt-ltb code 10 k, e, le-leb (suc (code - 6)) 4 (omega arith)) (p n refl)
+
+  pub by-queue : code ≡ 10 → Did n c d s r (queueAct x) → Did n c d s r (act n s x far code)
+  unfolding act
+  by-queue e p = rw e p
+
+  pub by-operator : code ≡ 11 → Did n c d s r (operatorAct (n .depth) s x) → Did n c d s r (act n s x far code)
+  unfolding act
+  by-operator e p = rw e p
+
+  pub by-timeout : code ≡ 12 → Did n c d s r (timeoutAct x) → Did n c d s r (act n s x far code)
+  unfolding act
+  by-timeout e p = rw e p
+
+-- no code
+pub by-none : (n : Network) (c : List ℕ) (s code : ℕ) → length c ≡ wordCount → 12 < code
+    → Did n c c s Nothing (act n s (siteIn c s) (ends n (sitesOf c) s) code)
+unfolding act
+by-none n c s code h k =
+    did-nothing n c s (act n s (siteIn c s) (ends n (sitesOf c) s) code) h
+    (let low = le-ltb code 5 (omega arith) in
+    let high = le-ltb code 10 (omega arith) in
+    rw (low, high, ne-eqb code 10 (λ e. omega arith), ne-eqb code 11 (λ e. omega arith), ne-eqb code 12 (λ e. omega arith)) refl)

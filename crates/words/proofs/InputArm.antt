@@ -1,0 +1,163 @@
+-- Codes 0 to 4 in place: readiness by the packed words, and what each way of the code makes of the definition. Assumes what each law names.
+use mathlib.Core.Path.{_≡_, refl, sym, ap, subst, _∙_}
+use mathlib.Core.List.{List, [], _∷_}
+use mathlib.Core.Bool.{Bool, true, false, cond, _&&_, _||_}
+use Prim.Native.Nat.{ℕ, zero, suc, _+_, _*_, _/_, _%_, _<_, _≤_}
+use native.Mathlib.Numerals.{add-one}
+use native.Mathlib.Omega.{arith}
+use borrow.Author.Tests.{lt-ltb, le-leb, eq-eqb}
+use lib.Dec.{eqb, ltb, leb}
+use lib.ListN.{length, getD}
+use Rattle.base.specs.Bools.{and, implies}
+use Rattle.base.specs.All.{all-same}
+use Rattle.base.specs.Sizes.{sitesMost}
+use Rattle.sets.specs.Sets.{targets}
+use Rattle.types.specs.Numbers.{stateNumber}
+use Rattle.types.specs.Phases.{listening}
+use Rattle.types.specs.declared.Phase.the-variants.{the-data as Phase, Free, Seek, Open, Wait, Done, Last, Abort as Aborted, FinAbort}
+use Rattle.types.specs.declared.Input.{Input}
+use Rattle.types.specs.declared.Output.{Output}
+use Rattle.types.specs.declared.Site.{Site}
+use Rattle.types.specs.declared.Network.{Network}
+use Rattle.types.specs.declared.Ran.the-variants.{the-data as Ran, Nothing}
+use Rattle.model.specs.Types.{siteAt, inAt, mark}
+use Rattle.model.specs.Network.{isChannel, joined}
+use Rattle.model.specs.Router.{Choice as ModelChoice, route}
+use Rattle.model.specs.NetInput.{Turn, Stay, hears, ready, allReady, inState, netInput, seek}
+use Rattle.model.specs.Steps.{Idle, ownTurn, setBoth, ends, farEnd}
+use Rattle.rules.specs.declared.router.Choice.{Choice}
+use Rattle.rules.specs.declared.inputs.InputTurn.{InputTurn}
+use Rattle.rules.specs.Router.{ofChoice, routesOnly, askedBy}
+use Rattle.rules.specs.Turns.{ofInputTurn, otherTurn, seekTurn, toChoice}
+use Rattle.rules.proofs.Asked.{route-same}
+use Rattle.rules.proofs.ByNumber.{other-is, seek-is, choice-back}
+use Rattle.words.specs.Layout.{wordCount}
+use Rattle.words.specs.Words.{sitesOf}
+use Rattle.words.specs.Events.{Did, DidOwn, DidReady, DidInput, DidSought, networkOf, siteIn, endOf, stands, waits}
+use Rattle.words.specs.Events.{inputAct, inputBack, readyFlags, sought, Seekable}
+use Rattle.words.proofs.Acts.{did-nothing, input-done}
+use Rattle.words.proofs.Rests.{quiet-stays, stands-stays}
+
+-- the router asked by the parts of a network
+asked-is : (m : List ℕ) (S D T : ℕ) (l : List ℕ) (s : ℕ) (os : List Output) (X : ℕ) → s < S → S ≤ sitesMost
+    → length m ≡ sitesMost * sitesMost → targets S X ≡ true
+    → askedBy m S s os X ≡ route (networkOf S D T l m) s os X
+asked-is m S D T l s os X a b e t =
+    rw (lt-ltb s S a, le-leb S sitesMost b, eq-eqb (length m) (sitesMost * sitesMost) e, t)
+    (route-same (routesOnly S m) (networkOf S D T l m) refl refl s os X)
+
+-- ---- the input at a channel's end
+
+listening-number : (ph : Phase) → (eqb (stateNumber ph) 2 || eqb (stateNumber ph) 6) ≡ listening ph
+listening-number Free = refl
+listening-number Seek = refl
+listening-number (Open c) = refl
+listening-number (Wait c) = refl
+listening-number (Done c r) = refl
+listening-number (Last c r) = refl
+listening-number (Aborted c) = refl
+listening-number (FinAbort c r) = refl
+
+pub heard-by : (xs : List Site) (b byte k : ℕ) → b ≡ byte → isChannel byte ≡ true
+    → k ≡ stateNumber (inAt (siteAt xs (b / 4)) (b % 4 + 1) .phase) → (eqb k 2 || eqb k 6) ≡ (isChannel byte && listening (endOf xs byte .phase))
+heard-by xs b byte k e there f =
+    rw (there, ← e, f, add-one (b % 4)) (listening-number (inAt (siteAt xs (b / 4)) (suc (b % 4)) .phase))
+
+-- ---- which outputs are ready
+
+abbrev flags : (ℕ → Bool) → List Bool
+flags f = f 0 ∷ f 1 ∷ f 2 ∷ f 3 ∷ f 4 ∷ []
+
+-- the outputs of site s of a network n that are ready
+abbrev readyIn : Network → List Site → ℕ → ℕ → Bool
+readyIn n xs s = ready (joined n s) (ends n xs s) (siteAt xs s .outputs)
+
+flags-are : (n : Network) (xs : List Site) (s : ℕ) → readyFlags (n .channels) xs s ≡ flags (readyIn n xs s)
+unfolding hears
+flags-are n xs s = refl
+
+flag-at : (f : ℕ → Bool) (j : ℕ) → j < 5 → mark (flags f) j ≡ f j
+flag-at f zero h = refl
+flag-at f (suc zero) h = refl
+flag-at f (suc (suc zero)) h = refl
+flag-at f (suc (suc (suc zero))) h = refl
+flag-at f (suc (suc (suc (suc zero)))) h = refl
+flag-at f (suc (suc (suc (suc (suc j))))) h = absurd (omega arith)
+
+all-flags : (f : ℕ → Bool) (bs : List Bool) → allReady (mark (flags f)) bs ≡ allReady f bs
+all-flags f bs =
+    all-same (λ j. implies (mark bs j) (mark (flags f) j)) (λ j. implies (mark bs j) (f j)) 5
+    (λ j h. ap (λ (b : Bool). implies (mark bs j) b) (flag-at f j h))
+
+by-flags : (n : Network) (s i : ℕ) (y : Input) (os : List Output) (f : ℕ → Bool) (ph : Phase)
+    → inState n s i y os (mark (flags f)) ph ≡ inState n s i y os f ph
+unfolding inState
+by-flags n s i y os f Free = refl
+by-flags n s i y os f Seek = refl
+by-flags n s i y os f (Open c) = rw (all-flags f (y .outputs)) refl
+by-flags n s i y os f (Wait c) = rw (all-flags f (y .outputs)) refl
+by-flags n s i y os f (Done c r) = rw (all-flags f (y .outputs)) refl
+by-flags n s i y os f (Last c r) = rw (all-flags f (y .outputs)) refl
+by-flags n s i y os f (Aborted c) = refl
+by-flags n s i y os f (FinAbort c r) = refl
+
+-- ---- the ways of the code
+
+module _ (c : List ℕ) (s i : ℕ) where
+  abbrev x : Site
+  x = siteIn c s
+
+  abbrev y : Input
+  y = inAt x i
+
+  -- the place has no rule
+  pub quiet-none : (n : Network) (k : ℕ) → length c ≡ wordCount → k ≡ stateNumber (y .phase) → (eqb k 0 || eqb k 6) ≡ true
+      → Did n c c s Nothing (inputAct n s x (ends n (sitesOf c) s) i)
+  quiet-none n k h e f =
+      did-nothing n c s (inputAct n s x (ends n (sitesOf c) s) i) h
+      (ap (ownTurn (setBoth x i))
+      (quiet-stays n s i y (x .outputs) (readyIn n (sitesOf c) s) (y .phase) (sym (ap (λ (m : ℕ). eqb m 0 || eqb m 6) e) ∙ f)))
+
+  -- it waits
+  pub waits-none : (isReady : ℕ → Bool) (w : Bool) → length c ≡ wordCount → w ≡ waits y isReady → w ≡ true → DidReady c c s Nothing i isReady
+  waits-none isReady w h e f n =
+      did-nothing n c s (ownTurn (setBoth x i) (netInput n s i y (x .outputs) isReady)) h
+      (ap (ownTurn (setBoth x i)) (stands-stays n s i y (x .outputs) isReady (y .phase) (sym e ∙ f)))
+
+  module _ (d : List ℕ) (r : Ran) where
+    -- a rule moves it
+    pub ready-done : (isReady : ℕ → Bool) (w : InputTurn) → (stateNumber (y .phase) ≡ 1 → ⊥)
+        → w ≡ ofInputTurn y (x .outputs) (otherTurn y (x .outputs) isReady) → DidOwn c d s r (ownTurn (setBoth x i) (inputBack w))
+        → DidReady c d s r i isReady
+    ready-done isReady w ne e p n =
+        subst (λ (t : Turn Input (List Output)). Did n c d s r (ownTurn (setBoth x i) t)) (other-is y (x .outputs) isReady n s i ne)
+        (input-done c d s r i (otherTurn y (x .outputs) isReady) w e p n)
+
+    -- the flags are those of the network
+    pub flags-done : (l : List ℕ) (bs : List Bool) → bs ≡ readyFlags l (sitesOf c) s → DidReady c d s r i (mark bs) → DidInput l c d s r i
+    flags-done l bs e p n f =
+        subst (λ (t : Turn Input (List Output)). Did n c d s r (ownTurn (setBoth x i) t))
+        (ap (λ (b : List Bool). netInput n s i y (x .outputs) (mark b))
+        (e ∙ ap (λ (k : List ℕ). readyFlags k (sitesOf c) s) (sym f) ∙ flags-are n (sitesOf c) s)
+        ∙ by-flags n s i y (x .outputs) (readyIn n (sitesOf c) s) (y .phase))
+        (p n)
+
+    -- the router was asked
+    pub sought-done : (m : List ℕ) (S T : ℕ) (w : InputTurn) → Seekable m S c s i → stateNumber (y .phase) ≡ 1
+        → w ≡ ofInputTurn y (x .outputs) (sought m S T x s i) → DidOwn c d s r (ownTurn (setBoth x i) (inputBack w)) → DidSought m S T c d s r i
+    sought-done m S T w ok e f p D l =
+        let n = networkOf S D T l m in
+        subst (λ (t : Turn Input (List Output)). Did n c d s r (ownTurn (setBoth x i) t))
+        (ap (seek T i y (x .outputs)) (asked-is m S D T l s (x .outputs) (y .set) (ok .site) (ok .few) (ok .routes) (ok .set e))
+        ∙ sym (seek-is y (x .outputs) (readyIn n (sitesOf c) s) n s i e))
+        (input-done c d s r i (sought m S T x s i) w f p n)
+
+-- what the loads and the router gave
+pub sought-by : (m : List ℕ) (S T : ℕ) (x : Site) (s i : ℕ) (y : Input) (os : List Output) (ch : Choice) (w : InputTurn) → y ≡ inAt x i
+    → os ≡ x .outputs → ch ≡ ofChoice (askedBy m S s os (y .set)) → w ≡ seekTurn T i y os ch
+    → w ≡ ofInputTurn (inAt x i) (x .outputs) (sought m S T x s i)
+sought-by m S T x s i y os ch w ey eo ec ew =
+    ew
+    ∙ ap (λ (h : Choice). ofInputTurn y os (seek T i y os (toChoice (h .served) (h .connection) (h .sets)))) ec
+    ∙ ap (λ (h : ModelChoice). ofInputTurn y os (seek T i y os h)) (choice-back (askedBy m S s os (y .set)))
+    ∙ rw (ey, eo) refl

@@ -1,0 +1,47 @@
+use borrow.Author.Needs.{needs}
+use Rattle.words.proofs.inputs.is_ready.Statement.{statement}
+use Rattle.words.proofs.inputs.is_ready.Tie as tie
+use Rattle.words.proofs.inputs.is_ready.Reads as reads
+use Rattle.words.proofs.inputs.is_ready.Lts as lts
+use Rattle.words.proofs.inputs.is_heard.Reads as is-heard-reads
+use Rattle.words.proofs.load.is_taken.Reads as is-taken-reads
+
+-- src/inputs.rt:46:25
+mul-byte : tie.Need-mul-byte
+mul-byte c = search needs
+
+-- src/inputs.rt:46:25
+add-byte : tie.Need-add-byte
+add-byte c = search needs
+
+-- src/inputs.rt:46:16
+shared-slice-read-byte : tie.Need-shared-slice-read-byte
+shared-slice-read-byte c = search needs
+
+-- src/inputs.rt:47:36
+add-is-taken : tie.Need-add-is-taken
+add-is-taken c = search needs
+
+-- src/inputs.rt:47:9
+is-taken-requires : tie.Need-is-taken-requires
+is-taken-requires c κs = search needs
+
+-- src/inputs.rt:48:9
+is-heard-requires : tie.Need-is-heard-requires
+is-heard-requires c κs = (search needs, λ e. c .before .before .before .before .pre .4 _ (search needs) e)
+
+-- src/inputs.rt:42:1
+returns : tie.Need-returns
+returns c = rw (c .is-heard .ensures, c .before .is-taken .ensures)
+
+pub is-ready-spec : {M : Type 1} → statement M
+is-ready-spec =
+    tie.close
+    (tie.spec
+    mul-byte
+    add-byte
+    shared-slice-read-byte
+    add-is-taken
+    is-taken-requires
+    is-heard-requires
+    returns)

@@ -1,0 +1,47 @@
+use mathlib.Core.Path.{ap₂, _∙_}
+use Rattle.words.specs.Packed.{inEntryFrom}
+use Rattle.words.specs.Words.{arrivedAt}
+use borrow.Author.Needs.{needs}
+use Rattle.words.proofs.load.load_in_entry.Statement.{statement}
+use Rattle.words.proofs.load.load_in_entry.Tie as tie
+use Rattle.words.proofs.load.load_in_entry.Reads as reads
+use Rattle.words.proofs.load.load_in_entry.Lts as lts
+use Rattle.words.proofs.load.fields_at.Reads as fields-at-reads
+use Rattle.words.proofs.load.set_at.Reads as set-at-reads
+use Rattle.words.proofs.pack.in_entry_from.Reads as in-entry-from-reads
+
+-- src/load.rt:106:26
+add-set-at : tie.Need-add-set-at
+add-set-at c = search needs
+
+-- src/load.rt:106:9
+set-at-requires : tie.Need-set-at-requires
+set-at-requires c κs = search needs
+
+-- src/load.rt:107:29
+add-fields-at : tie.Need-add-fields-at
+add-fields-at c = search needs
+
+-- src/load.rt:107:9
+fields-at-requires : tie.Need-fields-at-requires
+fields-at-requires c κs = search needs
+
+-- src/load.rt:105:5
+in-entry-from-requires : tie.Need-in-entry-from-requires
+in-entry-from-requires c κs = search needs
+
+-- src/load.rt:101:1
+returns : tie.Need-returns
+unfolding arrivedAt
+returns c = c .in-entry-from .ensures ∙ ap₂ inEntryFrom (c .before .before .set-at .ensures) (c .before .fields-at .ensures)
+
+pub load-in-entry-spec : {M : Type 1} → statement M
+load-in-entry-spec =
+    tie.close
+    (tie.spec
+    add-set-at
+    set-at-requires
+    add-fields-at
+    fields-at-requires
+    in-entry-from-requires
+    returns)

@@ -1,0 +1,188 @@
+-- RUN and SEND in place: what they ask of the words, what an arm of RUN decides, what the words are after it.
+use Prim.Native.Nat.{ℕ, suc, _+_, _*_, _<_, _≤_, _^_, _%_}
+use mathlib.Core.Path.{_≡_}
+use mathlib.Core.List.{List, [], _∷_}
+use mathlib.Core.Bool.{Bool, true, false, cond, not, _&&_, _||_}
+use lib.ListN.{length, getD}
+use Rattle.base.specs.Sizes.{sitesMost, portCount}
+use Rattle.sets.specs.Sets.{targets}
+use Rattle.types.specs.Numbers.{stateNumber}
+use Rattle.types.specs.Phases.{listening}
+use Rattle.types.specs.declared.Phase.the-variants.{the-data as Phase, Free, Seek, Open, Wait, Done, Last, Abort as Aborted, FinAbort}
+use Rattle.types.specs.declared.Input.{Input}
+use Rattle.types.specs.declared.Output.{Output}
+use Rattle.types.specs.declared.OutQueue.{OutQueue}
+use Rattle.types.specs.declared.InQueue.{InQueue}
+use Rattle.types.specs.declared.Site.{Site}
+use Rattle.types.specs.declared.State.{State}
+use Rattle.types.specs.declared.Network.{Network}
+use Rattle.types.specs.declared.AfterSend.{AfterSend}
+use Rattle.types.specs.declared.Sent.the-variants.{the-data as Sent}
+use Rattle.types.specs.declared.Ran.the-variants.{the-data as Ran}
+use Rattle.model.specs.Types.{noInput, siteAt, inAt, outAt, setIn, setOut, withOutQueue, withInQueue}
+use Rattle.model.specs.Network.{channel, joined, isChannel}
+use Rattle.model.specs.NetInput.{Turn, Stay, To, ready, allReady, netInput, seek}
+use Rattle.model.specs.Places.{localOutput, channelOutput, outQueue, operator, timeout, stalled, Work, Rest, Cleared, Service}
+use Rattle.model.specs.Steps.{Act, ownTurn, passTurn, workDone, setBoth, farEnd, ends, patch}
+use Rattle.model.specs.Runs.{trySend}
+use Rattle.rules.specs.declared.inputs.InputTurn.{InputTurn}
+use Rattle.rules.specs.declared.places.LocalTurn.{LocalTurn}
+use Rattle.rules.specs.declared.places.ChannelTurn.{ChannelTurn}
+use Rattle.rules.specs.declared.places.QueueTurn.{QueueTurn}
+use Rattle.rules.specs.declared.work.OperatorTurn.{OperatorTurn}
+use Rattle.rules.specs.Router.{askedBy}
+use Rattle.words.specs.Layout.{wordCount}
+use Rattle.words.specs.Words.{sitesOf, stateOf, canonical}
+use Rattle.words.specs.Stored.{Stored}
+
+-- a network by its parts
+abbrev pub networkOf : ℕ → ℕ → ℕ → List ℕ → List ℕ → Network
+networkOf S D T channels routes = record { sites = S; depth = D; tries = T; channels = channels; routes = routes }
+
+-- site s of the words c
+abbrev pub siteIn : List ℕ → ℕ → Site
+siteIn c s = siteAt (sitesOf c) s
+
+-- what RUN decides at a site x, an arm each: `act` by its codes
+abbrev pub inputAct : Network → ℕ → Site → (ℕ → Input) → ℕ → Act
+inputAct n s x far i = ownTurn (setBoth x i) (netInput n s i (inAt x i) (x .outputs) (ready (joined n s) far (x .outputs)))
+
+abbrev pub localAct : ℕ → Site → Act
+localAct D x = ownTurn (λ o iq. setOut (withInQueue x iq) 0 o) (localOutput D (outAt x 0) (x .incoming))
+
+abbrev pub channelAct : Network → ℕ → Site → (ℕ → Input) → ℕ → Act
+channelAct n s x far j = passTurn x (suc j) (channelOutput (joined n s (suc j)) (outAt x (suc j)) (far (suc j)))
+
+abbrev pub queueAct : Site → Act
+queueAct x = ownTurn (λ oq y. setIn (withOutQueue x oq) 0 y) (outQueue (x .outgoing) (inAt x 0))
+
+abbrev pub operatorAct : ℕ → ℕ → Site → Act
+operatorAct D s x = workDone x (operator D s (x .incoming) (x .outgoing))
+
+abbrev pub timeoutAct : Site → Act
+timeoutAct x = ownTurn (setBoth x (outAt x 0 .input)) (timeout (x .incoming) (x .outputs) (inAt x (outAt x 0 .input)))
+
+-- what RUN in place at site s asks of the network and the words: what a valid network and a state in range give
+pub record Runnable (n : Network) (c : List ℕ) (s : ℕ) : Type 0 where
+  pub site : s < n .sites
+  pub few : n .sites ≤ sitesMost
+  pub words : length c ≡ wordCount
+  pub channels : length (n .channels) ≡ portCount * sitesMost
+  pub routes : length (n .routes) ≡ sitesMost * sitesMost
+  pub feeder : outAt (siteIn c s) 0 .input < 5
+  pub ends : (j : ℕ) → j < 4 → joined n s (suc j) ≡ true → channel n s (suc j) < 64
+  pub sought : (i : ℕ) → i < 5 → stateNumber (inAt (siteIn c s) i .phase) ≡ 1 → targets (n .sites) (inAt (siteIn c s) i .set) ≡ true
+
+-- the answer r and the words d after the act a at site s
+pub record Did (n : Network) (c d : List ℕ) (s : ℕ) (r : Ran) (a : Act) : Type 0 where
+  pub answer : r ≡ patch n (sitesOf c) s a .answer
+  pub stored : Stored c d (patch n (sitesOf c) s a .sites)
+
+-- the same of an act that changes no other site: whatever the network
+abbrev pub DidOwn : List ℕ → List ℕ → ℕ → Ran → Act → Type 0
+DidOwn c d s r a = (n : Network) → Did n c d s r a
+
+-- the answer r and the words d after what became of a send
+pub record Took (c d : List ℕ) (r : Sent) (w : AfterSend) : Type 0 where
+  pub answer : r ≡ w .answer
+  pub size : length d ≡ wordCount
+  pub state : stateOf d ≡ w .state
+  pub kept : canonical c ≡ true → canonical d ≡ true
+
+-- what SEND leaves, nothing but its own refusals tested: of a network its sites S and its depth D alone are looked at
+unfoldable pub tried : ℕ → ℕ → State → ℕ → ℕ → AfterSend
+tried S D st s X = trySend (networkOf S D 0 [] []) st s X
+
+-- a net-input that no rule moves, all its connected outputs being ready or not, output 0 being ready or not
+abbrev pub stands : Phase → Bool → Bool → Bool
+stands Free every own = true
+stands Seek every own = false
+stands (Open c) every own = every
+stands (Wait c) every own = not every
+stands (Done c r) every own = false
+stands (Last c r) every own = not every
+stands (Aborted c) every own = true
+stands (FinAbort c r) every own = not own
+
+-- a net-output that has nothing to pass on: empty, or its head taken and its terminator not come
+abbrev pub atRest : Output → Bool
+atRest o = not (o .used) || stalled o
+
+-- the input at the end of a channel with the byte b; a free one where there is no channel
+abbrev pub endOf : List Site → ℕ → Input
+endOf xs b = cond (isChannel b) (farEnd xs b) noInput
+
+-- output j + 1 with the byte b of its channel: of any network that has it there
+abbrev pub DidPass : List ℕ → List ℕ → ℕ → Ran → ℕ → ℕ → Turn Output Input → Type 0
+DidPass c d s r j b t = (n : Network) → channel n s (suc j) ≡ b → Did n c d s r (passTurn (siteIn c s) (suc j) t)
+
+-- what a rule decided, read from the struct that its code returns
+abbrev pub localBack : LocalTurn → Turn Output InQueue
+localBack r = cond (r .changed) (To (r .output) (r .queue)) Stay
+
+abbrev pub channelBack : ChannelTurn → Turn Output Input
+channelBack r = cond (r .changed) (To (r .output) (r .input)) Stay
+
+abbrev pub queueBack : QueueTurn → Turn OutQueue Input
+queueBack r = cond (r .changed) (To (r .queue) (r .input)) Stay
+
+abbrev pub inputBack : InputTurn → Turn Input (List Output)
+inputBack r = cond (r .changed) (To (r .input) (r .outputs)) Stay
+
+abbrev pub workBack : OperatorTurn → Work
+workBack r = cond (r .changed) (cond (r .serviced) (Service (r .incoming) (r .outgoing) (r .packet)) (Cleared (r .incoming) (r .outgoing))) Rest
+
+-- ---- codes 0 to 4
+
+-- whether output j + 1 of site s is ready, by the channels' bytes l
+abbrev pub readyAt : List ℕ → List Site → ℕ → ℕ → Bool
+readyAt l xs s j =
+    let b = getD l (4 * s + j) 0 in
+    outAt (siteAt xs s) (j + 1) .used && outAt (siteAt xs s) (j + 1) .head && (isChannel b && listening (endOf xs b .phase))
+
+-- which outputs of site s are ready
+abbrev pub readyFlags : List ℕ → List Site → ℕ → List Bool
+readyFlags l xs s =
+    (outAt (siteAt xs s) 0 .used && outAt (siteAt xs s) 0 .head && true)
+    ∷ readyAt l xs s 0
+    ∷ readyAt l xs s 1
+    ∷ readyAt l xs s 2
+    ∷ readyAt l xs s 3
+    ∷ []
+
+-- the channels of site s end within the sites
+abbrev pub EndsWithin : List ℕ → ℕ → Type 0
+EndsWithin l s = (j : ℕ) → j < 4 → isChannel (getD l (4 * s + j) 0) ≡ true → getD l (4 * s + j) 0 < 64
+
+-- a net-input that no rule moves
+abbrev pub waits : Input → (ℕ → Bool) → Bool
+waits y isReady = stands (y .phase) (allReady isReady (y .outputs)) (isReady 0)
+
+-- what the router's answer makes of net-input i of site x
+abbrev pub sought : List ℕ → ℕ → ℕ → Site → ℕ → ℕ → Turn Input (List Output)
+sought m S T x s i = seek T i (inAt x i) (x .outputs) (askedBy m S s (x .outputs) (inAt x i .set))
+
+-- what net-input i in seek asks of the routes m
+pub record Seekable (m : List ℕ) (S : ℕ) (c : List ℕ) (s i : ℕ) : Type 0 where
+  pub site : s < S
+  pub few : S ≤ sitesMost
+  pub words : length c ≡ wordCount
+  pub routes : length m ≡ sitesMost * sitesMost
+  pub set : stateNumber (inAt (siteIn c s) i .phase) ≡ 1 → targets S (inAt (siteIn c s) i .set) ≡ true
+
+-- net-input i: of any network, where it is known which outputs are ready; of any with the channels l; of any with the
+-- routes m, sites and tries; of any with all of these
+abbrev pub DidReady : List ℕ → List ℕ → ℕ → Ran → ℕ → (ℕ → Bool) → Type 0
+DidReady c d s r i isReady =
+    (n : Network) → Did n c d s r (ownTurn (setBoth (siteIn c s) i) (netInput n s i (inAt (siteIn c s) i) (siteIn c s .outputs) isReady))
+
+abbrev pub DidInput : List ℕ → List ℕ → List ℕ → ℕ → Ran → ℕ → Type 0
+DidInput l c d s r i = (n : Network) → n .channels ≡ l → Did n c d s r (inputAct n s (siteIn c s) (ends n (sitesOf c) s) i)
+
+abbrev pub DidSought : List ℕ → ℕ → ℕ → List ℕ → List ℕ → ℕ → Ran → ℕ → Type 0
+DidSought m S T c d s r i =
+    (D : ℕ) (l : List ℕ) → Did (networkOf S D T l m) c d s r (inputAct (networkOf S D T l m) s (siteIn c s) (ends (networkOf S D T l m) (sitesOf c) s) i)
+
+abbrev pub DidAsked : List ℕ → List ℕ → ℕ → ℕ → List ℕ → List ℕ → ℕ → Ran → ℕ → Type 0
+DidAsked l m S T c d s r i =
+    (D : ℕ) → Did (networkOf S D T l m) c d s r (inputAct (networkOf S D T l m) s (siteIn c s) (ends (networkOf S D T l m) (sitesOf c) s) i)

@@ -1,0 +1,110 @@
+// RUN in place, a function an arm: it looks at the packed words (an idle place ends there), then asks the rule and stores what changed.
+ghost use mathlib.Core.Path.{_≡_};
+ghost use mathlib.Core.Bool.{true};
+ghost use Prim.Native.Nat.{suc, _<_};
+ghost use lib.ListN.{length};
+ghost use Rattle.model.specs.Types.{outAt};
+ghost use Rattle.model.specs.Places.{channelOutput};
+ghost use Rattle.model.specs.Network.{isChannel};
+ghost use Rattle.model.specs.Steps.{farEnd};
+ghost use Rattle.words.specs.Layout.{wordCount};
+ghost use Rattle.words.specs.Words.{sitesOf};
+ghost use Rattle.words.specs.Events as spec;
+ghost use Rattle.words.specs.Events.{DidOwn, siteIn};
+use crate::load::feeder_of;
+use crate::load::front_lacks;
+use crate::load::in_count;
+use crate::load::is_stalled;
+use crate::load::is_used;
+use crate::load::out_count;
+use crate::puts::put_channel;
+use crate::puts::put_input;
+use crate::puts::put_local;
+use crate::puts::put_queue;
+use crate::puts::put_work;
+use crate::turns::channel_turn;
+use crate::turns::local_turn;
+use crate::turns::operator_turn;
+use crate::turns::queue_turn;
+use crate::turns::timeout_turn;
+use types::Ran;
+
+// Whether net-output j has nothing to pass on: it is empty, or its head is taken and its terminator has not come.
+fn is_at_rest(words: &[u64], s: usize, j: usize) -> bool
+    requires { ⌜ (s < 16) × (j < 5) × (length (now words) ≡ wordCount) ⌝ }
+    ensures { λ r. ⌜ r ≡ spec.atRest (outAt (siteIn (now (words .entry)) s) j) ⌝ }
+{
+    let used = is_used(words, s, j);
+    let stalled = is_stalled(words, s, j);
+    !used | stalled
+}
+
+// Code 5: net-output 0.
+pub(crate) fn local_in_place(depth: usize, words: &mut [u64], s: usize) -> Ran
+    requires { ⌜ (s < 16) × (length (now words) ≡ wordCount) ⌝ }
+    ensures { λ r. ⌜ DidOwn (now (words .entry)) (now (words .exit)) s r (spec.localAct depth (siteIn (now (words .entry)) s)) ⌝ }
+{
+    if is_at_rest(words, s, 0) {
+        return Ran::Nothing;
+    }
+    let turn = local_turn(depth, words, s);
+    put_local(words, s, turn)
+}
+
+// Codes 6 to 9: net-output j + 1; the byte of its channel is at hand.
+pub(crate) fn channel_in_place(words: &mut [u64], s: usize, j: usize, byte: u8) -> Ran
+    requires { ⌜ (s < 16) × (j < 4) × (length (now words) ≡ wordCount) × (isChannel byte ≡ true → byte < 64) ⌝ }
+    ensures { λ r. ⌜
+        spec.DidPass (now (words .entry)) (now (words .exit)) s r j byte
+        (channelOutput (isChannel byte) (outAt (siteIn (now (words .entry)) s) (suc j))
+        (spec.endOf (sitesOf (now (words .entry))) byte))
+        ⌝ }
+{
+    if is_at_rest(words, s, j + 1) {
+        return Ran::Nothing;
+    }
+    if byte == base::NO_CHANNEL {
+        return Ran::Nothing;
+    }
+    let turn = channel_turn(words, s, j, byte);
+    put_channel(words, s, j, byte, turn)
+}
+
+// Code 10: the out-queue.
+pub(crate) fn queue_in_place(words: &mut [u64], s: usize) -> Ran
+    requires { ⌜ (s < 16) × (length (now words) ≡ wordCount) ⌝ }
+    ensures { λ r. ⌜ DidOwn (now (words .entry)) (now (words .exit)) s r (spec.queueAct (siteIn (now (words .entry)) s)) ⌝ }
+{
+    if out_count(words, s) == 0 {
+        return Ran::Nothing;
+    }
+    let turn = queue_turn(words, s);
+    put_queue(words, s, turn)
+}
+
+// Code 11: the operator.
+pub(crate) fn operator_in_place(depth: usize, words: &mut [u64], s: usize) -> Ran
+    requires { ⌜ (s < 16) × (length (now words) ≡ wordCount) ⌝ }
+    ensures { λ r. ⌜ DidOwn (now (words .entry)) (now (words .exit)) s r (spec.operatorAct depth s (siteIn (now (words .entry)) s)) ⌝ }
+{
+    let n = in_count(words, s);
+    let lacks = front_lacks(words, s);
+    if (n == 0) | lacks {
+        return Ran::Nothing;
+    }
+    let turn = operator_turn(depth, words, s);
+    put_work(words, s, turn)
+}
+
+// Code 12: the timeout.
+pub(crate) fn timeout_in_place(words: &mut [u64], s: usize) -> Ran
+    requires { ⌜ (s < 16) × (length (now words) ≡ wordCount) × (outAt (siteIn (now words) s) 0 .input < 5) ⌝ }
+    ensures { λ r. ⌜ DidOwn (now (words .entry)) (now (words .exit)) s r (spec.timeoutAct (siteIn (now (words .entry)) s)) ⌝ }
+{
+    if is_stalled(words, s, 0) {
+        let i = feeder_of(words, s);
+        let turn = timeout_turn(words, s, i);
+        return put_input(words, s, i, turn);
+    }
+    Ran::Nothing
+}

@@ -1,0 +1,187 @@
+// Codes 0 to 4 in place: which outputs are ready, read from the packed words; a net-input in seek, and in its other states.
+ghost use mathlib.Core.Path.{_≡_};
+ghost use mathlib.Core.Bool.{true, _&&_};
+ghost use Prim.Native.Nat.{_<_};
+ghost use lib.ListN.{length};
+ghost use Rattle.types.specs.Numbers.{stateNumber};
+ghost use Rattle.types.specs.Phases.{listening};
+ghost use Rattle.model.specs.Types.{inAt, mark};
+ghost use Rattle.model.specs.Network.{isChannel};
+ghost use Rattle.rules.specs.Turns.{ofInputTurn, otherTurn};
+ghost use Rattle.words.specs.Layout.{wordCount};
+ghost use Rattle.words.specs.Words.{sitesOf};
+ghost use Rattle.words.specs.Events as spec;
+ghost use Rattle.words.specs.Events.{siteIn, endOf};
+use crate::load::is_taken;
+use crate::load::load_input;
+use crate::load::load_outputs;
+use crate::load::state_of;
+use crate::puts::put_input;
+use rules::InputTurn;
+use rules::all_ready;
+use rules::other_input;
+use rules::route_in;
+use rules::seek_turn;
+use types::Phase;
+use types::Ran;
+
+// Whether the input at the end of a channel is open or abort; not where there is no channel.
+fn is_heard(words: &[u64], byte: u8) -> bool
+    requires { ⌜ (length (now words) ≡ wordCount) × (isChannel byte ≡ true → byte < 64) ⌝ }
+    ensures { λ r. ⌜ r ≡ (isChannel byte && listening (endOf (sitesOf (now (words .entry))) byte .phase)) ⌝ }
+{
+    if byte == base::NO_CHANNEL {
+        return false;
+    }
+    let b = base::wide(byte);
+    let number = state_of(words, b / 4, b % 4 + 1);
+    (number == 2) | (number == 6)
+}
+
+// Whether output j + 1 is ready.
+fn is_ready(channels: &[u8], words: &[u64], s: usize, j: usize) -> bool
+    requires { ⌜ (s < 16) × (j < 4) × (length (now channels) ≡ 64) × (length (now words) ≡ wordCount) × spec.EndsWithin (now channels) s ⌝ }
+    ensures { λ r. ⌜ r ≡ spec.readyAt (now (channels .entry)) (sitesOf (now (words .entry))) s j ⌝ }
+{
+    let byte = channels[4 * s + j];
+    let taken = is_taken(words, s, j + 1);
+    let heard = is_heard(words, byte);
+    taken & heard
+}
+
+// Which outputs of site s are ready.
+fn readies(channels: &[u8], words: &[u64], s: usize) -> [bool; base::OUTPUTS]
+    requires { ⌜ (s < 16) × (length (now channels) ≡ 64) × (length (now words) ≡ wordCount) × spec.EndsWithin (now channels) s ⌝ }
+    ensures { λ r. ⌜ r ≡ spec.readyFlags (now (channels .entry)) (sitesOf (now (words .entry))) s ⌝ }
+{
+    let own = is_taken(words, s, 0);
+    [
+        own & true,
+        is_ready(channels, words, s, 0),
+        is_ready(channels, words, s, 1),
+        is_ready(channels, words, s, 2),
+        is_ready(channels, words, s, 3),
+    ]
+}
+
+// Whether a net-input stays in this state, all its connected outputs being ready or not, output 0 being ready or not.
+fn is_standing(phase: Phase, every: bool, own: bool) -> bool
+    ensures { λ r. ⌜ r ≡ spec.stands phase every own ⌝ }
+{
+    match phase {
+        Phase::Free => true,
+        Phase::Seek => false,
+        Phase::Open(_) => every,
+        Phase::Wait(_) => !every,
+        Phase::Done(_, _) => false,
+        Phase::Last(_, _) => !every,
+        Phase::Abort(_) => true,
+        Phase::FinAbort(_, _) => !own,
+    }
+}
+
+// Whether no rule moves net-input i.
+fn has_to_wait(words: &[u64], s: usize, i: usize, ready: [bool; base::OUTPUTS]) -> bool
+    requires { ⌜ (s < 16) × (i < 5) × (length (now words) ≡ wordCount) ⌝ }
+    ensures { λ r. ⌜ r ≡ spec.waits (inAt (siteIn (now (words .entry)) s) i) (mark ready) ⌝ }
+{
+    let input = load_input(words, s, i);
+    let phase = input.phase;
+    let marked = input.outputs;
+    let own = ready[0];
+    let every = all_ready(ready, marked);
+    is_standing(phase, every, own)
+}
+
+// What becomes of net-input i in another state than seek.
+fn other_turn(words: &[u64], s: usize, i: usize, ready: [bool; base::OUTPUTS]) -> InputTurn
+    requires { ⌜ (s < 16) × (i < 5) × (length (now words) ≡ wordCount) ⌝ }
+    ensures { λ r. ⌜
+        r ≡ ofInputTurn (inAt (siteIn (now (words .entry)) s) i) (siteIn (now (words .entry)) s .outputs)
+        (otherTurn (inAt (siteIn (now (words .entry)) s) i) (siteIn (now (words .entry)) s .outputs) (mark ready))
+        ⌝ }
+{
+    let input = load_input(words, s, i);
+    let outputs = load_outputs(words, s);
+    other_input(input, outputs, ready)
+}
+
+// Net-input i in another state than seek; which outputs are ready is known.
+fn ready_in_place(words: &mut [u64], s: usize, i: usize, ready: [bool; base::OUTPUTS]) -> Ran
+    requires { ⌜ (s < 16) × (i < 5) × (length (now words) ≡ wordCount) × (stateNumber (inAt (siteIn (now words) s) i .phase) ≡ 1 → ⊥) ⌝ }
+    ensures { λ r. ⌜ spec.DidReady (now (words .entry)) (now (words .exit)) s r i (mark ready) ⌝ }
+{
+    if has_to_wait(words, s, i, ready) {
+        return Ran::Nothing;
+    }
+    let turn = other_turn(words, s, i, ready);
+    put_input(words, s, i, turn)
+}
+
+// Net-input i in another state than seek.
+fn other_in_place(channels: &[u8], words: &mut [u64], s: usize, i: usize) -> Ran
+    requires { ⌜
+        (s < 16) × (i < 5) × (length (now channels) ≡ 64) × (length (now words) ≡ wordCount) × spec.EndsWithin
+        (now channels) s × (stateNumber (inAt (siteIn (now words) s) i .phase) ≡ 1 → ⊥)
+        ⌝ }
+    ensures { λ r. ⌜ spec.DidInput (now (channels .entry)) (now (words .entry)) (now (words .exit)) s r i ⌝ }
+{
+    let ready = readies(channels, words, s);
+    ready_in_place(words, s, i, ready)
+}
+
+// What the router's answer makes of net-input i in seek.
+fn seeking(routes: &[u16], sites: usize, tries: u8, words: &[u64], s: usize, i: usize) -> InputTurn
+    requires { ⌜ (s < 16) × (i < 5) × (length (now words) ≡ wordCount) ⌝ }
+    ensures { λ r. ⌜
+        r ≡ ofInputTurn (inAt (siteIn (now (words .entry)) s) i) (siteIn (now (words .entry)) s .outputs)
+        (spec.sought (now (routes .entry)) sites tries (siteIn (now (words .entry)) s) s i)
+        ⌝ }
+{
+    let input = load_input(words, s, i);
+    let outputs = load_outputs(words, s);
+    let choice = route_in(routes, sites, s, outputs, input.set);
+    seek_turn(tries, i as u8, input, outputs, choice)
+}
+
+// Net-input i in seek.
+fn seek_in_place(
+    routes: &[u16],
+    sites: usize,
+    tries: u8,
+    words: &mut [u64],
+    s: usize,
+    i: usize,
+) -> Ran
+    requires { ⌜ i < 5 ⌝ ∗ ⌜ spec.Seekable (now routes) sites (now words) s i ⌝ ∗ ⌜ stateNumber (inAt (siteIn (now words) s) i .phase) ≡ 1 ⌝ }
+    ensures { λ r. ⌜ spec.DidSought (now (routes .entry)) sites tries (now (words .entry)) (now (words .exit)) s r i ⌝ }
+{
+    let turn = seeking(routes, sites, tries, words, s, i);
+    put_input(words, s, i, turn)
+}
+
+// Codes 0 to 4: net-input i, by its state number.
+pub(crate) fn input_in_place(
+    channels: &[u8],
+    routes: &[u16],
+    sites: usize,
+    tries: u8,
+    words: &mut [u64],
+    s: usize,
+    i: usize,
+) -> Ran
+    requires { ⌜ (i < 5) × (length (now channels) ≡ 64) ⌝ ∗ ⌜ spec.EndsWithin (now channels) s ⌝ ∗ ⌜ spec.Seekable (now routes) sites (now words) s i ⌝ }
+    ensures { λ r. ⌜
+        spec.DidAsked (now (channels .entry)) (now (routes .entry)) sites tries (now (words .entry))
+        (now (words .exit)) s r i
+        ⌝ }
+{
+    let number = state_of(words, s, i);
+    if (number == 0) | (number == 6) {
+        return Ran::Nothing;
+    }
+    if number == 1 {
+        return seek_in_place(routes, sites, tries, words, s, i);
+    }
+    other_in_place(channels, words, s, i)
+}

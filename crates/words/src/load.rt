@@ -1,0 +1,240 @@
+// Places read from the words of a state, and what is cheap to see of a place before it is read.
+ghost use mathlib.Core.Path.{_≡_};
+ghost use mathlib.Core.Bool.{_&&_};
+ghost use Prim.Native.Nat.{_<_};
+ghost use lib.ListN.{length};
+ghost use Rattle.types.specs.Numbers.{stateNumber};
+ghost use Rattle.types.specs.Phases.{isNone};
+ghost use Rattle.model.specs.Types.{siteAt, inAt, outAt, inEntry};
+ghost use Rattle.model.specs.Places.{stalled};
+ghost use Rattle.words.specs.Layout.{wordCount};
+ghost use Rattle.words.specs.Words as spec;
+use crate::layout::ARRIVED_FROM;
+use crate::layout::COUNTER_AT;
+use crate::layout::COUNTS_PLACE;
+use crate::layout::LEAVING_FROM;
+use crate::layout::OUTPUTS_FROM;
+use crate::layout::SITE_PLACES;
+use crate::pack::in_entry_from;
+use crate::pack::input_from;
+use crate::pack::out_entry_from;
+use crate::pack::output_from;
+use types::InEntry;
+use types::InQueue;
+use types::Input;
+use types::OutEntry;
+use types::OutQueue;
+use types::Output;
+use types::Site;
+
+// The two words of place k of site s.
+pub(crate) fn set_at(words: &[u64], s: usize, k: usize) -> u64
+    requires { ⌜ (s < 16) × (k < 27) × (length (now words) ≡ wordCount) ⌝ }
+    ensures { λ r. ⌜ r ≡ spec.setAt (now (words .entry)) s k ⌝ }
+{
+    words[2 * (SITE_PLACES * s + k)]
+}
+
+pub(crate) fn fields_at(words: &[u64], s: usize, k: usize) -> u64
+    requires { ⌜ (s < 16) × (k < 27) × (length (now words) ≡ wordCount) ⌝ }
+    ensures { λ r. ⌜ r ≡ spec.fieldsAt (now (words .entry)) s k ⌝ }
+{
+    words[2 * (SITE_PLACES * s + k) + 1]
+}
+
+// Net-input i of site s.
+pub(crate) fn load_input(words: &[u64], s: usize, i: usize) -> Input
+    requires { ⌜ (s < 16) × (i < 5) × (length (now words) ≡ wordCount) ⌝ }
+    ensures { λ r. ⌜ r ≡ inAt (siteAt (spec.sitesOf (now (words .entry))) s) i ⌝ }
+{
+    input_from(set_at(words, s, i), fields_at(words, s, i))
+}
+
+// Net-output j of site s.
+pub(crate) fn load_output(words: &[u64], s: usize, j: usize) -> Output
+    requires { ⌜ (s < 16) × (j < 5) × (length (now words) ≡ wordCount) ⌝ }
+    ensures { λ r. ⌜ r ≡ outAt (siteAt (spec.sitesOf (now (words .entry))) s) j ⌝ }
+{
+    output_from(
+        set_at(words, s, OUTPUTS_FROM + j),
+        fields_at(words, s, OUTPUTS_FROM + j),
+    )
+}
+
+pub(crate) fn load_outputs(words: &[u64], s: usize) -> [Output; base::OUTPUTS]
+    requires { ⌜ (s < 16) × (length (now words) ≡ wordCount) ⌝ }
+    ensures { λ r. ⌜ r ≡ siteAt (spec.sitesOf (now (words .entry))) s .outputs ⌝ }
+{
+    [
+        load_output(words, s, 0),
+        load_output(words, s, 1),
+        load_output(words, s, 2),
+        load_output(words, s, 3),
+        load_output(words, s, 4),
+    ]
+}
+
+pub(crate) fn load_inputs(words: &[u64], s: usize) -> [Input; base::INPUTS]
+    requires { ⌜ (s < 16) × (length (now words) ≡ wordCount) ⌝ }
+    ensures { λ r. ⌜ r ≡ siteAt (spec.sitesOf (now (words .entry))) s .inputs ⌝ }
+{
+    [
+        load_input(words, s, 0),
+        load_input(words, s, 1),
+        load_input(words, s, 2),
+        load_input(words, s, 3),
+        load_input(words, s, 4),
+    ]
+}
+
+// Entry m of site s's out-queue.
+pub(crate) fn load_out_entry(words: &[u64], s: usize, m: usize) -> OutEntry
+    requires { ⌜ (s < 16) × (m < 8) × (length (now words) ≡ wordCount) ⌝ }
+    ensures { λ r. ⌜ r ≡ spec.leavingAt (now (words .entry)) s m ⌝ }
+{
+    out_entry_from(
+        set_at(words, s, LEAVING_FROM + m),
+        fields_at(words, s, LEAVING_FROM + m),
+    )
+}
+
+// Entry m of site s's in-queue.
+pub(crate) fn load_in_entry(words: &[u64], s: usize, m: usize) -> InEntry
+    requires { ⌜ (s < 16) × (m < 8) × (length (now words) ≡ wordCount) ⌝ }
+    ensures { λ r. ⌜ r ≡ spec.arrivedAt (now (words .entry)) s m ⌝ }
+{
+    in_entry_from(
+        set_at(words, s, ARRIVED_FROM + m),
+        fields_at(words, s, ARRIVED_FROM + m),
+    )
+}
+
+pub(crate) fn out_count(words: &[u64], s: usize) -> usize
+    requires { ⌜ (s < 16) × (length (now words) ≡ wordCount) ⌝ }
+    ensures { λ r. ⌜ r ≡ siteAt (spec.sitesOf (now (words .entry))) s .outgoing .count ⌝ }
+{
+    set_at(words, s, COUNTS_PLACE) as usize
+}
+
+pub(crate) fn in_count(words: &[u64], s: usize) -> usize
+    requires { ⌜ (s < 16) × (length (now words) ≡ wordCount) ⌝ }
+    ensures { λ r. ⌜ r ≡ siteAt (spec.sitesOf (now (words .entry))) s .incoming .count ⌝ }
+{
+    fields_at(words, s, COUNTS_PLACE) as usize
+}
+
+pub(crate) fn load_out_queue(words: &[u64], s: usize) -> OutQueue
+    requires { ⌜ (s < 16) × (length (now words) ≡ wordCount) ⌝ }
+    ensures { λ r. ⌜ r ≡ siteAt (spec.sitesOf (now (words .entry))) s .outgoing ⌝ }
+{
+    OutQueue {
+        entries: [
+            load_out_entry(words, s, 0),
+            load_out_entry(words, s, 1),
+            load_out_entry(words, s, 2),
+            load_out_entry(words, s, 3),
+            load_out_entry(words, s, 4),
+            load_out_entry(words, s, 5),
+            load_out_entry(words, s, 6),
+            load_out_entry(words, s, 7),
+        ],
+        count: out_count(words, s),
+    }
+}
+
+pub(crate) fn load_in_queue(words: &[u64], s: usize) -> InQueue
+    requires { ⌜ (s < 16) × (length (now words) ≡ wordCount) ⌝ }
+    ensures { λ r. ⌜ r ≡ siteAt (spec.sitesOf (now (words .entry))) s .incoming ⌝ }
+{
+    InQueue {
+        entries: [
+            load_in_entry(words, s, 0),
+            load_in_entry(words, s, 1),
+            load_in_entry(words, s, 2),
+            load_in_entry(words, s, 3),
+            load_in_entry(words, s, 4),
+            load_in_entry(words, s, 5),
+            load_in_entry(words, s, 6),
+            load_in_entry(words, s, 7),
+        ],
+        count: in_count(words, s),
+    }
+}
+
+pub(crate) fn load_site(words: &[u64], s: usize) -> Site
+    requires { ⌜ (s < 16) × (length (now words) ≡ wordCount) ⌝ }
+    ensures { λ r. ⌜ r ≡ siteAt (spec.sitesOf (now (words .entry))) s ⌝ }
+{
+    let inputs = load_inputs(words, s);
+    let outputs = load_outputs(words, s);
+    let outgoing = load_out_queue(words, s);
+    let incoming = load_in_queue(words, s);
+    Site {
+        inputs,
+        outputs,
+        outgoing,
+        incoming,
+    }
+}
+
+// The packet number that the next SEND takes.
+pub(crate) fn load_counter(words: &[u64]) -> u8
+    requires { ⌜ length (now words) ≡ wordCount ⌝ }
+    ensures { λ r. ⌜ r ≡ spec.stateOf (now (words .entry)) .counter ⌝ }
+{
+    (words[COUNTER_AT] % 256) as u8
+}
+
+// ---- what is seen of a place by its packed word alone
+
+// The state number of net-input i.
+pub(crate) fn state_of(words: &[u64], s: usize, i: usize) -> u64
+    requires { ⌜ (s < 16) × (i < 5) × (length (now words) ≡ wordCount) ⌝ }
+    ensures { λ r. ⌜ r ≡ stateNumber (inAt (siteAt (spec.sitesOf (now (words .entry))) s) i .phase) ⌝ }
+{
+    fields_at(words, s, i) % 8
+}
+
+// Whether net-output j is in use with its head taken.
+pub(crate) fn is_taken(words: &[u64], s: usize, j: usize) -> bool
+    requires { ⌜ (s < 16) × (j < 5) × (length (now words) ≡ wordCount) ⌝ }
+    ensures { λ r. ⌜
+        r ≡
+        (outAt (siteAt (spec.sitesOf (now (words .entry))) s) j .used && outAt
+        (siteAt (spec.sitesOf (now (words .entry))) s) j .head)
+        ⌝ }
+{
+    fields_at(words, s, OUTPUTS_FROM + j) % 4 == 3
+}
+
+// Whether net-output j is stalled: in use, its head taken, no terminator.
+pub(crate) fn is_stalled(words: &[u64], s: usize, j: usize) -> bool
+    requires { ⌜ (s < 16) × (j < 5) × (length (now words) ≡ wordCount) ⌝ }
+    ensures { λ r. ⌜ r ≡ stalled (outAt (siteAt (spec.sitesOf (now (words .entry))) s) j) ⌝ }
+{
+    fields_at(words, s, OUTPUTS_FROM + j) % 16 == 3
+}
+
+// Whether net-output j is in use.
+pub(crate) fn is_used(words: &[u64], s: usize, j: usize) -> bool
+    requires { ⌜ (s < 16) × (j < 5) × (length (now words) ≡ wordCount) ⌝ }
+    ensures { λ r. ⌜ r ≡ outAt (siteAt (spec.sitesOf (now (words .entry))) s) j .used ⌝ }
+{
+    fields_at(words, s, OUTPUTS_FROM + j) % 2 == 1
+}
+
+// The net-input that feeds net-output 0.
+pub(crate) fn feeder_of(words: &[u64], s: usize) -> usize
+    requires { ⌜ (s < 16) × (length (now words) ≡ wordCount) ⌝ }
+    ensures { λ r. ⌜ r ≡ outAt (siteAt (spec.sitesOf (now (words .entry))) s) 0 .input ⌝ }
+{
+    (fields_at(words, s, OUTPUTS_FROM) / 256 % 256) as usize
+}
+
+// Whether the in-queue's front entry lacks a terminator.
+pub(crate) fn front_lacks(words: &[u64], s: usize) -> bool
+    requires { ⌜ (s < 16) × (length (now words) ≡ wordCount) ⌝ }
+    ensures { λ r. ⌜ r ≡ isNone (inEntry (siteAt (spec.sitesOf (now (words .entry))) s .incoming) 0 .terminator) ⌝ }
+{
+    fields_at(words, s, ARRIVED_FROM) % 4 == 0
+}

@@ -1,0 +1,97 @@
+// The two places that a rule changes, stored one after the other.
+ghost use mathlib.Core.Path.{_≡_};
+ghost use Prim.Native.Nat.{suc, _<_};
+ghost use lib.ListN.{length};
+ghost use Rattle.model.specs.Types.{setSite, setIn, setOut, withInQueue, withOutQueue};
+ghost use Rattle.model.specs.Steps.{setBoth, setFar};
+ghost use Rattle.words.specs.Layout.{wordCount};
+ghost use Rattle.words.specs.Words.{sitesOf};
+ghost use Rattle.words.specs.Stored.{Stored};
+ghost use Rattle.words.specs.Events.{siteIn};
+use crate::store::store_in_queue;
+use crate::store::store_input;
+use crate::store::store_out_queue;
+use crate::store::store_output;
+use crate::store::store_outputs;
+use types::InQueue;
+use types::Input;
+use types::OutQueue;
+use types::Output;
+
+// The in-queue and output 0.
+pub(crate) fn store_local(words: &mut [u64], s: usize, queue: InQueue, output: Output)
+    requires { ⌜ (s < 16) × (length (now words) ≡ wordCount) ⌝ }
+    ensures { λ _. ⌜
+        Stored (now (words .entry)) (now (words .exit))
+        (setSite (sitesOf (now (words .entry))) s
+        (setOut (withInQueue (siteIn (now (words .entry)) s) queue) 0 output))
+        ⌝ }
+{
+    store_in_queue(words, s, queue);
+    store_output(words, s, 0, output);
+}
+
+// Output j + 1, and the input at the end of its channel with this byte.
+pub(crate) fn store_passed(
+    words: &mut [u64],
+    s: usize,
+    j: usize,
+    output: Output,
+    byte: u8,
+    input: Input,
+)
+    requires { ⌜ (s < 16) × (j < 4) × (length (now words) ≡ wordCount) × (byte < 64) ⌝ }
+    ensures { λ _. ⌜
+        Stored (now (words .entry)) (now (words .exit))
+        (setFar (setSite (sitesOf (now (words .entry))) s (setOut (siteIn (now (words .entry)) s) (suc j) output))
+        byte input)
+        ⌝ }
+{
+    let b = base::wide(byte);
+    store_output(words, s, j + 1, output);
+    store_input(words, b / 4, b % 4 + 1, input);
+}
+
+// The out-queue and net-input 0.
+pub(crate) fn store_leaving(words: &mut [u64], s: usize, queue: OutQueue, input: Input)
+    requires { ⌜ (s < 16) × (length (now words) ≡ wordCount) ⌝ }
+    ensures { λ _. ⌜
+        Stored (now (words .entry)) (now (words .exit))
+        (setSite (sitesOf (now (words .entry))) s
+        (setIn (withOutQueue (siteIn (now (words .entry)) s) queue) 0 input))
+        ⌝ }
+{
+    store_out_queue(words, s, queue);
+    store_input(words, s, 0, input);
+}
+
+// The two queues.
+pub(crate) fn store_queues(words: &mut [u64], s: usize, incoming: InQueue, outgoing: OutQueue)
+    requires { ⌜ (s < 16) × (length (now words) ≡ wordCount) ⌝ }
+    ensures { λ _. ⌜
+        Stored (now (words .entry)) (now (words .exit))
+        (setSite (sitesOf (now (words .entry))) s
+        (withOutQueue (withInQueue (siteIn (now (words .entry)) s) incoming) outgoing))
+        ⌝ }
+{
+    store_in_queue(words, s, incoming);
+    store_out_queue(words, s, outgoing);
+}
+
+// The outputs and net-input i.
+pub(crate) fn store_both(
+    words: &mut [u64],
+    s: usize,
+    i: usize,
+    outputs: [Output; base::OUTPUTS],
+    input: Input,
+)
+    requires { ⌜ (s < 16) × (i < 5) × (length (now words) ≡ wordCount) ⌝ }
+    ensures { λ _. ⌜
+        Stored (now (words .entry)) (now (words .exit))
+        (setSite (sitesOf (now (words .entry))) s (setBoth (siteIn (now (words .entry)) s) i input outputs))
+        ⌝ }
+{
+    store_outputs(words, s, outputs);
+    store_input(words, s, i, input);
+}

@@ -1,0 +1,100 @@
+// What became of the places of a rule, stored if they changed, with RUN's answer.
+ghost use mathlib.Core.Path.{_≡_};
+ghost use Prim.Native.Nat.{suc, _<_};
+ghost use lib.ListN.{length};
+ghost use Rattle.model.specs.Types.{setIn, setOut, withInQueue, withOutQueue};
+ghost use Rattle.model.specs.Steps.{ownTurn, passTurn, workDone, setBoth};
+ghost use Rattle.model.specs.Network.{channel};
+ghost use Rattle.words.specs.Layout.{wordCount};
+ghost use Rattle.words.specs.Events as spec;
+ghost use Rattle.words.specs.Events.{Did, DidOwn, siteIn};
+use crate::pairs::store_both;
+use crate::pairs::store_leaving;
+use crate::pairs::store_local;
+use crate::pairs::store_passed;
+use crate::pairs::store_queues;
+use rules::ChannelTurn;
+use rules::InputTurn;
+use rules::LocalTurn;
+use rules::OperatorTurn;
+use rules::QueueTurn;
+use types::Ran;
+
+pub(crate) fn put_local(words: &mut [u64], s: usize, turn: LocalTurn) -> Ran
+    requires { ⌜ (s < 16) × (length (now words) ≡ wordCount) ⌝ }
+    ensures { λ r. ⌜
+        DidOwn (now (words .entry)) (now (words .exit)) s r
+        (ownTurn (λ o iq. setOut (withInQueue (siteIn (now (words .entry)) s) iq) 0 o) (spec.localBack turn))
+        ⌝ }
+{
+    let queue = turn.queue;
+    let output = turn.output;
+    if turn.changed {
+        store_local(words, s, queue, output);
+        return Ran::Changed;
+    }
+    Ran::Nothing
+}
+
+pub(crate) fn put_channel(words: &mut [u64], s: usize, j: usize, byte: u8, turn: ChannelTurn) -> Ran
+    requires { ⌜ (s < 16) × (j < 4) × (length (now words) ≡ wordCount) × (byte < 64) ⌝ }
+    ensures { λ r. ⌜ spec.DidPass (now (words .entry)) (now (words .exit)) s r j byte (spec.channelBack turn) ⌝ }
+{
+    let output = turn.output;
+    let input = turn.input;
+    if turn.changed {
+        store_passed(words, s, j, output, byte, input);
+        return Ran::Changed;
+    }
+    Ran::Nothing
+}
+
+pub(crate) fn put_queue(words: &mut [u64], s: usize, turn: QueueTurn) -> Ran
+    requires { ⌜ (s < 16) × (length (now words) ≡ wordCount) ⌝ }
+    ensures { λ r. ⌜
+        DidOwn (now (words .entry)) (now (words .exit)) s r
+        (ownTurn (λ oq y. setIn (withOutQueue (siteIn (now (words .entry)) s) oq) 0 y) (spec.queueBack turn))
+        ⌝ }
+{
+    let queue = turn.queue;
+    let input = turn.input;
+    if turn.changed {
+        store_leaving(words, s, queue, input);
+        return Ran::Changed;
+    }
+    Ran::Nothing
+}
+
+pub(crate) fn put_work(words: &mut [u64], s: usize, turn: OperatorTurn) -> Ran
+    requires { ⌜ (s < 16) × (length (now words) ≡ wordCount) ⌝ }
+    ensures { λ r. ⌜ DidOwn (now (words .entry)) (now (words .exit)) s r (workDone (siteIn (now (words .entry)) s) (spec.workBack turn)) ⌝ }
+{
+    let incoming = turn.incoming;
+    let outgoing = turn.outgoing;
+    let packet = turn.packet;
+    if turn.changed {
+        store_queues(words, s, incoming, outgoing);
+        if turn.serviced {
+            return Ran::Serviced(packet, s as u8);
+        }
+        return Ran::Changed;
+    }
+    Ran::Nothing
+}
+
+// The outputs and net-input i.
+pub(crate) fn put_input(words: &mut [u64], s: usize, i: usize, turn: InputTurn) -> Ran
+    requires { ⌜ (s < 16) × (i < 5) × (length (now words) ≡ wordCount) ⌝ }
+    ensures { λ r. ⌜
+        DidOwn (now (words .entry)) (now (words .exit)) s r
+        (ownTurn (setBoth (siteIn (now (words .entry)) s) i) (spec.inputBack turn))
+        ⌝ }
+{
+    let outputs = turn.outputs;
+    let input = turn.input;
+    if turn.changed {
+        store_both(words, s, i, outputs, input);
+        return Ran::Changed;
+    }
+    Ran::Nothing
+}

@@ -1,0 +1,45 @@
+// RUN in place: by ranges of the code number.
+ghost use Prim.Native.Nat.{_<_};
+ghost use Rattle.model.specs.Steps.{act, ends};
+ghost use Rattle.words.specs.Words.{sitesOf};
+ghost use Rattle.words.specs.Events.{Did, Runnable, networkOf, siteIn};
+use crate::arms::channel_in_place;
+use crate::arms::local_in_place;
+use crate::arms::operator_in_place;
+use crate::arms::queue_in_place;
+use crate::arms::timeout_in_place;
+use crate::inputs::input_in_place;
+use types::Ran;
+
+// RUN (s, code) on the words of a state in range of a valid network, handed in by its parts.
+pub(crate) fn run_in_place(
+    channels: &[u8],
+    routes: &[u16],
+    sites: usize,
+    depth: usize,
+    tries: u8,
+    words: &mut [u64],
+    s: usize,
+    code: usize,
+) -> Ran
+    requires { ⌜ Runnable (networkOf sites depth tries (now channels) (now routes)) (now words) s ⌝ }
+    ensures { λ r. ⌜
+        Did (networkOf sites depth tries (now (channels .entry)) (now (routes .entry))) (now (words .entry))
+        (now (words .exit)) s r
+        (act (networkOf sites depth tries (now (channels .entry)) (now (routes .entry))) s
+        (siteIn (now (words .entry)) s)
+        (ends (networkOf sites depth tries (now (channels .entry)) (now (routes .entry)))
+        (sitesOf (now (words .entry))) s)
+        code)
+        ⌝ }
+{
+    match code {
+        0..=4 => input_in_place(channels, routes, sites, tries, words, s, code),
+        5 => local_in_place(depth, words, s),
+        6..=9 => channel_in_place(words, s, code - 6, channels[4 * s + (code - 6)]),
+        10 => queue_in_place(words, s),
+        11 => operator_in_place(depth, words, s),
+        12 => timeout_in_place(words, s),
+        _ => Ran::Nothing,
+    }
+}

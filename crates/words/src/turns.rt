@@ -1,0 +1,93 @@
+// What a rule says of the places that it names, read from the words: loads, then the rule by value.
+ghost use mathlib.Core.Path.{_≡_};
+ghost use mathlib.Core.Bool.{true};
+ghost use Prim.Native.Nat.{suc, _<_};
+ghost use lib.ListN.{length};
+ghost use Rattle.model.specs.Types.{inAt, outAt};
+ghost use Rattle.model.specs.Places as places;
+ghost use Rattle.model.specs.Steps.{farEnd};
+ghost use Rattle.rules.specs.Turns.{ofLocalTurn, ofChannelTurn, ofQueueTurn, ofWork, ofInputTurn};
+ghost use Rattle.words.specs.Layout.{wordCount};
+ghost use Rattle.words.specs.Words.{sitesOf};
+ghost use Rattle.words.specs.Events.{siteIn};
+use crate::load::load_in_queue;
+use crate::load::load_input;
+use crate::load::load_out_queue;
+use crate::load::load_output;
+use crate::load::load_outputs;
+use rules::ChannelTurn;
+use rules::InputTurn;
+use rules::LocalTurn;
+use rules::OperatorTurn;
+use rules::QueueTurn;
+use rules::channel_output;
+use rules::local_output;
+use rules::operator;
+use rules::out_queue;
+use rules::time_out;
+
+pub(crate) fn local_turn(depth: usize, words: &[u64], s: usize) -> LocalTurn
+    requires { ⌜ (s < 16) × (length (now words) ≡ wordCount) ⌝ }
+    ensures { λ r. ⌜
+        r ≡ ofLocalTurn (outAt (siteIn (now (words .entry)) s) 0) (siteIn (now (words .entry)) s .incoming)
+        (places.localOutput depth (outAt (siteIn (now (words .entry)) s) 0) (siteIn (now (words .entry)) s .incoming))
+        ⌝ }
+{
+    let output = load_output(words, s, 0);
+    let queue = load_in_queue(words, s);
+    local_output(depth, output, queue)
+}
+
+// Output j + 1, and the input at the end of its channel with this byte.
+pub(crate) fn channel_turn(words: &[u64], s: usize, j: usize, byte: u8) -> ChannelTurn
+    requires { ⌜ (s < 16) × (j < 4) × (length (now words) ≡ wordCount) × (byte < 64) ⌝ }
+    ensures { λ r. ⌜
+        r ≡ ofChannelTurn (outAt (siteIn (now (words .entry)) s) (suc j)) (farEnd (sitesOf (now (words .entry))) byte)
+        (places.channelOutput true (outAt (siteIn (now (words .entry)) s) (suc j))
+        (farEnd (sitesOf (now (words .entry))) byte))
+        ⌝ }
+{
+    let b = base::wide(byte);
+    let output = load_output(words, s, j + 1);
+    let input = load_input(words, b / 4, b % 4 + 1);
+    channel_output(true, output, input)
+}
+
+pub(crate) fn queue_turn(words: &[u64], s: usize) -> QueueTurn
+    requires { ⌜ (s < 16) × (length (now words) ≡ wordCount) ⌝ }
+    ensures { λ r. ⌜
+        r ≡ ofQueueTurn (siteIn (now (words .entry)) s .outgoing) (inAt (siteIn (now (words .entry)) s) 0)
+        (places.outQueue (siteIn (now (words .entry)) s .outgoing) (inAt (siteIn (now (words .entry)) s) 0))
+        ⌝ }
+{
+    let queue = load_out_queue(words, s);
+    let input = load_input(words, s, 0);
+    out_queue(queue, input)
+}
+
+pub(crate) fn operator_turn(depth: usize, words: &[u64], s: usize) -> OperatorTurn
+    requires { ⌜ (s < 16) × (length (now words) ≡ wordCount) ⌝ }
+    ensures { λ r. ⌜
+        r ≡ ofWork (siteIn (now (words .entry)) s .incoming) (siteIn (now (words .entry)) s .outgoing)
+        (places.operator depth s (siteIn (now (words .entry)) s .incoming) (siteIn (now (words .entry)) s .outgoing))
+        ⌝ }
+{
+    let incoming = load_in_queue(words, s);
+    let outgoing = load_out_queue(words, s);
+    operator(depth, s, incoming, outgoing)
+}
+
+// The timeout, where net-input i feeds output 0.
+pub(crate) fn timeout_turn(words: &[u64], s: usize, i: usize) -> InputTurn
+    requires { ⌜ (s < 16) × (i < 5) × (length (now words) ≡ wordCount) ⌝ }
+    ensures { λ r. ⌜
+        r ≡ ofInputTurn (inAt (siteIn (now (words .entry)) s) i) (siteIn (now (words .entry)) s .outputs)
+        (places.timeout (siteIn (now (words .entry)) s .incoming) (siteIn (now (words .entry)) s .outputs)
+        (inAt (siteIn (now (words .entry)) s) i))
+        ⌝ }
+{
+    let queue = load_in_queue(words, s);
+    let outputs = load_outputs(words, s);
+    let input = load_input(words, s, i);
+    time_out(queue, outputs, input)
+}
