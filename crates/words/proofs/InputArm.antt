@@ -10,7 +10,7 @@ use lib.Dec.{eqb, ltb, leb}
 use lib.ListN.{length, getD}
 use Rattle.base.specs.Bools.{and, implies}
 use Rattle.base.specs.All.{all-same}
-use Rattle.base.specs.Sizes.{sitesMost}
+use Rattle.base.specs.Sizes.{sitesMost, outputCount}
 use Rattle.sets.specs.Sets.{targets}
 use Rattle.types.specs.Numbers.{stateNumber}
 use Rattle.types.specs.Phases.{listening}
@@ -31,12 +31,14 @@ use Rattle.rules.specs.Router.{ofChoice, routesOnly, askedBy}
 use Rattle.rules.specs.Turns.{ofInputTurn, otherTurn, seekTurn, toChoice}
 use Rattle.rules.proofs.Asked.{route-same}
 use Rattle.rules.proofs.ByNumber.{other-is, seek-is, choice-back}
-use Rattle.words.specs.Layout.{wordCount}
-use Rattle.words.specs.Words.{sitesOf}
-use Rattle.words.specs.Events.{Did, DidOwn, DidReady, DidInput, DidSought, networkOf, siteIn, endOf, stands, waits}
-use Rattle.words.specs.Events.{inputAct, inputBack, readyFlags, sought, Seekable}
+use Rattle.layout.specs.Layout.{wordCount}
+use Rattle.layout.specs.Words.{sitesOf}
+use Rattle.words.specs.Events.{Did, DidOwn, DidReady, DidInput, DidSought, networkOf, siteIn, endOf}
+use Rattle.layout.specs.Idle.{stands, waits}
+use Rattle.words.specs.Events.{inputBack, readyFlags, sought, Seekable}
+use Rattle.rules.specs.Acts.{inputAct}
 use Rattle.words.proofs.Acts.{did-nothing, input-done}
-use Rattle.words.proofs.Rests.{quiet-stays, stands-stays}
+use Rattle.layout.proofs.Rests.{quiet-stays, stands-stays}
 
 -- the router asked by the parts of a network
 asked-is : (m : List ℕ) (S D T : ℕ) (l : List ℕ) (s : ℕ) (os : List Output) (X : ℕ) → s < S → S ≤ sitesMost
@@ -76,7 +78,7 @@ flags-are : (n : Network) (xs : List Site) (s : ℕ) → readyFlags (n .channels
 unfolding hears
 flags-are n xs s = refl
 
-flag-at : (f : ℕ → Bool) (j : ℕ) → j < 5 → mark (flags f) j ≡ f j
+flag-at : (f : ℕ → Bool) (j : ℕ) → j < outputCount → mark (flags f) j ≡ f j
 flag-at f zero h = refl
 flag-at f (suc zero) h = refl
 flag-at f (suc (suc zero)) h = refl

@@ -18,10 +18,10 @@ use Rattle.machine.proofs.PlayerTurns.{Playing, known, next-most, accepted-most
 use Rattle.machine.proofs.ProgressLaws.{stored-sends}
 use Rattle.machine.proofs.ProgressLawsOrder.{draw-below}
 use Rattle.words.specs.declared.player.Tally.{Tally}
-use Rattle.words.specs.Layout.{wordCount}
-use Rattle.words.specs.Words.{sitesOf, stateOf, noWords}
+use Rattle.layout.specs.Layout.{wordCount}
+use Rattle.layout.specs.Words.{sitesOf, stateOf, noWords}
 use Rattle.words.specs.Turned.{standing, Turnable, Turned, Startable, Stands}
-use Rattle.words.proofs.Empty.{empty-words, length-none}
+use Rattle.layout.proofs.Empty.{empty-words, length-none}
 use Rattle.words.proofs.RunLaws.{run-asks}
 
 one-more : {R : Run} {room : List ℕ} {total k : ℕ} {p : Progress} → Playing R room total k p → k < total → (q : Progress) → q ≡ turned R p

@@ -7,7 +7,7 @@ use native.Mathlib.Omega.{arith}
 use borrow.Author.Tests.{eqb-true, eqb-false, ne-eqb}
 use lib.Dec.{eqb}
 use lib.ListN.{length}
-use Rattle.base.specs.Sizes.{portCount, sitesMost}
+use Rattle.base.specs.Sizes.{portCount, sitesMost, queueRoom}
 use Rattle.base.specs.Bools.{both, first-of}
 use Rattle.base.specs.All.{all, all-end}
 use Rattle.types.specs.declared.State.{State}
@@ -16,10 +16,10 @@ use Rattle.model.specs.Types.{siteAt}
 use Rattle.model.specs.Network.{networkRefusal}
 use Rattle.model.specs.Range.{placeOk, inRange}
 use Rattle.theorems.proofs.Networks.{valid-ok}
-use Rattle.words.specs.Layout.{wordCount}
-use Rattle.words.specs.Words.{sitesOf, stateOf, canonical, isState}
+use Rattle.layout.specs.Layout.{wordCount}
+use Rattle.layout.specs.Words.{sitesOf, stateOf, canonical, isState}
 use Rattle.words.specs.Events.{Runnable, networkOf}
-use Rattle.words.specs.Public.{sharedRefusal}
+use Rattle.layout.specs.Public.{sharedRefusal}
 use Rattle.words.proofs.RunLaws.{run-asks}
 
 -- ---- in range
@@ -30,7 +30,7 @@ unfolding inRange
 in-range-is n st = refl
 
 -- the test of all sites, k being the counter
-pub range-found : (S T D k m : ℕ) (c : List ℕ) (ok : Bool) → k ≡ stateOf c .counter → m ≤ 16 → 16 ≤ m
+pub range-found : (S T D k m : ℕ) (c : List ℕ) (ok : Bool) → k ≡ stateOf c .counter → m ≤ sitesMost → sitesMost ≤ m
     → ok ≡ all (λ t. placeOk S T D k t (siteAt (sitesOf c) t)) m → ok ≡ inRange (networkOf S D T [] []) (stateOf c)
 unfolding inRange
 range-found S T D k m c ok e h l f = rw (← e) (all-end (λ t. placeOk S T D k t (siteAt (sitesOf c) t)) 16 m ok h l f)
@@ -80,7 +80,7 @@ module _ (n : Network) (c : List ℕ) where
 -- ---- what RUN in place asks
 
 -- what SEND in place asks
-pub sendable : (n : Network) (c : List ℕ) → sharedRefusal n c ≡ 0 → (n .sites ≤ 16) × (n .depth ≤ 8) × (length c ≡ wordCount)
+pub sendable : (n : Network) (c : List ℕ) → sharedRefusal n c ≡ 0 → (n .sites ≤ sitesMost) × (n .depth ≤ queueRoom) × (length c ≡ wordCount)
 sendable n c none = let ok = fit n c none in let val = valid-ok n (ok .network) in (val .few, val .deep, ok .size)
 
 pub runnable : (n : Network) (c : List ℕ) (s : ℕ) → sharedRefusal n c ≡ 0 → s < n .sites → length (n .channels) ≡ portCount * sitesMost

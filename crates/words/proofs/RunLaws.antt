@@ -16,8 +16,8 @@ use Rattle.model.specs.Events.{runs}
 use Rattle.theorems.proofs.Networks.{Valid}
 use Rattle.machine.proofs.RangeAt.{range-runnable}
 use Rattle.machine.proofs.Seen.{valid-bytes}
-use Rattle.words.specs.Layout.{wordCount}
-use Rattle.words.specs.Words.{sitesOf, stateOf}
+use Rattle.layout.specs.Layout.{wordCount}
+use Rattle.layout.specs.Words.{sitesOf, stateOf}
 use Rattle.words.specs.Events.{Did, Runnable, siteIn}
 
 -- ---- what the act left is what RUN leaves

@@ -28,8 +28,8 @@ use Rattle.machine.specs.declared.clock.Clock.{Clock}
 use Rattle.machine.specs.Clock.{advanced}
 use Rattle.machine.specs.Progress.{Progress, due, answered, sendTurn, drew, drawTurn, entriesBy, bookBy, turned}
 use Rattle.words.specs.declared.player.Tally.{Tally}
-use Rattle.words.specs.Layout.{wordCount}
-use Rattle.words.specs.Words.{sitesOf, stateOf}
+use Rattle.layout.specs.Layout.{wordCount}
+use Rattle.layout.specs.Words.{sitesOf, stateOf}
 use Rattle.words.specs.Events.{Did, Took, tried, networkOf, siteIn}
 use Rattle.words.specs.Turned.{standing, Turnable, triedSend, Tried, ranBy, Drew, Turned}
 use Rattle.machine.proofs.ProgressLaws.{is-due}

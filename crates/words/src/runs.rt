@@ -1,7 +1,7 @@
 // RUN in place: by ranges of the code number.
 ghost use Prim.Native.Nat.{_<_};
 ghost use Rattle.model.specs.Steps.{act, ends};
-ghost use Rattle.words.specs.Words.{sitesOf};
+ghost use Rattle.layout.specs.Words.{sitesOf};
 ghost use Rattle.words.specs.Events.{Did, Runnable, networkOf, siteIn};
 use crate::arms::channel_in_place;
 use crate::arms::local_in_place;

@@ -8,7 +8,7 @@ use Rattle.machine.specs.Progress.{capped-below}
 use Rattle.machine.proofs.ProgressLaws.{stored-sends}
 use Rattle.machine.proofs.PlayerTurns.{known, total-most}
 use Rattle.words.specs.Events.{networkOf}
-use Rattle.words.proofs.Empty.{length-none}
+use Rattle.layout.proofs.Empty.{length-none}
 use Rattle.words.proofs.PlayLaws.{Going, going, turnable, goes-on, gone}
 use native.Mathlib.Omega.{arith}
 use borrow.Author.Needs.{needs}

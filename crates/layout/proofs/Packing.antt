@@ -18,9 +18,9 @@ use Rattle.types.specs.declared.Output.{Output}
 use Rattle.types.specs.declared.OutEntry.{OutEntry}
 use Rattle.types.specs.declared.InEntry.{InEntry}
 use Rattle.model.specs.Types.{mark}
-use Rattle.words.specs.Packed.{connectionAt, receivedAt, terminatorAt, phaseAt, receivedOf, flag}
-use Rattle.words.specs.Packed.{inputFrom, inputWord, outputFrom, outputWord, outEntryFrom, outEntryWord, inEntryFrom, inEntryWord}
-use Rattle.words.proofs.Rows.{five-rows}
+use Rattle.layout.specs.Packed.{connectionAt, receivedAt, terminatorAt, phaseAt, receivedOf, flag}
+use Rattle.layout.specs.Packed.{inputFrom, inputWord, outputFrom, outputWord, outEntryFrom, outEntryWord, inEntryFrom, inEntryWord}
+use Rattle.layout.proofs.Rows.{five-rows}
 
 -- ---- a case by its number
 

@@ -10,7 +10,7 @@
 --
 -- src/layout.rt has the same numbers. All words zero are the empty state.
 use Prim.Native.Nat.{ℕ, _+_, _*_}
-use Rattle.base.specs.Sizes.{sitesMost, inputCount, outputCount, queueRoom}
+use Rattle.base.specs.Sizes.{sitesMost, inputCount, outputCount, portCount, queueRoom}
 
 -- the first place of a site's outputs, of its out-queue, of its in-queue; the place of its counts; the places of a site
 abbrev pub outputsFrom : ℕ
@@ -41,3 +41,7 @@ setIndex s k = 2 * (sitePlaces * s + k)
 
 abbrev pub fieldsIndex : ℕ → ℕ → ℕ
 fieldsIndex s k = 2 * (sitePlaces * s + k) + 1
+
+-- the net-inputs that a channel may end at: a channel's byte is below this
+abbrev pub endCount : ℕ
+endCount = portCount * sitesMost

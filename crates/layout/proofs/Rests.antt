@@ -24,7 +24,7 @@ use Rattle.model.specs.NetInput.{Turn, Stay, allReady, inState}
 use Rattle.model.specs.Places.{Work, Rest, localOutput, termIn, headIn, deliver, headOn, channelOutput, outQueue}
 use Rattle.model.specs.Places.{operate, operator, lastLacks, stalled, cutAt, timeout}
 use Rattle.model.specs.Steps.{Idle, ownTurn, passTurn, workDone, setBoth}
-use Rattle.words.specs.Events.{atRest, stands, localAct, queueAct, operatorAct, timeoutAct}
+use Rattle.layout.specs.Idle.{atRest, stands}
 
 pub quiet-stays : (n : Network) (s i : ℕ) (y : Input) (os : List Output) (f : ℕ → Bool) (ph : Phase)
     → (eqb (stateNumber ph) 0 || eqb (stateNumber ph) 6) ≡ true
@@ -107,23 +107,6 @@ stands-stays n s i y os f (Done c r) h = absurd (clash (sym h))
 stands-stays n s i y os f (Last c r) h = rw (not-true (allReady f (y .outputs)) h) refl
 stands-stays n s i y os f (Aborted c) h = refl
 stands-stays n s i y os f (FinAbort c r) h = rw (not-true (f 0) h) refl
-
--- ---- the arms
-
-pub local-idle : (D : ℕ) (x : Site) → atRest (outAt x 0) ≡ true → localAct D x ≡ Idle
-local-idle D x h = ap (ownTurn (λ o iq. setOut (withInQueue x iq) 0 o)) (local-rests D (outAt x 0) (x .incoming) h)
-
-pub queue-idle : (x : Site) → eqb (x .outgoing .count) 0 ≡ true → queueAct x ≡ Idle
-queue-idle x h = ap (ownTurn (λ oq y. setIn (withOutQueue x oq) 0 y)) (queue-rests (x .outgoing) (inAt x 0) h)
-
-pub operator-idle : (D s : ℕ) (x : Site) → (eqb (x .incoming .count) 0 || isNone (inEntry (x .incoming) 0 .terminator)) ≡ true
-    → operatorAct D s x ≡ Idle
-operator-idle D s x h = ap (workDone x) (operator-rests D s (x .incoming) (x .outgoing) h)
-
-pub timeout-idle : (x : Site) → stalled (outAt x 0) ≡ false → timeoutAct x ≡ Idle
-timeout-idle x h =
-    ap (ownTurn (setBoth x (outAt x 0 .input)))
-    (timeout-rests (x .incoming) (x .outputs) (inAt x (outAt x 0 .input)) (ap not h))
 
 -- an output 1 to 4 without a channel never moves
 none-heard : (y : Input) (k : Terminator) → deliver false y k ≡ Stay

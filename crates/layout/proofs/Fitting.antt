@@ -9,11 +9,11 @@ use Rattle.types.specs.declared.Output.{Output}
 use Rattle.types.specs.declared.OutEntry.{OutEntry}
 use Rattle.types.specs.declared.InEntry.{InEntry}
 use Rattle.model.specs.Shapes.{Shaped, SiteShaped}
-use Rattle.words.specs.Bytes.{Bytes, SiteBytes}
-use Rattle.words.specs.Packed.{inputFrom, outputFrom, outEntryFrom, inEntryFrom}
-use Rattle.words.specs.Words.{inputAt, outputAt, leavingAt, arrivedAt, siteOf, stateOf, wordsOf}
-use Rattle.words.proofs.Decoded.{sixteen, site-at, in-at, out-at, leaving-at, arrived-at, five-inputs, five-outputs, eight-leaving, eight-arrived}
-use Rattle.words.proofs.Unpacked.{unpacked}
+use Rattle.layout.specs.Bytes.{Bytes, SiteBytes}
+use Rattle.layout.specs.Packed.{inputFrom, outputFrom, outEntryFrom, inEntryFrom}
+use Rattle.layout.specs.Words.{inputAt, outputAt, leavingAt, arrivedAt, siteOf, stateOf, wordsOf}
+use Rattle.layout.proofs.Decoded.{sixteen, site-at, in-at, out-at, leaving-at, arrived-at, five-inputs, five-outputs, eight-leaving, eight-arrived}
+use Rattle.layout.proofs.Unpacked.{unpacked}
 
 -- a number that is another's rest by 256
 byte : (a b : ℕ) → a ≡ b % 256 → a < 256

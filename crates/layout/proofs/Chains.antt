@@ -3,19 +3,20 @@ use mathlib.Core.Path.{_≡_}
 use mathlib.Core.List.{List}
 use Prim.Native.Nat.{ℕ, suc, _+_, _/_, _%_, _<_}
 use native.Mathlib.Numerals.{add-one}
+use Rattle.base.specs.Sizes.{sitesMost}
 use Rattle.types.specs.declared.Input.{Input}
 use Rattle.types.specs.declared.Output.{Output}
 use Rattle.types.specs.declared.OutQueue.{OutQueue}
 use Rattle.types.specs.declared.Site.{Site}
 use Rattle.model.specs.Types.{siteAt, setSite, setIn, setOut, withOutQueue}
 use Rattle.model.specs.Steps.{setFar}
-use Rattle.words.specs.Words.{sitesOf}
-use Rattle.words.specs.Stored.{Stored, leavingCount}
-use Rattle.words.proofs.Chained.{then-own, then-far}
+use Rattle.layout.specs.Words.{sitesOf}
+use Rattle.layout.specs.Stored.{Stored, leavingCount}
+use Rattle.layout.proofs.Chained.{then-own, then-far}
 
 module _ (c d e : List ℕ) where
   -- a second store at one site, for the places that rules change
-  module _ (s : ℕ) (x : Site) (h : s < 16) (p : Stored c d (setSite (sitesOf c) s x)) where
+  module _ (s : ℕ) (x : Site) (h : s < sitesMost) (p : Stored c d (setSite (sitesOf c) s x)) where
     pub then-input : (i : ℕ) (y : Input) → Stored d e (setSite (sitesOf d) s (setIn (siteAt (sitesOf d) s) i y))
         → Stored c e (setSite (sitesOf c) s (setIn x i y))
     then-input i y q = then-own c d e s x (λ z. setIn z i y) h p q

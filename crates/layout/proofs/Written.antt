@@ -14,11 +14,11 @@ use Rattle.types.specs.declared.OutEntry.{OutEntry}
 use Rattle.types.specs.declared.InEntry.{InEntry}
 use Rattle.types.specs.declared.Site.{Site}
 use Rattle.model.specs.Types.{setSite, setIn, setOut}
-use Rattle.words.specs.Layout.{outputsFrom, leavingFrom, arrivedFrom, countsPlace, sitePlaces, counterAt, wordCount, setIndex, fieldsIndex}
-use Rattle.words.specs.Packed.{inputFrom, outputFrom, outEntryFrom, inEntryFrom}
-use Rattle.words.specs.Words.{setAt, fieldsAt, inputAt, outputAt, leavingAt, arrivedAt, siteOf, sitesOf}
-use Rattle.words.specs.Stored.{leavingSet, leavingCount, arrivedSet, arrivedCount}
-use Rattle.words.proofs.Rows.{rows-same, rows-set}
+use Rattle.layout.specs.Layout.{outputsFrom, leavingFrom, arrivedFrom, countsPlace, sitePlaces, counterAt, wordCount, setIndex, fieldsIndex}
+use Rattle.layout.specs.Packed.{inputFrom, outputFrom, outEntryFrom, inEntryFrom}
+use Rattle.layout.specs.Words.{setAt, fieldsAt, inputAt, outputAt, leavingAt, arrivedAt, siteOf, sitesOf}
+use Rattle.layout.specs.Stored.{placed, leavingSet, leavingCount, arrivedSet, arrivedCount}
+use Rattle.layout.proofs.Rows.{rows-same, rows-set}
 
 -- the two words of place k of site t are the same in c and d
 abbrev pub Same : List ℕ → List ℕ → ℕ → ℕ → Type 0
@@ -29,20 +29,20 @@ pub record Wrote (c d : List ℕ) (s k X w : ℕ) : Type 0 where
   pub size : length d ≡ wordCount
   pub its-set : setAt d s k ≡ X
   pub its-fields : fieldsAt d s k ≡ w
-  pub others : (t l : ℕ) → l < 27 → (t ≡ s → l ≢ k) → Same c d t l
+  pub others : (t l : ℕ) → l < sitePlaces → (t ≡ s → l ≢ k) → Same c d t l
   pub counter : getD d counterAt 0 ≡ getD c counterAt 0
 
 -- ---- two words written, or one of them
 
 -- a place has one site and one number in it
-apart : (s k t l : ℕ) → k < 27 → l < 27 → (t ≡ s → l ≢ k) → sitePlaces * t + l ≢ sitePlaces * s + k
+apart : (s k t l : ℕ) → k < sitePlaces → l < sitePlaces → (t ≡ s → l ≢ k) → sitePlaces * t + l ≢ sitePlaces * s + k
 apart s k t l hk hl ne e =
     let a : (sitePlaces * t + l) / sitePlaces ≡ t = omega arith in
     let b : (sitePlaces * s + k) / sitePlaces ≡ s = omega arith in
     let f : t ≡ s = sym a ∙ ap (λ (n : ℕ). n / sitePlaces) e ∙ b in
     ne f (omega arith)
 
-module _ (c : List ℕ) (s k : ℕ) (hs : s < 16) (hk : k < 27) (hl : length c ≡ wordCount) where
+module _ (c : List ℕ) (s k : ℕ) (hs : s < sitesMost) (hk : k < sitePlaces) (hl : length c ≡ wordCount) where
   pub wrote-set : (X : ℕ) → Wrote c (set c (setIndex s k) X) s k X (fieldsAt c s k)
   wrote-set X =
       record {
@@ -70,10 +70,7 @@ module _ (c : List ℕ) (s k : ℕ) (hs : s < 16) (hk : k < 27) (hl : length c �
       }
 
 -- both words of a place
-abbrev pub placed : List ℕ → ℕ → ℕ → ℕ → ℕ → List ℕ
-placed c s k X w = set (set c (setIndex s k) X) (fieldsIndex s k) w
-
-pub wrote-both : (c : List ℕ) (s k : ℕ) → s < 16 → k < 27 → length c ≡ wordCount → (X w : ℕ) → Wrote c (placed c s k X w) s k X w
+pub wrote-both : (c : List ℕ) (s k : ℕ) → s < sitesMost → k < sitePlaces → length c ≡ wordCount → (X w : ℕ) → Wrote c (placed c s k X w) s k X w
 wrote-both c s k hs hk hl X w =
     let d = set c (setIndex s k) X in
     let a = wrote-set c s k hs hk hl X in
@@ -113,7 +110,7 @@ pub same-site : (i i′ : List Input) (o o′ : List Output) (u u′ : List OutE
 same-site i i′ o o′ u u′ k k′ a a′ m m′ p q r s t v = rw (p, q, r, s, t, v) refl
 
 -- a site with the same words
-pub whole-same : (c d : List ℕ) (t : ℕ) → ((l : ℕ) → l < 27 → Same c d t l) → siteOf d t ≡ siteOf c t
+pub whole-same : (c d : List ℕ) (t : ℕ) → ((l : ℕ) → l < sitePlaces → Same c d t l) → siteOf d t ≡ siteOf c t
 unfolding siteOf
 whole-same c d t e =
     same-site _ _ _ _ _ _ _ _ _ _ _ _ (rows-same inputCount _ _ (λ i l. input-same c d t i (e i (omega arith))))
@@ -125,20 +122,20 @@ whole-same c d t e =
 
 module _ (c d : List ℕ) (s k X w : ℕ) (p : Wrote c d s k X w) where
   -- another place of any site
-  other : (t l : ℕ) → l < 27 → (t ≡ s → l ≢ k) → Same c d t l
+  other : (t l : ℕ) → l < sitePlaces → (t ≡ s → l ≢ k) → Same c d t l
   other = p .others
 
   -- the parts of a site that the place is not in
-  inputs-kept : (t : ℕ) → ((i : ℕ) → i < 5 → t ≡ s → i ≢ k) → rows inputCount (inputAt d t) ≡ rows inputCount (inputAt c t)
+  inputs-kept : (t : ℕ) → ((i : ℕ) → i < inputCount → t ≡ s → i ≢ k) → rows inputCount (inputAt d t) ≡ rows inputCount (inputAt c t)
   inputs-kept t ne = rows-same inputCount _ _ (λ i l. input-same c d t i (p .others t i (omega arith) (ne i l)))
 
-  outputs-kept : (t : ℕ) → ((j : ℕ) → j < 5 → t ≡ s → outputsFrom + j ≢ k) → rows outputCount (outputAt d t) ≡ rows outputCount (outputAt c t)
+  outputs-kept : (t : ℕ) → ((j : ℕ) → j < outputCount → t ≡ s → outputsFrom + j ≢ k) → rows outputCount (outputAt d t) ≡ rows outputCount (outputAt c t)
   outputs-kept t ne = rows-same outputCount _ _ (λ j l. output-same c d t j (p .others t (outputsFrom + j) (omega arith) (ne j l)))
 
-  leaving-kept : (t : ℕ) → ((m : ℕ) → m < 8 → t ≡ s → leavingFrom + m ≢ k) → rows queueRoom (leavingAt d t) ≡ rows queueRoom (leavingAt c t)
+  leaving-kept : (t : ℕ) → ((m : ℕ) → m < queueRoom → t ≡ s → leavingFrom + m ≢ k) → rows queueRoom (leavingAt d t) ≡ rows queueRoom (leavingAt c t)
   leaving-kept t ne = rows-same queueRoom _ _ (λ m l. leaving-same c d t m (p .others t (leavingFrom + m) (omega arith) (ne m l)))
 
-  arrived-kept : (t : ℕ) → ((m : ℕ) → m < 8 → t ≡ s → arrivedFrom + m ≢ k) → rows queueRoom (arrivedAt d t) ≡ rows queueRoom (arrivedAt c t)
+  arrived-kept : (t : ℕ) → ((m : ℕ) → m < queueRoom → t ≡ s → arrivedFrom + m ≢ k) → rows queueRoom (arrivedAt d t) ≡ rows queueRoom (arrivedAt c t)
   arrived-kept t ne = rows-same queueRoom _ _ (λ m l. arrived-same c d t m (p .others t (arrivedFrom + m) (omega arith) (ne m l)))
 
   counts-kept : (t : ℕ) → (t ≡ s → countsPlace ≢ k) → Same c d t countsPlace
@@ -148,13 +145,13 @@ module _ (c d : List ℕ) (s k X w : ℕ) (p : Wrote c d s k X w) where
   site-kept : (t : ℕ) → t ≢ s → siteOf d t ≡ siteOf c t
   site-kept t ne = whole-same c d t (λ l h. p .others t l h (λ e. absurd (ne e)))
 
-  pub sites-after : (x : Site) → s < 16 → siteOf d s ≡ x → sitesOf d ≡ setSite (sitesOf c) s x
+  pub sites-after : (x : Site) → s < sitesMost → siteOf d s ≡ x → sitesOf d ≡ setSite (sitesOf c) s x
   unfolding sitesOf
   sites-after x hs e = rows-set sitesMost (siteOf c) (siteOf d) s x hs e (λ t l ne. site-kept t ne)
 
 -- ---- the counter written: every place of every site is as it was
 
-pub counter-same : (c : List ℕ) (k t l : ℕ) → t < 16 → l < 27 → Same c (set c counterAt k) t l
+pub counter-same : (c : List ℕ) (k t l : ℕ) → t < sitesMost → l < sitePlaces → Same c (set c counterAt k) t l
 counter-same c k t l ht hl =
     (getD-set-other c counterAt (setIndex t l) k 0 (λ e. omega arith), getD-set-other c counterAt (fieldsIndex t l) k 0 (λ e. omega arith))
 
@@ -165,7 +162,7 @@ counter-sites c k = rows-same sitesMost _ _ (λ t ht. whole-same c (set c counte
 -- ---- the site of the place, for each kind of place
 
 module _ (c d : List ℕ) (s X w : ℕ) where
-  pub site-input : (i : ℕ) → i < 5 → Wrote c d s i X w → siteOf d s ≡ setIn (siteOf c s) i (inputFrom X w)
+  pub site-input : (i : ℕ) → i < inputCount → Wrote c d s i X w → siteOf d s ≡ setIn (siteOf c s) i (inputFrom X w)
   unfolding siteOf inputAt
   site-input i h p =
       let n = counts-kept c d s i X w p s (λ e q. omega arith) in
@@ -175,7 +172,7 @@ module _ (c d : List ℕ) (s X w : ℕ) where
       (outputs-kept c d s i X w p s (λ j l e q. omega arith)) (leaving-kept c d s i X w p s (λ m l e q. omega arith)) (n .0)
       (arrived-kept c d s i X w p s (λ m l e q. omega arith)) (n .1)
 
-  pub site-output : (j : ℕ) → j < 5 → Wrote c d s (outputsFrom + j) X w → siteOf d s ≡ setOut (siteOf c s) j (outputFrom X w)
+  pub site-output : (j : ℕ) → j < outputCount → Wrote c d s (outputsFrom + j) X w → siteOf d s ≡ setOut (siteOf c s) j (outputFrom X w)
   unfolding siteOf outputAt
   site-output j h p =
       let k = outputsFrom + j in
@@ -185,7 +182,7 @@ module _ (c d : List ℕ) (s X w : ℕ) where
       (λ i l ne. output-same c d s i (p .others s (outputsFrom + i) (omega arith) (λ e q. ne (omega arith)))))
       (leaving-kept c d s k X w p s (λ m l e q. omega arith)) (n .0) (arrived-kept c d s k X w p s (λ m l e q. omega arith)) (n .1)
 
-  pub site-leaving : (m : ℕ) → m < 8 → Wrote c d s (leavingFrom + m) X w → siteOf d s ≡ leavingSet (siteOf c s) m (outEntryFrom X w)
+  pub site-leaving : (m : ℕ) → m < queueRoom → Wrote c d s (leavingFrom + m) X w → siteOf d s ≡ leavingSet (siteOf c s) m (outEntryFrom X w)
   unfolding siteOf leavingAt
   site-leaving m h p =
       let k = leavingFrom + m in
@@ -195,7 +192,7 @@ module _ (c d : List ℕ) (s X w : ℕ) where
       (λ i l ne. leaving-same c d s i (p .others s (leavingFrom + i) (omega arith) (λ e q. ne (omega arith)))))
       (n .0) (arrived-kept c d s k X w p s (λ i l e q. omega arith)) (n .1)
 
-  pub site-arrived : (m : ℕ) → m < 8 → Wrote c d s (arrivedFrom + m) X w → siteOf d s ≡ arrivedSet (siteOf c s) m (inEntryFrom X w)
+  pub site-arrived : (m : ℕ) → m < queueRoom → Wrote c d s (arrivedFrom + m) X w → siteOf d s ≡ arrivedSet (siteOf c s) m (inEntryFrom X w)
   unfolding siteOf arrivedAt
   site-arrived m h p =
       let k = arrivedFrom + m in

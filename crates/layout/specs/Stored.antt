@@ -8,8 +8,12 @@ use Rattle.types.specs.declared.OutEntry.{OutEntry}
 use Rattle.types.specs.declared.InEntry.{InEntry}
 use Rattle.types.specs.declared.Site.{Site}
 use Rattle.model.specs.Types.{withOutQueue, withInQueue}
-use Rattle.words.specs.Layout.{counterAt, wordCount}
-use Rattle.words.specs.Words.{sitesOf, canonical}
+use Rattle.layout.specs.Layout.{counterAt, wordCount, setIndex, fieldsIndex}
+use Rattle.layout.specs.Words.{sitesOf, canonical}
+
+-- both words of place k of site s written: the set X and the packed word w
+abbrev pub placed : List ℕ → ℕ → ℕ → ℕ → ℕ → List ℕ
+placed c s k X w = set (set c (setIndex s k) X) (fieldsIndex s k) w
 
 pub record Stored (c d : List ℕ) (xs : List Site) : Type 0 where
   pub size : length d ≡ wordCount

@@ -15,8 +15,8 @@ use Rattle.types.specs.declared.InEntry.{InEntry}
 use Rattle.types.specs.declared.Site.{Site}
 use Rattle.types.specs.declared.State.{State}
 use Rattle.model.specs.Types.{siteAt, inAt, outAt, outEntry, inEntry}
-use Rattle.words.specs.Layout.{outputsFrom, leavingFrom, arrivedFrom, countsPlace, sitePlaces, counterAt, wordCount, setIndex, fieldsIndex}
-use Rattle.words.specs.Packed.{inputFrom, inputWord, outputFrom, outputWord, outEntryFrom, outEntryWord, inEntryFrom, inEntryWord}
+use Rattle.layout.specs.Layout.{outputsFrom, leavingFrom, arrivedFrom, countsPlace, sitePlaces, counterAt, wordCount, setIndex, fieldsIndex}
+use Rattle.layout.specs.Packed.{inputFrom, inputWord, outputFrom, outputWord, outEntryFrom, outEntryWord, inEntryFrom, inEntryWord}
 
 -- ---- read: the words c
 

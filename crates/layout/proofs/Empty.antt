@@ -14,12 +14,12 @@ use Rattle.base.specs.Over.{over, over-below, length-over}
 use Rattle.base.specs.Sizes.{sitesMost, inputCount, outputCount, queueRoom}
 use Rattle.types.specs.declared.Site.{Site}
 use Rattle.model.specs.Types.{noInput, noOutput, noOutEntry, noInEntry, noSite, noState}
-use Rattle.words.specs.Layout.{outputsFrom, leavingFrom, arrivedFrom, countsPlace, counterAt, wordCount, setIndex, fieldsIndex}
-use Rattle.words.specs.Packed.{inputFrom, outputFrom, outEntryFrom, inEntryFrom}
-use Rattle.words.specs.Words.{setAt, fieldsAt, inputAt, outputAt, leavingAt, arrivedAt, siteOf, sitesOf, stateOf, canonical, isState, noWords}
-use Rattle.words.proofs.Rows.{rows-same, rows-one}
-use Rattle.words.proofs.Written.{same-site}
-use Rattle.words.proofs.Canonical.{zero-same, canonical-by-places}
+use Rattle.layout.specs.Layout.{outputsFrom, leavingFrom, arrivedFrom, countsPlace, counterAt, wordCount, setIndex, fieldsIndex}
+use Rattle.layout.specs.Packed.{inputFrom, outputFrom, outEntryFrom, inEntryFrom}
+use Rattle.layout.specs.Words.{setAt, fieldsAt, inputAt, outputAt, leavingAt, arrivedAt, siteOf, sitesOf, stateOf, canonical, isState, noWords}
+use Rattle.layout.proofs.Rows.{rows-same, rows-one}
+use Rattle.layout.proofs.Written.{same-site}
+use Rattle.layout.proofs.Canonical.{zero-same, canonical-by-places}
 
 module _ (c : List ℕ) (zeros : (m : ℕ) → getD c m 0 ≡ 0) where
   site-empty : (s : ℕ) → siteOf c s ≡ noSite

@@ -5,16 +5,17 @@ use Prim.Native.Nat.{ℕ, _+_, _<_}
 use native.Mathlib.Omega.{arith}
 use lib.ListN.{length, getD, set}
 use lib.Seq.{getD-set-same, set-getD, set-set, ext-getD}
+use Rattle.base.specs.Sizes.{sitesMost}
 use Rattle.base.specs.Over.{over, over-none, over-more, over-below, length-over}
 use Rattle.types.specs.declared.Output.{Output}
 use Rattle.types.specs.declared.OutEntry.{OutEntry}
 use Rattle.types.specs.declared.InEntry.{InEntry}
 use Rattle.types.specs.declared.Site.{Site}
 use Rattle.model.specs.Types.{siteD, siteAt, setSite, withOutputs, noOutput, noOutEntry, noInEntry}
-use Rattle.words.specs.Layout.{wordCount}
-use Rattle.words.specs.Words.{sitesOf}
-use Rattle.words.specs.Stored.{Stored, leavingAll, arrivedAll}
-use Rattle.words.proofs.Decoded.{sixteen, site-at, five-outputs, eight-leaving, eight-arrived}
+use Rattle.layout.specs.Layout.{wordCount}
+use Rattle.layout.specs.Words.{sitesOf}
+use Rattle.layout.specs.Stored.{Stored, leavingAll, arrivedAll}
+use Rattle.layout.proofs.Decoded.{sixteen, site-at, five-outputs, eight-leaving, eight-arrived}
 
 -- ---- one after the other
 
@@ -33,7 +34,7 @@ pub then-far : (c d e : List ℕ) (xs : List Site) (u : ℕ) (g : Site → Site)
 then-far c d e xs u g p q = chained c d e xs (λ l. setSite l u (g (siteAt l u))) p q
 
 -- at the site that was stored last
-pub then-own : (c d e : List ℕ) (s : ℕ) (x : Site) (f : Site → Site) → s < 16 → Stored c d (setSite (sitesOf c) s x)
+pub then-own : (c d e : List ℕ) (s : ℕ) (x : Site) (f : Site → Site) → s < sitesMost → Stored c d (setSite (sitesOf c) s x)
     → Stored d e (setSite (sitesOf d) s (f (siteAt (sitesOf d) s))) → Stored c e (setSite (sitesOf c) s (f x))
 then-own c d e s x f hs p q =
     let l = sixteen c in
@@ -57,7 +58,7 @@ pub record Part (A : Type 0) : Type 0 where
   pub got : (x : Site) (l : List A) → get (put x l) ≡ l
   pub last : (x : Site) (k l : List A) → put (put x k) l ≡ put x l
   pub same : (x : Site) → put x (get x) ≡ x
-  pub room : (c : List ℕ) (s : ℕ) → s < 16 → length (get (siteAt (sitesOf c) s)) ≡ n
+  pub room : (c : List ℕ) (s : ℕ) → s < sitesMost → length (get (siteAt (sitesOf c) s)) ≡ n
 
 abbrev pub outputsPart : Part Output
 outputsPart =
@@ -120,19 +121,19 @@ module _ {A : Type 0} (P : Part A) where
       let f : setSite (sitesOf c) s (filled x l 0) ≡ sitesOf c = ap (setSite (sitesOf c) s) e ∙ set-getD (sitesOf c) s siteD in
       record { size = h; sites = sym f; counter = refl; kept = λ ok. ok }
 
-  pub one-filled : (c d e : List ℕ) (s : ℕ) (l : List A) (k : ℕ) → s < 16 → k < P .n → Filled c d s l k
+  pub one-filled : (c d e : List ℕ) (s : ℕ) (l : List A) (k : ℕ) → s < sitesMost → k < P .n → Filled c d s l k
       → Stored d e (setSite (sitesOf d) s (P .put (siteAt (sitesOf d) s) (set (P .get (siteAt (sitesOf d) s)) k (getD l k (P .d)))))
       → Filled c e s l (k + 1)
   one-filled c d e s l k hs hk p q =
       let x = siteAt (sitesOf c) s in
       let v = getD l k (P .d) in
       let r = P .room c s hs in
-      let g = ap (λ (z : List A). P .put (filled x l k) (set z k v)) (P .got x _) ∙ P .last x _ _ in
       let m = ap (P .put x) (over-more (λ i. getD l i (P .d)) k (P .get x) (omega arith)) in
+      let g = ap (λ (z : List A). P .put (filled x l k) (set z k v)) (P .got x _) ∙ P .last x _ _ in
       let t = then-own c d e s (filled x l k) (λ y. P .put y (set (P .get y) k v)) hs p q in
       record { size = t .size; sites = t .sites ∙ ap (setSite (sitesOf c) s) (g ∙ m); counter = t .counter; kept = t .kept }
 
-  pub all-filled : (c e : List ℕ) (s : ℕ) (l : List A) (k : ℕ) → s < 16 → length l ≡ P .n → k ≡ P .n → Filled c e s l k
+  pub all-filled : (c e : List ℕ) (s : ℕ) (l : List A) (k : ℕ) → s < sitesMost → length l ≡ P .n → k ≡ P .n → Filled c e s l k
       → Stored c e (setSite (sitesOf c) s (P .put (siteAt (sitesOf c) s) l))
   all-filled c e s l k hs hl hk p =
       let x = siteAt (sitesOf c) s in

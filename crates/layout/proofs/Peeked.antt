@@ -6,6 +6,7 @@ use Prim.Native.Nat.{ℕ, zero, suc, _+_, _*_, _/_, _%_, _<_}
 use native.Mathlib.Omega.{arith}
 use borrow.Author.Tests.{ne-eqb}
 use lib.Dec.{eqb}
+use Rattle.base.specs.Sizes.{sitesMost, inputCount, outputCount, queueRoom}
 use Rattle.types.specs.Numbers.{stateNumber}
 use Rattle.types.specs.Phases.{isNone}
 use Rattle.types.specs.declared.Connection.the-variants.{the-data as Connection}
@@ -17,10 +18,10 @@ use Rattle.types.specs.declared.InEntry.{InEntry}
 use Rattle.types.specs.declared.Site.{Site}
 use Rattle.model.specs.Types.{siteAt, inAt, outAt, inEntry}
 use Rattle.model.specs.Places.{stalled}
-use Rattle.words.specs.Layout.{outputsFrom, arrivedFrom}
-use Rattle.words.specs.Packed.{phaseAt, terminatorAt, flag, inputFrom, outputFrom, inEntryFrom}
-use Rattle.words.specs.Words.{fieldsAt, inputAt, outputAt, arrivedAt, sitesOf}
-use Rattle.words.proofs.Decoded.{site-at, arrived-at, input-at, output-at}
+use Rattle.layout.specs.Layout.{outputsFrom, arrivedFrom}
+use Rattle.layout.specs.Packed.{phaseAt, terminatorAt, flag, inputFrom, outputFrom, inEntryFrom}
+use Rattle.layout.specs.Words.{fieldsAt, inputAt, outputAt, arrivedAt, sitesOf}
+use Rattle.layout.proofs.Decoded.{site-at, arrived-at, input-at, output-at}
 
 -- ---- of the word alone
 
@@ -73,13 +74,13 @@ stalled-bits w =
 
 -- ---- of a place of the sites that words stand for
 
-module _ (c : List ℕ) (s : ℕ) (hs : s < 16) where
-  pub state-peeked : (i w : ℕ) → i < 5 → w ≡ fieldsAt c s i → w % 8 ≡ stateNumber (inAt (siteAt (sitesOf c) s) i .phase)
+module _ (c : List ℕ) (s : ℕ) (hs : s < sitesMost) where
+  pub state-peeked : (i w : ℕ) → i < inputCount → w ≡ fieldsAt c s i → w % 8 ≡ stateNumber (inAt (siteAt (sitesOf c) s) i .phase)
   unfolding inputAt inputFrom
   state-peeked i w h e =
       ap (λ (m : ℕ). m % 8) e ∙ sym (ap (λ (y : Input). stateNumber (y .phase)) (input-at c s hs i h) ∙ state-number (fieldsAt c s i % 8) _ _ (omega arith))
 
-  module _ (j w : ℕ) (h : j < 5) (e : w ≡ fieldsAt c s (outputsFrom + j)) where
+  module _ (j w : ℕ) (h : j < outputCount) (e : w ≡ fieldsAt c s (outputsFrom + j)) where
     pub used-peeked : eqb (w % 2) 1 ≡ outAt (siteAt (sitesOf c) s) j .used
     unfolding outputAt outputFrom
     used-peeked =
@@ -99,7 +100,7 @@ module _ (c : List ℕ) (s : ℕ) (hs : s < 16) where
     unfolding outputAt outputFrom
     feeder-peeked = ap (λ (m : ℕ). m / 256 % 256) e ∙ sym (ap (λ (o : Output). o .input) (output-at c s hs j h))
 
-  pub lacks-peeked : (m w : ℕ) → m < 8 → w ≡ fieldsAt c s (arrivedFrom + m) → eqb (w % 4) 0 ≡ isNone (inEntry (siteAt (sitesOf c) s .incoming) m .terminator)
+  pub lacks-peeked : (m w : ℕ) → m < queueRoom → w ≡ fieldsAt c s (arrivedFrom + m) → eqb (w % 4) 0 ≡ isNone (inEntry (siteAt (sitesOf c) s .incoming) m .terminator)
   unfolding arrivedAt inEntryFrom
   lacks-peeked m w h e =
       ap (λ (k : ℕ). eqb (k % 4) 0) e ∙ sym (none-at (fieldsAt c s (arrivedFrom + m) % 4))

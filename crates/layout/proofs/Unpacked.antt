@@ -9,40 +9,40 @@ use Rattle.types.specs.declared.Site.{Site}
 use Rattle.types.specs.declared.State.{State}
 use Rattle.model.specs.Types.{siteD, inputD, noOutput, noOutEntry, noInEntry, siteAt, inAt, outAt, outEntry, inEntry}
 use Rattle.model.specs.Shapes.{Shaped, SiteShaped}
-use Rattle.words.specs.Layout.{outputsFrom, leavingFrom, arrivedFrom, countsPlace}
-use Rattle.words.specs.Packed.{inputFrom, outputFrom, outEntryFrom, inEntryFrom}
-use Rattle.words.specs.Words.{setAt, fieldsAt, inputAt, outputAt, leavingAt, arrivedAt, siteOf, sitesOf, stateOf, setOf, fieldsOf, wordsOf}
-use Rattle.words.specs.Bytes.{Bytes, SiteBytes}
-use Rattle.words.proofs.Packing.{input-back, output-back, out-entry-back, in-entry-back}
-use Rattle.words.proofs.Rows.{rows-same}
-use Rattle.words.proofs.Written.{same-site}
-use Rattle.words.proofs.PlaceKinds.{set-input, set-output, set-leaving, set-arrived, set-counts}
-use Rattle.words.proofs.PlaceKinds.{fields-input, fields-output, fields-leaving, fields-arrived, fields-counts}
-use Rattle.words.proofs.Settled.{set-word, fields-word, counter-word}
+use Rattle.layout.specs.Layout.{outputsFrom, leavingFrom, arrivedFrom, countsPlace, sitePlaces}
+use Rattle.layout.specs.Packed.{inputFrom, outputFrom, outEntryFrom, inEntryFrom}
+use Rattle.layout.specs.Words.{setAt, fieldsAt, inputAt, outputAt, leavingAt, arrivedAt, siteOf, sitesOf, stateOf, setOf, fieldsOf, wordsOf}
+use Rattle.layout.specs.Bytes.{Bytes, SiteBytes}
+use Rattle.layout.proofs.Packing.{input-back, output-back, out-entry-back, in-entry-back}
+use Rattle.layout.proofs.Rows.{rows-same}
+use Rattle.layout.proofs.Written.{same-site}
+use Rattle.layout.proofs.PlaceKinds.{set-input, set-output, set-leaving, set-arrived, set-counts}
+use Rattle.layout.proofs.PlaceKinds.{fields-input, fields-output, fields-leaving, fields-arrived, fields-counts}
+use Rattle.layout.proofs.Settled.{set-word, fields-word, counter-word}
 
 -- ---- words c whose places of site s are those of the site x
 
-module _ (c : List ℕ) (s : ℕ) (x : Site) (sets : (k : ℕ) → k < 27 → setAt c s k ≡ setOf x k) (fields : (k : ℕ) → k < 27 → fieldsAt c s k ≡ fieldsOf x k)
+module _ (c : List ℕ) (s : ℕ) (x : Site) (sets : (k : ℕ) → k < sitePlaces → setAt c s k ≡ setOf x k) (fields : (k : ℕ) → k < sitePlaces → fieldsAt c s k ≡ fieldsOf x k)
     (h : SiteShaped x) (b : SiteBytes x) where
-  input-found : (i : ℕ) → i < 5 → inputAt c s i ≡ inAt x i
+  input-found : (i : ℕ) → i < inputCount → inputAt c s i ≡ inAt x i
   unfolding inputAt
   input-found i l =
       ap₂ inputFrom (sets i (omega arith) ∙ set-input x i l) (fields i (omega arith) ∙ fields-input x i l)
       ∙ input-back (inAt x i) (b .packet i l) (b .tries i l) (h .marks i l)
 
-  output-found : (j : ℕ) → j < 5 → outputAt c s j ≡ outAt x j
+  output-found : (j : ℕ) → j < outputCount → outputAt c s j ≡ outAt x j
   unfolding outputAt
   output-found j l =
       ap₂ outputFrom (sets (outputsFrom + j) (omega arith) ∙ set-output x j l) (fields (outputsFrom + j) (omega arith) ∙ fields-output x j l)
       ∙ output-back (outAt x j) (b .passed j l) (b .feeder j l)
 
-  leaving-found : (m : ℕ) → m < 8 → leavingAt c s m ≡ outEntry (x .outgoing) m
+  leaving-found : (m : ℕ) → m < queueRoom → leavingAt c s m ≡ outEntry (x .outgoing) m
   unfolding leavingAt
   leaving-found m l =
       ap₂ outEntryFrom (sets (leavingFrom + m) (omega arith) ∙ set-leaving x m l) (fields (leavingFrom + m) (omega arith) ∙ fields-leaving x m l)
       ∙ out-entry-back (outEntry (x .outgoing) m) (b .leaving m l)
 
-  arrived-found : (m : ℕ) → m < 8 → arrivedAt c s m ≡ inEntry (x .incoming) m
+  arrived-found : (m : ℕ) → m < queueRoom → arrivedAt c s m ≡ inEntry (x .incoming) m
   unfolding arrivedAt
   arrived-found m l =
       ap₂ inEntryFrom (sets (arrivedFrom + m) (omega arith) ∙ set-arrived x m l) (fields (arrivedFrom + m) (omega arith) ∙ fields-arrived x m l)

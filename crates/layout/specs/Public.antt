@@ -11,9 +11,7 @@ use Rattle.types.specs.declared.Ran.the-variants.{the-data as Ran, Refused as R
 use Rattle.model.specs.Network.{networkRefusal}
 use Rattle.model.specs.Range.{inRange}
 use Rattle.model.specs.Events.{ran, sent}
-use Rattle.model.specs.Owing.{owedPairs}
-use Rattle.words.specs.declared.owing.OwedAnswer.{OwedAnswer}
-use Rattle.words.specs.Words.{sitesOf, stateOf, wordsOf, isState}
+use Rattle.layout.specs.Words.{stateOf, wordsOf, isState}
 
 pub record RanWords : Type 0 where
   pub answer : Ran
@@ -43,7 +41,3 @@ sentWords n c s X = cond (isState c) (ofSent (sent n (stateOf c) s X)) (record {
 -- the refusals that both share: 3, 6, 7 of the network; 13 for words that are no state's, or of a state that is not in range; else 0
 unfoldable pub sharedRefusal : Network → List ℕ → ℕ
 sharedRefusal n c = orNext (networkRefusal n) (cond (isState c && inRange n (stateOf c)) 0 13)
-
--- the owed pairs of the words c: 13 for words that are no state's, else 0 and the pairs
-unfoldable pub owedWords : List ℕ → OwedAnswer
-owedWords c = cond (isState c) (record { pairs = owedPairs (sitesOf c); refusal = 0 }) (record { pairs = 0; refusal = 13 })

@@ -17,10 +17,10 @@ use Rattle.types.specs.declared.Network.{Network}
 use Rattle.types.specs.declared.Ran.the-variants.{Refused as RunRefused}
 use Rattle.types.specs.declared.Sent.the-variants.{Refused as SendRefused}
 use Rattle.model.specs.Network.{networkRefusal}
-use Rattle.words.specs.Layout.{counterAt, wordCount, setIndex, fieldsIndex, outputsFrom, leavingFrom, arrivedFrom, countsPlace}
-use Rattle.words.specs.Packed.{inputFrom, inputWord, outputFrom, outputWord, outEntryFrom, outEntryWord, inEntryFrom, inEntryWord}
-use Rattle.words.specs.Words.{repacked}
-use Rattle.words.specs.Public.{ranWords, sentWords}
+use Rattle.layout.specs.Layout.{counterAt, wordCount, setIndex, fieldsIndex, outputsFrom, leavingFrom, arrivedFrom, countsPlace}
+use Rattle.layout.specs.Packed.{inputFrom, inputWord, outputFrom, outputWord, outEntryFrom, outEntryWord, inEntryFrom, inEntryWord}
+use Rattle.layout.specs.Words.{repacked}
+use Rattle.layout.specs.Public.{ranWords, sentWords}
 
 -- ---- a net-input: open, connection 3, marks 0 and 2, packet 7, tries 2: the bytes 02 07 05 1a
 abbrev opened : Input

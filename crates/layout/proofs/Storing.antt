@@ -6,25 +6,26 @@ use native.Mathlib.Omega.{arith}
 use borrow.Author.Tests.{lt-ltb}
 use lib.ListN.{length, getD, set, length-set}
 use lib.Seq.{getD-set-same}
+use Rattle.base.specs.Sizes.{sitesMost, inputCount, outputCount, queueRoom}
 use Rattle.types.specs.declared.Input.{Input}
 use Rattle.types.specs.declared.Output.{Output}
 use Rattle.types.specs.declared.OutEntry.{OutEntry}
 use Rattle.types.specs.declared.InEntry.{InEntry}
 use Rattle.types.specs.declared.Site.{Site}
 use Rattle.model.specs.Types.{siteAt, setSite, setIn, setOut}
-use Rattle.words.specs.Layout.{outputsFrom, leavingFrom, arrivedFrom, countsPlace, counterAt, wordCount, setIndex, fieldsIndex}
-use Rattle.words.specs.Packed.{inputFrom, inputWord, outputFrom, outputWord, outEntryFrom, outEntryWord, inEntryFrom, inEntryWord}
-use Rattle.words.specs.Words.{repacked, setAt, fieldsAt, siteOf, sitesOf}
-use Rattle.words.specs.Stored.{Stored, Counted, leavingSet, leavingCount, arrivedSet, arrivedCount}
-use Rattle.words.proofs.Packing.{input-back, output-back, out-entry-back, in-entry-back}
-use Rattle.words.proofs.Decoded.{site-at, out-count, in-count}
-use Rattle.words.proofs.PlaceKinds.{repacked-input, repacked-output, repacked-leaving, repacked-arrived, repacked-counts}
-use Rattle.words.proofs.Written.{Wrote, placed, wrote-set, wrote-fields, wrote-both, sites-after, counter-same, counter-sites}
-use Rattle.words.proofs.Written.{site-input, site-output, site-leaving, site-arrived, site-counts}
-use Rattle.words.proofs.Canonical.{put-kept, place-kept, canonical-by-places}
+use Rattle.layout.specs.Layout.{outputsFrom, leavingFrom, arrivedFrom, countsPlace, counterAt, wordCount, setIndex, fieldsIndex}
+use Rattle.layout.specs.Packed.{inputFrom, inputWord, outputFrom, outputWord, outEntryFrom, outEntryWord, inEntryFrom, inEntryWord}
+use Rattle.layout.specs.Words.{repacked, setAt, fieldsAt, siteOf, sitesOf}
+use Rattle.layout.specs.Stored.{placed, Stored, Counted, leavingSet, leavingCount, arrivedSet, arrivedCount}
+use Rattle.layout.proofs.Packing.{input-back, output-back, out-entry-back, in-entry-back}
+use Rattle.layout.proofs.Decoded.{site-at, out-count, in-count}
+use Rattle.layout.proofs.PlaceKinds.{repacked-input, repacked-output, repacked-leaving, repacked-arrived, repacked-counts}
+use Rattle.layout.proofs.Written.{Wrote, wrote-set, wrote-fields, wrote-both, sites-after, counter-same, counter-sites}
+use Rattle.layout.proofs.Written.{site-input, site-output, site-leaving, site-arrived, site-counts}
+use Rattle.layout.proofs.Canonical.{put-kept, place-kept, canonical-by-places}
 
 -- a good place written, the site that it gives
-stored : (c d : List ℕ) (s k X w : ℕ) (f : Site → Site) → s < 16 → Wrote c d s k X w → repacked k X w ≡ w → siteOf d s ≡ f (siteOf c s)
+stored : (c d : List ℕ) (s k X w : ℕ) (f : Site → Site) → s < sitesMost → Wrote c d s k X w → repacked k X w ≡ w → siteOf d s ≡ f (siteOf c s)
     → Stored c d (setSite (sitesOf c) s (f (siteAt (sitesOf c) s)))
 stored c d s k X w f hs p good e =
     record {
@@ -36,12 +37,12 @@ stored c d s k X w f hs p good e =
 
 -- ---- for each kind of place
 
-module _ (c : List ℕ) (s : ℕ) (hs : s < 16) (hl : length c ≡ wordCount) where
+module _ (c : List ℕ) (s : ℕ) (hs : s < sitesMost) (hl : length c ≡ wordCount) where
   -- the sites with site s changed
   abbrev changed : (Site → Site) → List Site
   changed f = setSite (sitesOf c) s (f (siteAt (sitesOf c) s))
 
-  pub stored-input : (i w : ℕ) (y : Input) → i < 5 → (w ≡ inputWord y) × (y .packet < 256) × (y .tries < 256) × (length (y .outputs) ≡ 5)
+  pub stored-input : (i w : ℕ) (y : Input) → i < inputCount → (w ≡ inputWord y) × (y .packet < 256) × (y .tries < 256) × (length (y .outputs) ≡ 5)
       → Stored c (placed c s i (y .set) w) (changed (λ x. setIn x i y))
   stored-input i w y h fit =
       let back = ap (inputFrom (y .set)) (fit .0) ∙ input-back y (fit .1) (fit .2) (fit .3) in
@@ -49,7 +50,7 @@ module _ (c : List ℕ) (s : ℕ) (hs : s < 16) (hl : length c ≡ wordCount) wh
       stored c _ s i (y .set) w (λ x. setIn x i y) hs p (repacked-input (y .set) w i h ∙ ap inputWord back ∙ sym (fit .0))
       (site-input c _ s (y .set) w i h p ∙ ap (setIn (siteOf c s) i) back)
 
-  pub stored-output : (j w : ℕ) (o : Output) → j < 5 → (w ≡ outputWord o) × (o .packet < 256) × (o .input < 256)
+  pub stored-output : (j w : ℕ) (o : Output) → j < outputCount → (w ≡ outputWord o) × (o .packet < 256) × (o .input < 256)
       → Stored c (placed c s (outputsFrom + j) (o .set) w) (changed (λ x. setOut x j o))
   stored-output j w o h fit =
       let back = ap (outputFrom (o .set)) (fit .0) ∙ output-back o (fit .1) (fit .2) in
@@ -57,7 +58,7 @@ module _ (c : List ℕ) (s : ℕ) (hs : s < 16) (hl : length c ≡ wordCount) wh
       stored c _ s (outputsFrom + j) (o .set) w (λ x. setOut x j o) hs p (repacked-output (o .set) w j h ∙ ap outputWord back ∙ sym (fit .0))
       (site-output c _ s (o .set) w j h p ∙ ap (setOut (siteOf c s) j) back)
 
-  pub stored-leaving : (m w : ℕ) (u : OutEntry) → m < 8 → (w ≡ outEntryWord u) × (u .packet < 256)
+  pub stored-leaving : (m w : ℕ) (u : OutEntry) → m < queueRoom → (w ≡ outEntryWord u) × (u .packet < 256)
       → Stored c (placed c s (leavingFrom + m) (u .set) w) (changed (λ x. leavingSet x m u))
   stored-leaving m w u h fit =
       let back = ap (outEntryFrom (u .set)) (fit .0) ∙ out-entry-back u (fit .1) in
@@ -65,7 +66,7 @@ module _ (c : List ℕ) (s : ℕ) (hs : s < 16) (hl : length c ≡ wordCount) wh
       stored c _ s (leavingFrom + m) (u .set) w (λ x. leavingSet x m u) hs p (repacked-leaving (u .set) w m h ∙ ap outEntryWord back ∙ sym (fit .0))
       (site-leaving c _ s (u .set) w m h p ∙ ap (leavingSet (siteOf c s) m) back)
 
-  pub stored-arrived : (m w : ℕ) (a : InEntry) → m < 8 → (w ≡ inEntryWord a) × (a .packet < 256)
+  pub stored-arrived : (m w : ℕ) (a : InEntry) → m < queueRoom → (w ≡ inEntryWord a) × (a .packet < 256)
       → Stored c (placed c s (arrivedFrom + m) (a .set) w) (changed (λ x. arrivedSet x m a))
   stored-arrived m w a h fit =
       let back = ap (inEntryFrom (a .set)) (fit .0) ∙ in-entry-back a (fit .1) in

@@ -9,20 +9,21 @@ use native.Mathlib.Omega.{arith}
 use borrow.Author.Tests.{lt-ltb, eq-eqb, ne-eqb, eqb-true, ltb-true}
 use lib.ListN.{length, getD, replicate, length-replicate}
 use lib.Seq.{ext-getD}
+use Rattle.base.specs.Sizes.{sitesMost}
 use Rattle.base.specs.Over.{over-below, length-over}
 use Rattle.types.specs.declared.Site.{Site}
 use Rattle.types.specs.declared.State.{State}
 use Rattle.model.specs.Types.{siteAt}
-use Rattle.words.specs.Layout.{sitePlaces, counterAt, wordCount, setIndex, fieldsIndex}
-use Rattle.words.specs.Words.{setAt, fieldsAt, siteOf, stateOf}
-use Rattle.words.specs.Words.{setOf, fieldsOf, wordOf, wordsOf, canonical}
-use Rattle.words.proofs.Decoded.{site-at}
-use Rattle.words.proofs.Canonical.{set-again, canonical-counter, canonical-at, canonical-by-places}
+use Rattle.layout.specs.Layout.{sitePlaces, counterAt, wordCount, setIndex, fieldsIndex}
+use Rattle.layout.specs.Words.{setAt, fieldsAt, siteOf, stateOf}
+use Rattle.layout.specs.Words.{setOf, fieldsOf, wordOf, wordsOf, canonical}
+use Rattle.layout.proofs.Decoded.{site-at}
+use Rattle.layout.proofs.Canonical.{set-again, canonical-counter, canonical-at, canonical-by-places}
 
 -- ---- a word by its place
 
 -- what holds of both words of each place, and of the counter's, holds of each word
-by-word : (P : ℕ → Type 0) → ((s k : ℕ) → s < 16 → k < 27 → P (setIndex s k)) → ((s k : ℕ) → s < 16 → k < 27 → P (fieldsIndex s k)) → P counterAt
+by-word : (P : ℕ → Type 0) → ((s k : ℕ) → s < sitesMost → k < sitePlaces → P (setIndex s k)) → ((s k : ℕ) → s < sitesMost → k < sitePlaces → P (fieldsIndex s k)) → P counterAt
     → (m : ℕ) → m < wordCount → P m
 by-word P sets fields counter m h = go (decLt m counterAt) (ℕ-discrete (m % 2) 0)
   where
@@ -47,7 +48,7 @@ module _ (st : State) where
   unfolding wordsOf
   word-at m h = over-below (wordOf st) wordCount (replicate wordCount 0) m 0 h (room wordCount)
 
-  module _ (s k : ℕ) (hs : s < 16) (hk : k < 27) where
+  module _ (s k : ℕ) (hs : s < sitesMost) (hk : k < sitePlaces) where
     pub set-word : setAt (wordsOf st) s k ≡ setOf (siteAt (st .sites) s) k
     unfolding wordOf
     set-word =

@@ -11,35 +11,35 @@ use Rattle.types.specs.declared.OutEntry.{OutEntry}
 use Rattle.types.specs.declared.InEntry.{InEntry}
 use Rattle.types.specs.declared.Site.{Site}
 use Rattle.model.specs.Types.{siteD, inputD, noOutput, noOutEntry, noInEntry, siteAt, inAt, outAt, outEntry, inEntry}
-use Rattle.words.specs.Layout.{outputsFrom, countsPlace}
-use Rattle.words.specs.Packed.{inputFrom, outputFrom}
-use Rattle.words.specs.Words.{setAt, fieldsAt, inputAt, outputAt, leavingAt, arrivedAt, siteOf, sitesOf}
-use Rattle.words.proofs.Rows.{getD-rows, length-rows}
+use Rattle.layout.specs.Layout.{outputsFrom, countsPlace}
+use Rattle.layout.specs.Packed.{inputFrom, outputFrom}
+use Rattle.layout.specs.Words.{setAt, fieldsAt, inputAt, outputAt, leavingAt, arrivedAt, siteOf, sitesOf}
+use Rattle.layout.proofs.Rows.{getD-rows, length-rows}
 
-pub sixteen : (c : List ℕ) → length (sitesOf c) ≡ 16
+pub sixteen : (c : List ℕ) → length (sitesOf c) ≡ sitesMost
 unfolding sitesOf
 sixteen c = length-rows sitesMost (siteOf c)
 
-pub site-at : (c : List ℕ) (s : ℕ) → s < 16 → siteAt (sitesOf c) s ≡ siteOf c s
+pub site-at : (c : List ℕ) (s : ℕ) → s < sitesMost → siteAt (sitesOf c) s ≡ siteOf c s
 unfolding sitesOf
 site-at c s h = getD-rows sitesMost (siteOf c) s siteD h
 
 -- ---- the places of a site
 
 module _ (c : List ℕ) (s : ℕ) where
-  pub in-at : (i : ℕ) → i < 5 → inAt (siteOf c s) i ≡ inputAt c s i
+  pub in-at : (i : ℕ) → i < inputCount → inAt (siteOf c s) i ≡ inputAt c s i
   unfolding siteOf
   in-at i h = getD-rows inputCount (inputAt c s) i inputD h
 
-  pub out-at : (j : ℕ) → j < 5 → outAt (siteOf c s) j ≡ outputAt c s j
+  pub out-at : (j : ℕ) → j < outputCount → outAt (siteOf c s) j ≡ outputAt c s j
   unfolding siteOf
   out-at j h = getD-rows outputCount (outputAt c s) j noOutput h
 
-  pub leaving-at : (m : ℕ) → m < 8 → outEntry (siteOf c s .outgoing) m ≡ leavingAt c s m
+  pub leaving-at : (m : ℕ) → m < queueRoom → outEntry (siteOf c s .outgoing) m ≡ leavingAt c s m
   unfolding siteOf
   leaving-at m h = getD-rows queueRoom (leavingAt c s) m noOutEntry h
 
-  pub arrived-at : (m : ℕ) → m < 8 → inEntry (siteOf c s .incoming) m ≡ arrivedAt c s m
+  pub arrived-at : (m : ℕ) → m < queueRoom → inEntry (siteOf c s .incoming) m ≡ arrivedAt c s m
   unfolding siteOf
   arrived-at m h = getD-rows queueRoom (arrivedAt c s) m noInEntry h
 
@@ -77,19 +77,19 @@ module _ (c : List ℕ) (s : ℕ) where
 
 -- ---- what a load answers
 
-module _ (c : List ℕ) (s : ℕ) (hs : s < 16) where
-  pub input-at : (i : ℕ) → i < 5 → inAt (siteAt (sitesOf c) s) i ≡ inputAt c s i
+module _ (c : List ℕ) (s : ℕ) (hs : s < sitesMost) where
+  pub input-at : (i : ℕ) → i < inputCount → inAt (siteAt (sitesOf c) s) i ≡ inputAt c s i
   input-at i h = ap (λ (x : Site). inAt x i) (site-at c s hs) ∙ in-at c s i h
 
-  pub output-at : (j : ℕ) → j < 5 → outAt (siteAt (sitesOf c) s) j ≡ outputAt c s j
+  pub output-at : (j : ℕ) → j < outputCount → outAt (siteAt (sitesOf c) s) j ≡ outputAt c s j
   output-at j h = ap (λ (x : Site). outAt x j) (site-at c s hs) ∙ out-at c s j h
 
   -- a place read of its two words, unpacked
-  pub input-loaded : (i X w : ℕ) (r : Input) → i < 5 → X ≡ setAt c s i → w ≡ fieldsAt c s i → r ≡ inputFrom X w → r ≡ inAt (siteAt (sitesOf c) s) i
+  pub input-loaded : (i X w : ℕ) (r : Input) → i < inputCount → X ≡ setAt c s i → w ≡ fieldsAt c s i → r ≡ inputFrom X w → r ≡ inAt (siteAt (sitesOf c) s) i
   unfolding inputAt
   input-loaded i X w r h a b e = e ∙ ap₂ inputFrom a b ∙ sym (input-at i h)
 
-  pub output-loaded : (j X w : ℕ) (r : Output) → j < 5 → X ≡ setAt c s (outputsFrom + j) → w ≡ fieldsAt c s (outputsFrom + j) → r ≡ outputFrom X w
+  pub output-loaded : (j X w : ℕ) (r : Output) → j < outputCount → X ≡ setAt c s (outputsFrom + j) → w ≡ fieldsAt c s (outputsFrom + j) → r ≡ outputFrom X w
       → r ≡ outAt (siteAt (sitesOf c) s) j
   unfolding outputAt
   output-loaded j X w r h a b e = e ∙ ap₂ outputFrom a b ∙ sym (output-at j h)

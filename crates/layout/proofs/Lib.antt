@@ -1,0 +1,16 @@
+pub mod Canonical
+pub mod Chained
+pub mod Chains
+pub mod Decoded
+pub mod Empty
+pub mod Examples
+pub mod Fitting
+pub mod Packing
+pub mod Peeked
+pub mod PlaceKinds
+pub mod Rests
+pub mod Rows
+pub mod Settled
+pub mod Storing
+pub mod Unpacked
+pub mod Written
