@@ -10,6 +10,7 @@ use Rattle.types.specs.declared.OutQueue.{OutQueue}
 use Rattle.types.specs.declared.Site.{Site}
 use Rattle.model.specs.Types.{siteAt, setSite, setIn, setOut, withOutQueue}
 use Rattle.model.specs.Steps.{setFar}
+use Rattle.layout.specs.Layout.{endSite, endInput}
 use Rattle.layout.specs.Words.{sitesOf}
 use Rattle.layout.specs.Stored.{Stored, leavingCount}
 use Rattle.layout.proofs.Chained.{then-own, then-far}
@@ -36,7 +37,7 @@ module _ (c d e : List ℕ) where
   -- an output, then the input at the end of its channel: at another site, or at the same
   pub passed-by : (s j b byte : ℕ) (o : Output) (y : Input) → b ≡ byte
       → Stored c d (setSite (sitesOf c) s (setOut (siteAt (sitesOf c) s) (j + 1) o))
-      → Stored d e (setSite (sitesOf d) (b / 4) (setIn (siteAt (sitesOf d) (b / 4)) (b % 4 + 1) y))
+      → Stored d e (setSite (sitesOf d) (endSite b) (setIn (siteAt (sitesOf d) (endSite b)) (endInput b) y))
       → Stored c e (setFar (setSite (sitesOf c) s (setOut (siteAt (sitesOf c) s) (suc j) o)) byte y)
   passed-by s j b byte o y f p q =
       rw (← f, ← add-one j, ← add-one (b % 4))

@@ -1,10 +1,8 @@
--- Words typed from the tables of specs/Layout.antt and specs/Packed.antt, each byte counted out; and the order of the refusals.
+-- Words typed from the tables of specs/Layout.antt and specs/Packed.antt, each byte counted out.
 use mathlib.Core.Path.{_≡_, refl}
 use mathlib.Core.List.{[], _∷_}
 use mathlib.Core.Bool.{true, false}
 use Prim.Native.Nat.{ℕ}
-use lib.ListN.{replicate}
-use Rattle.base.specs.All.{all}
 use Rattle.types.specs.declared.Connection.the-variants.{AllRemote, SomeLocal}
 use Rattle.types.specs.declared.Received.the-variants.{Abort as gotAbort}
 use Rattle.types.specs.declared.Terminator.the-variants.{None as tNone, Abort as tAbort, KeepLocal as tKeep}
@@ -13,14 +11,9 @@ use Rattle.types.specs.declared.Input.{Input}
 use Rattle.types.specs.declared.Output.{Output}
 use Rattle.types.specs.declared.OutEntry.{OutEntry}
 use Rattle.types.specs.declared.InEntry.{InEntry}
-use Rattle.types.specs.declared.Network.{Network}
-use Rattle.types.specs.declared.Ran.the-variants.{Refused as RunRefused}
-use Rattle.types.specs.declared.Sent.the-variants.{Refused as SendRefused}
-use Rattle.model.specs.Network.{networkRefusal}
 use Rattle.layout.specs.Layout.{counterAt, wordCount, setIndex, fieldsIndex, outputsFrom, leavingFrom, arrivedFrom, countsPlace}
 use Rattle.layout.specs.Packed.{inputFrom, inputWord, outputFrom, outputWord, outEntryFrom, outEntryWord, inEntryFrom, inEntryWord}
 use Rattle.layout.specs.Words.{repacked}
-use Rattle.layout.specs.Public.{ranWords, sentWords}
 
 -- ---- a net-input: open, connection 3, marks 0 and 2, packet 7, tries 2: the bytes 02 07 05 1a
 abbrev opened : Input
@@ -106,15 +99,3 @@ places = refl
 
 indices : setIndex 0 1 ∷ fieldsIndex 0 1 ∷ setIndex 1 0 ∷ fieldsIndex 15 26 ∷ counterAt ∷ wordCount ∷ [] ≡ 2 ∷ 3 ∷ 54 ∷ 863 ∷ 864 ∷ 865 ∷ []
 indices = refl
-
--- ---- refusals: the network's own before 13
-abbrev oneSite : ℕ → Network
-oneSite T = record { sites = 1; depth = 1; tries = T; channels = replicate 64 255; routes = replicate 256 0 }
-
-untried : ranWords (oneSite 0) [] 0 0 ≡ record { answer = RunRefused 3; words = [] }
-unfolding ranWords networkRefusal
-untried = refl
-
-wrong-length : sentWords (oneSite 1) (7 ∷ []) 0 1 ≡ record { answer = SendRefused 13; words = 7 ∷ [] }
-unfolding sentWords networkRefusal all
-wrong-length = refl

@@ -9,7 +9,7 @@
 --   the last word                the counter
 --
 -- src/layout.rt has the same numbers. All words zero are the empty state.
-use Prim.Native.Nat.{ℕ, _+_, _*_}
+use Prim.Native.Nat.{ℕ, _+_, _*_, _/_, _%_}
 use Rattle.base.specs.Sizes.{sitesMost, inputCount, outputCount, portCount, queueRoom}
 
 -- the first place of a site's outputs, of its out-queue, of its in-queue; the place of its counts; the places of a site
@@ -45,3 +45,10 @@ fieldsIndex s k = 2 * (sitePlaces * s + k) + 1
 -- the net-inputs that a channel may end at: a channel's byte is below this
 abbrev pub endCount : ℕ
 endCount = portCount * sitesMost
+
+-- where a channel with the byte b ends: the site, and the net-input there
+abbrev pub endSite : ℕ → ℕ
+endSite b = b / portCount
+
+abbrev pub endInput : ℕ → ℕ
+endInput b = b % portCount + 1
