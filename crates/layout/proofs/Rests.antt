@@ -1,6 +1,6 @@
 -- Where a place has nothing to do, its rule does nothing. Assumes nothing.
 use Prim.Native.Nat.{ℕ}
-use mathlib.Core.Path.{_≡_, refl, sym, ap}
+use mathlib.Core.Path.{_≡_, refl, sym}
 use mathlib.Core.List.{List}
 use mathlib.Core.Logic.{⊎-elim}
 use mathlib.Core.Bool.{Bool, true, false, cond, not, _&&_, _||_}
@@ -14,16 +14,13 @@ use Rattle.types.specs.declared.Input.{Input}
 use Rattle.types.specs.declared.Output.{Output}
 use Rattle.types.specs.declared.OutQueue.{OutQueue}
 use Rattle.types.specs.declared.InQueue.{InQueue}
-use Rattle.types.specs.declared.Site.{Site}
 use Rattle.types.specs.declared.Network.{Network}
 use Rattle.types.specs.Phases.{isNone}
 use Rattle.types.specs.Numbers.{stateNumber}
-use Rattle.model.specs.Types.{inAt, outAt, outOf, inEntry, setIn, setOut, withInQueue, withOutQueue}
-use Rattle.model.specs.Network.{isChannel}
-use Rattle.model.specs.NetInput.{Turn, Stay, allReady, inState}
+use Rattle.model.specs.Types.{outOf, inEntry}
+use Rattle.model.specs.NetInput.{Stay, allReady, inState}
 use Rattle.model.specs.Places.{Work, Rest, localOutput, termIn, headIn, deliver, headOn, channelOutput, outQueue}
 use Rattle.model.specs.Places.{operate, operator, lastLacks, stalled, cutAt, timeout}
-use Rattle.model.specs.Steps.{Idle, ownTurn, passTurn, workDone, setBoth}
 use Rattle.layout.specs.Idle.{atRest, stands}
 
 pub quiet-stays : (n : Network) (s i : ℕ) (y : Input) (os : List Output) (f : ℕ → Bool) (ph : Phase)
@@ -107,20 +104,3 @@ stands-stays n s i y os f (Done c r) h = absurd (clash (sym h))
 stands-stays n s i y os f (Last c r) h = rw (not-true (allReady f (y .outputs)) h) refl
 stands-stays n s i y os f (Aborted c) h = refl
 stands-stays n s i y os f (FinAbort c r) h = rw (not-true (f 0) h) refl
-
--- an output 1 to 4 without a channel never moves
-none-heard : (y : Input) (k : Terminator) → deliver false y k ≡ Stay
-unfolding deliver
-none-heard y tNone = refl
-none-heard y tEnd = refl
-none-heard y tAbort = refl
-none-heard y tKeep = refl
-
-never : (o : Output) (y : Input) → channelOutput false o y ≡ Stay
-unfolding channelOutput
-never o y =
-    cond-ok (λ (t : Turn Output Input). t ≡ Stay) (o .used) _ _
-    (λ u. cond-ok (λ (t : Turn Output Input). t ≡ Stay) (o .head) _ _ (λ h. none-heard y (o .terminator)) (λ h. refl)) (λ u. refl)
-
-pub pass-none : (o : Output) (y : Input) (b : ℕ) → isChannel b ≡ false → channelOutput (isChannel b) o y ≡ Stay
-pass-none o y b e = rw e (never o y)

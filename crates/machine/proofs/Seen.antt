@@ -25,7 +25,7 @@ use Rattle.machine.specs.Step.{ofAct, EndsWithin, Passable, farAt, fourE
 
 -- ---- an output without a channel does nothing
 
-unjoined : (o : Output) (y : Input) → channelOutput false o y ≡ Stay
+pub unjoined : (o : Output) (y : Input) → channelOutput false o y ≡ Stay
 unfolding channelOutput deliver
 unjoined o y =
     cond-ok (λ (t : Turn Output Input). t ≡ Stay) (o .used) _ _

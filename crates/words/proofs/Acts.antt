@@ -1,7 +1,7 @@
 -- What RUN decides and what its code has stored. Assumes what each law names.
 use mathlib.Core.Path.{_≡_, refl, sym, ap, ap₂, subst, _∙_}
 use mathlib.Core.List.{List}
-use mathlib.Core.Bool.{Bool, true, false, cond, not, _||_}
+use mathlib.Core.Bool.{Bool, true, false, not, _||_}
 use Prim.Native.Nat.{ℕ, suc, _+_}
 use native.Mathlib.Numerals.{add-one}
 use borrow.Author.Tests.{eq-eqb}
@@ -34,7 +34,8 @@ use Rattle.rules.specs.Acts.{localAct, queueAct, operatorAct, timeoutAct}
 use Rattle.layout.specs.Idle.{atRest}
 use Rattle.words.specs.Events.{localBack, channelBack, queueBack, inputBack, workBack}
 use Rattle.layout.proofs.Chained.{stays}
-use Rattle.layout.proofs.Rests.{local-rests, queue-rests, operator-rests, timeout-rests, channel-rests, pass-none}
+use Rattle.layout.proofs.Rests.{local-rests, queue-rests, operator-rests, timeout-rests, channel-rests}
+use Rattle.machine.proofs.Seen.{unjoined}
 
 -- ---- the arms that have nothing to do
 
@@ -52,6 +53,10 @@ pub timeout-idle : (x : Site) → stalled (outAt x 0) ≡ false → timeoutAct x
 timeout-idle x h =
     ap (ownTurn (setBoth x (outAt x 0 .input)))
     (timeout-rests (x .incoming) (x .outputs) (inAt x (outAt x 0 .input)) (ap not h))
+
+-- an output 1 to 4 without a channel
+pub pass-none : (o : Output) (y : Input) (b : ℕ) → isChannel b ≡ false → channelOutput (isChannel b) o y ≡ Stay
+pass-none o y b e = rw e (unjoined o y)
 
 -- ---- what a rule's struct says is what the rule decided
 

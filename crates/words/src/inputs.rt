@@ -36,7 +36,7 @@ fn is_heard(words: &[u64], byte: u8) -> bool
         return false;
     }
     let b = base::wide(byte);
-    let number = state_of(words, b / 4, b % 4 + 1);
+    let number = state_of(words, b / base::PORTS, b % base::PORTS + 1);
     (number == 2) | (number == 6)
 }
 
@@ -45,7 +45,7 @@ fn is_ready(channels: &[u8], words: &[u64], s: usize, j: usize) -> bool
     requires { ⌜ (s < sitesMost) × (j < portCount) × (length (now channels) ≡ endCount) × (length (now words) ≡ wordCount) × spec.EndsWithin (now channels) s ⌝ }
     ensures { λ r. ⌜ r ≡ spec.readyAt (now (channels .entry)) (sitesOf (now (words .entry))) s j ⌝ }
 {
-    let byte = channels[4 * s + j];
+    let byte = channels[base::PORTS * s + j];
     let taken = is_taken(words, s, j + 1);
     let heard = is_heard(words, byte);
     taken & heard

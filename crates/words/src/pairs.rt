@@ -50,7 +50,7 @@ pub(crate) fn store_passed(
 {
     let b = base::wide(byte);
     store_output(words, s, j + 1, output);
-    store_input(words, b / 4, b % 4 + 1, input);
+    store_input(words, b / base::PORTS, b % base::PORTS + 1, input);
 }
 
 // The out-queue and net-input 0.

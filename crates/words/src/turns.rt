@@ -50,7 +50,7 @@ pub(crate) fn channel_turn(words: &[u64], s: usize, j: usize, byte: u8) -> Chann
 {
     let b = base::wide(byte);
     let output = load_output(words, s, j + 1);
-    let input = load_input(words, b / 4, b % 4 + 1);
+    let input = load_input(words, b / base::PORTS, b % base::PORTS + 1);
     channel_output(true, output, input)
 }
 
