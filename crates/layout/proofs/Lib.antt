@@ -1,3 +1,4 @@
+pub mod Called
 pub mod Canonical
 pub mod Chained
 pub mod Chains

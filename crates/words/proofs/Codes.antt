@@ -18,13 +18,13 @@ use Rattle.model.specs.Places.{channelOutput}
 use Rattle.model.specs.Steps.{Idle, passTurn, netOutput, act, ends, farEnd}
 use Rattle.layout.specs.Layout.{wordCount}
 use Rattle.layout.specs.Words.{sitesOf}
-use Rattle.words.specs.Events.{Did, DidPass, Runnable, Seekable, EndsWithin, networkOf, siteIn, endOf}
+use Rattle.words.specs.Events.{Did, DidPass, RunAsks, Seekable, BytesWithin, networkBy, siteIn, endOf}
 use Rattle.rules.specs.Acts.{inputAct, localAct, queueAct, operatorAct, timeoutAct}
 use Rattle.words.proofs.Acts.{did-nothing}
 
 -- ---- what the arms ask
 
-module _ (S D T : ℕ) (l m c : List ℕ) (s : ℕ) (ok : Runnable (networkOf S D T l m) c s) where
+module _ (S D T : ℕ) (l m c : List ℕ) (s : ℕ) (ok : RunAsks (networkBy S D T l m) c s) where
   pub below : s < sitesMost
   below = omega (arith, ok .site, ok .few)
 

@@ -33,7 +33,7 @@ use Rattle.machine.specs.Step.{flags}
 use Rattle.machine.proofs.Ready.{by-flags}
 use Rattle.layout.specs.Layout.{wordCount}
 use Rattle.layout.specs.Words.{sitesOf}
-use Rattle.words.specs.Events.{Did, DidOwn, DidReady, DidInput, DidSought, networkOf, siteIn, endOf}
+use Rattle.words.specs.Events.{Did, DidOwn, DidReady, DidInput, DidSought, networkBy, siteIn, endOf}
 use Rattle.layout.specs.Idle.{waits}
 use Rattle.words.specs.Events.{inputBack, readyFlags, sought, Seekable}
 use Rattle.rules.specs.Acts.{inputAct}
@@ -43,10 +43,10 @@ use Rattle.layout.proofs.Rests.{quiet-stays, stands-stays}
 -- the router asked by the parts of a network
 asked-is : (m : List ℕ) (S D T : ℕ) (l : List ℕ) (s : ℕ) (os : List Output) (X : ℕ) → s < S → S ≤ sitesMost
     → length m ≡ sitesMost * sitesMost → targets S X ≡ true
-    → askedBy m S s os X ≡ route (networkOf S D T l m) s os X
+    → askedBy m S s os X ≡ route (networkBy S D T l m) s os X
 asked-is m S D T l s os X a b e t =
     rw (lt-ltb s S a, le-leb S sitesMost b, eq-eqb (length m) (sitesMost * sitesMost) e, t)
-    (route-same (routesOnly S m) (networkOf S D T l m) refl refl s os X)
+    (route-same (routesOnly S m) (networkBy S D T l m) refl refl s os X)
 
 -- ---- the input at a channel's end
 
@@ -120,7 +120,7 @@ module _ (c : List ℕ) (s i : ℕ) where
     pub sought-done : (m : List ℕ) (S T : ℕ) (w : InputTurn) → Seekable m S c s i → stateNumber (y .phase) ≡ 1
         → w ≡ ofInputTurn y (x .outputs) (sought m S T x s i) → DidOwn c d s r (ownTurn (setBoth x i) (inputBack w)) → DidSought m S T c d s r i
     sought-done m S T w ok e f p D l =
-        let n = networkOf S D T l m in
+        let n = networkBy S D T l m in
         subst (λ (t : Turn Input (List Output)). Did n c d s r (ownTurn (setBoth x i) t))
         (ap (seek T i y (x .outputs)) (asked-is m S D T l s (x .outputs) (y .set) (ok .site) (ok .few) (ok .routes) (ok .set e))
         ∙ sym (seek-is y (x .outputs) (readyIn n (sitesOf c) s) n s i e))

@@ -36,15 +36,15 @@ use Rattle.layout.specs.Words.{sitesOf, stateOf, canonical}
 use Rattle.layout.specs.Stored.{Stored}
 
 -- a network by its parts
-abbrev pub networkOf : ℕ → ℕ → ℕ → List ℕ → List ℕ → Network
-networkOf S D T channels routes = record { sites = S; depth = D; tries = T; channels = channels; routes = routes }
+abbrev pub networkBy : ℕ → ℕ → ℕ → List ℕ → List ℕ → Network
+networkBy S D T channels routes = record { sites = S; depth = D; tries = T; channels = channels; routes = routes }
 
 -- site s of the words c
 abbrev pub siteIn : List ℕ → ℕ → Site
 siteIn c s = siteAt (sitesOf c) s
 
 -- what RUN in place at site s asks of the network and the words: what a valid network and a state in range give
-pub record Runnable (n : Network) (c : List ℕ) (s : ℕ) : Type 0 where
+pub record RunAsks (n : Network) (c : List ℕ) (s : ℕ) : Type 0 where
   pub site : s < n .sites
   pub few : n .sites ≤ sitesMost
   pub words : length c ≡ wordCount
@@ -72,7 +72,7 @@ pub record Took (c d : List ℕ) (r : Sent) (w : AfterSend) : Type 0 where
 
 -- what SEND leaves, nothing but its own refusals tested: of a network its sites S and its depth D alone are looked at
 unfoldable pub tried : ℕ → ℕ → State → ℕ → ℕ → AfterSend
-tried S D st s X = trySend (networkOf S D 0 [] []) st s X
+tried S D st s X = trySend (networkBy S D 0 [] []) st s X
 
 -- the input at the end of a channel with the byte b; a free one where there is no channel
 abbrev pub endOf : List Site → ℕ → Input
@@ -117,8 +117,8 @@ readyFlags l xs s =
     ∷ []
 
 -- the channels of site s end within the sites
-abbrev pub EndsWithin : List ℕ → ℕ → Type 0
-EndsWithin l s = (j : ℕ) → j < portCount → isChannel (getD l (portCount * s + j) 0) ≡ true → getD l (portCount * s + j) 0 < endCount
+abbrev pub BytesWithin : List ℕ → ℕ → Type 0
+BytesWithin l s = (j : ℕ) → j < portCount → isChannel (getD l (portCount * s + j) 0) ≡ true → getD l (portCount * s + j) 0 < endCount
 
 -- what the router's answer makes of net-input i of site x
 abbrev pub sought : List ℕ → ℕ → ℕ → Site → ℕ → ℕ → Turn Input (List Output)
@@ -143,8 +143,8 @@ DidInput l c d s r i = (n : Network) → n .channels ≡ l → Did n c d s r (in
 
 abbrev pub DidSought : List ℕ → ℕ → ℕ → List ℕ → List ℕ → ℕ → Ran → ℕ → Type 0
 DidSought m S T c d s r i =
-    (D : ℕ) (l : List ℕ) → Did (networkOf S D T l m) c d s r (inputAct (networkOf S D T l m) s (siteIn c s) (ends (networkOf S D T l m) (sitesOf c) s) i)
+    (D : ℕ) (l : List ℕ) → Did (networkBy S D T l m) c d s r (inputAct (networkBy S D T l m) s (siteIn c s) (ends (networkBy S D T l m) (sitesOf c) s) i)
 
 abbrev pub DidAsked : List ℕ → List ℕ → ℕ → ℕ → List ℕ → List ℕ → ℕ → Ran → ℕ → Type 0
 DidAsked l m S T c d s r i =
-    (D : ℕ) → Did (networkOf S D T l m) c d s r (inputAct (networkOf S D T l m) s (siteIn c s) (ends (networkOf S D T l m) (sitesOf c) s) i)
+    (D : ℕ) → Did (networkBy S D T l m) c d s r (inputAct (networkBy S D T l m) s (siteIn c s) (ends (networkBy S D T l m) (sitesOf c) s) i)

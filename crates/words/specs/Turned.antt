@@ -19,7 +19,7 @@ use Rattle.machine.specs.Play.{Playable}
 use Rattle.words.specs.declared.player.Tally.{Tally}
 use Rattle.layout.specs.Layout.{wordCount, endCount}
 use Rattle.layout.specs.Words.{stateOf, noWords}
-use Rattle.words.specs.Events.{Runnable, tried}
+use Rattle.words.specs.Events.{RunAsks, tried}
 
 -- where a run stands, its state the words c, its book the bytes b
 abbrev pub standing : Tally → List ℕ → List ℕ → Progress
@@ -44,7 +44,7 @@ pub record Turnable (n : Network) (c : List ℕ) (t : Tally) : Type 0 where
   pub next : t .next ≤ sendsMost
   pub accepted : t .accepted ≤ sendsMost
   pub pairs : t .pairs ≤ sendsMost * setBits
-  pub runs-at : (s : ℕ) → s < n .sites → Runnable n c s
+  pub runs-at : (s : ℕ) → s < n .sites → RunAsks n c s
 
 -- the send o was tried: the words d, the counts r; its answer decides
 abbrev pub triedSend : ℕ → ℕ → List ℕ → StoredSend → AfterSend

@@ -2,7 +2,7 @@
 ghost use Prim.Native.Nat.{_<_};
 ghost use Rattle.model.specs.Steps.{act, ends};
 ghost use Rattle.layout.specs.Words.{sitesOf};
-ghost use Rattle.words.specs.Events.{Did, Runnable, networkOf, siteIn};
+ghost use Rattle.words.specs.Events.{Did, RunAsks, networkBy, siteIn};
 use crate::arms::channel_in_place;
 use crate::arms::local_in_place;
 use crate::arms::operator_in_place;
@@ -22,13 +22,13 @@ pub(crate) fn run_in_place(
     s: usize,
     code: usize,
 ) -> Ran
-    requires { ⌜ Runnable (networkOf sites depth tries (now channels) (now routes)) (now words) s ⌝ }
+    requires { ⌜ RunAsks (networkBy sites depth tries (now channels) (now routes)) (now words) s ⌝ }
     ensures { λ r. ⌜
-        Did (networkOf sites depth tries (now (channels .entry)) (now (routes .entry))) (now (words .entry))
+        Did (networkBy sites depth tries (now (channels .entry)) (now (routes .entry))) (now (words .entry))
         (now (words .exit)) s r
-        (act (networkOf sites depth tries (now (channels .entry)) (now (routes .entry))) s
+        (act (networkBy sites depth tries (now (channels .entry)) (now (routes .entry))) s
         (siteIn (now (words .entry)) s)
-        (ends (networkOf sites depth tries (now (channels .entry)) (now (routes .entry)))
+        (ends (networkBy sites depth tries (now (channels .entry)) (now (routes .entry)))
         (sitesOf (now (words .entry))) s)
         code)
         ⌝ }
