@@ -106,8 +106,11 @@ module _ (n : Network) (val : Valid n) (byte : n .tries < 256) (st : State) (sh 
 
 -- ---- one call
 
--- the words of a state whose numbers are bytes: they are a state's, and stand for it
-words-of : (st : State) → Shaped st → Bytes st → (isState (wordsOf st) ≡ true) × (stateOf (wordsOf st) ≡ st)
+-- the words of the state st are a state's, and stand for it
+abbrev Stands : State → Type 0
+Stands st = (isState (wordsOf st) ≡ true) × (stateOf (wordsOf st) ≡ st)
+
+words-of : (st : State) → Shaped st → Bytes st → Stands st
 words-of st sh b =
     let back = unpacked st sh b in
     let size = length-words st in
@@ -133,14 +136,14 @@ module _ (n : Network) (byte : n .tries < 256) where
   unfolding final
   one-call c e h r = rw (by-event n c e h) (either-way (eqb (networkRefusal n) 0) valid other)
     where
-      valid : eqb (networkRefusal n) 0 ≡ true → (isState (wordsOf (after n (stateOf c) e)) ≡ true) × (stateOf (wordsOf (after n (stateOf c) e)) ≡ after n (stateOf c) e)
+      valid : eqb (networkRefusal n) 0 ≡ true → Stands (after n (stateOf c) e)
       valid k =
           let sh = shaped-kept n (stateOf c) (shaped c) e in
           words-of (after n (stateOf c) e) sh
           (range-bytes n (valid-ok n (eqb-true (networkRefusal n) 0 k)) byte (after n (stateOf c) e) sh (range-kept n (stateOf c) (shaped c) r e)
           (at-most-255 n (e ∷ []) (stateOf c) (omega arith)))
 
-      other : eqb (networkRefusal n) 0 ≡ false → (isState (wordsOf (after n (stateOf c) e)) ≡ true) × (stateOf (wordsOf (after n (stateOf c) e)) ≡ after n (stateOf c) e)
+      other : eqb (networkRefusal n) 0 ≡ false → Stands (after n (stateOf c) e)
       other k =
           let g = both (eqb (length c) wordCount) (canonical c) h in
           let same = packed c (eqb-true (length c) wordCount (g .0)) (g .1) in

@@ -77,7 +77,8 @@ canonical-at c s k ok hs hk =
     let every = both (all (λ t. all (placeSame c t) sitePlaces) sitesMost) _ ok .0 in
     all-at (placeSame c s) k sitePlaces hk (all-at (λ t. all (placeSame c t) sitePlaces) s sitesMost hs every)
 
-pub canonical-by-places : (c : List ℕ) → ((s k : ℕ) → s < sitesMost → k < sitePlaces → placeSame c s k ≡ true) → ltb (getD c counterAt 0) 256 ≡ true → canonical c ≡ true
+pub canonical-by-places : (c : List ℕ) → ((s k : ℕ) → s < sitesMost → k < sitePlaces → placeSame c s k ≡ true)
+    → ltb (getD c counterAt 0) 256 ≡ true → canonical c ≡ true
 unfolding canonical
 canonical-by-places c h e =
     and (all (λ s. all (placeSame c s) sitePlaces) sitesMost) _

@@ -100,7 +100,8 @@ module _ (c : List ℕ) (s : ℕ) (hs : s < sitesMost) where
     unfolding outputAt outputFrom
     feeder-peeked = ap (λ (m : ℕ). m / 256 % 256) e ∙ sym (ap (λ (o : Output). o .input) (output-at c s hs j h))
 
-  pub lacks-peeked : (m w : ℕ) → m < queueRoom → w ≡ fieldsAt c s (arrivedFrom + m) → eqb (w % 4) 0 ≡ isNone (inEntry (siteAt (sitesOf c) s .incoming) m .terminator)
+  pub lacks-peeked : (m w : ℕ) → m < queueRoom → w ≡ fieldsAt c s (arrivedFrom + m)
+      → eqb (w % 4) 0 ≡ isNone (inEntry (siteAt (sitesOf c) s .incoming) m .terminator)
   unfolding arrivedAt inEntryFrom
   lacks-peeked m w h e =
       ap (λ (k : ℕ). eqb (k % 4) 0) e ∙ sym (none-at (fieldsAt c s (arrivedFrom + m) % 4))

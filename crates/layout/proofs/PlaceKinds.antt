@@ -11,8 +11,8 @@ use Rattle.layout.specs.Layout.{outputsFrom, leavingFrom, arrivedFrom, c
 use Rattle.layout.specs.Packed.{inputFrom, inputWord, outputFrom, outputWord, outEntryFrom, outEntryWord, inEntryFrom, inEntryWord}
 use Rattle.layout.specs.Words.{setOf, fieldsOf, kinds, repacked}
 
-pub by-kind : (P : ℕ → Type 0) → ((i : ℕ) → i < inputCount → P i) → ((j : ℕ) → j < outputCount → P (outputsFrom + j)) → ((m : ℕ) → m < queueRoom → P (leavingFrom + m))
-    → ((m : ℕ) → m < queueRoom → P (arrivedFrom + m)) → P countsPlace → (k : ℕ) → k < sitePlaces → P k
+pub by-kind : (P : ℕ → Type 0) → ((i : ℕ) → i < inputCount → P i) → ((j : ℕ) → j < outputCount → P (outputsFrom + j))
+    → ((m : ℕ) → m < queueRoom → P (leavingFrom + m)) → ((m : ℕ) → m < queueRoom → P (arrivedFrom + m)) → P countsPlace → (k : ℕ) → k < sitePlaces → P k
 by-kind P ins outs left came counts k h = go (decLt k 5) (decLt k 10) (decLt k 18) (decLt k 26)
   where
     shifted : (b : ℕ) → b ≤ k → P (b + (k - b)) → P k

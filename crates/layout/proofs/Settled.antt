@@ -23,8 +23,8 @@ use Rattle.layout.proofs.Canonical.{set-again, canonical-counter, canon
 -- ---- a word by its place
 
 -- what holds of both words of each place, and of the counter's, holds of each word
-by-word : (P : ℕ → Type 0) → ((s k : ℕ) → s < sitesMost → k < sitePlaces → P (setIndex s k)) → ((s k : ℕ) → s < sitesMost → k < sitePlaces → P (fieldsIndex s k)) → P counterAt
-    → (m : ℕ) → m < wordCount → P m
+by-word : (P : ℕ → Type 0) → ((s k : ℕ) → s < sitesMost → k < sitePlaces → P (setIndex s k))
+    → ((s k : ℕ) → s < sitesMost → k < sitePlaces → P (fieldsIndex s k)) → P counterAt → (m : ℕ) → m < wordCount → P m
 by-word P sets fields counter m h = go (decLt m counterAt) (ℕ-discrete (m % 2) 0)
   where
     go : Dec (m < counterAt) → Dec (m % 2 ≡ 0) → P m

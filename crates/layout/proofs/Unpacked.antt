@@ -22,8 +22,8 @@ use Rattle.layout.proofs.Settled.{set-word, fields-word, counter-word}
 
 -- ---- words c whose places of site s are those of the site x
 
-module _ (c : List ℕ) (s : ℕ) (x : Site) (sets : (k : ℕ) → k < sitePlaces → setAt c s k ≡ setOf x k) (fields : (k : ℕ) → k < sitePlaces → fieldsAt c s k ≡ fieldsOf x k)
-    (h : SiteShaped x) (b : SiteBytes x) where
+module _ (c : List ℕ) (s : ℕ) (x : Site) (sets : (k : ℕ) → k < sitePlaces → setAt c s k ≡ setOf x k)
+    (fields : (k : ℕ) → k < sitePlaces → fieldsAt c s k ≡ fieldsOf x k) (h : SiteShaped x) (b : SiteBytes x) where
   input-found : (i : ℕ) → i < inputCount → inputAt c s i ≡ inAt x i
   unfolding inputAt
   input-found i l =

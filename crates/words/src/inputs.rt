@@ -42,7 +42,10 @@ fn is_heard(words: &[u64], byte: u8) -> bool
 
 // Whether output j + 1 is ready.
 fn is_ready(channels: &[u8], words: &[u64], s: usize, j: usize) -> bool
-    requires { ⌜ (s < sitesMost) × (j < portCount) × (length (now channels) ≡ endCount) × (length (now words) ≡ wordCount) × spec.BytesWithin (now channels) s ⌝ }
+    requires { ⌜
+        (s < sitesMost) × (j < portCount) × (length (now channels) ≡ endCount) × (length (now words) ≡ wordCount) ×
+        spec.BytesWithin (now channels) s
+        ⌝ }
     ensures { λ r. ⌜ r ≡ spec.readyAt (now (channels .entry)) (sitesOf (now (words .entry))) s j ⌝ }
 {
     let byte = channels[base::PORTS * s + j];
@@ -172,7 +175,8 @@ pub(crate) fn input_in_place(
     s: usize,
     i: usize,
 ) -> Ran
-    requires { ⌜ (i < inputCount) × (length (now channels) ≡ endCount) ⌝ ∗ ⌜ spec.BytesWithin (now channels) s ⌝ ∗ ⌜ spec.Seekable (now routes) sites (now words) s i ⌝ }
+    requires { ⌜ (i < inputCount) × (length (now channels) ≡ endCount) ⌝ ∗ ⌜ spec.BytesWithin (now channels) s ⌝ ∗
+        ⌜ spec.Seekable (now routes) sites (now words) s i ⌝ }
     ensures { λ r. ⌜
         spec.DidAsked (now (channels .entry)) (now (routes .entry)) sites tries (now (words .entry))
         (now (words .exit)) s r i

@@ -68,7 +68,8 @@ shared-slice-read-channel-in-place c = search needs
 -- src/runs.rt:31:18
 channel-in-place-requires : tie.Need-channel-in-place-requires
 channel-in-place-requires c κs =
-    let here = c .before .before .before .before .before .before .before .before in
+    let half = c .before .before .before .before in
+    let here = half .before .before .before .before in
     let a = here .args in
     let p = here .pre in
     let j : a .code - 6 < 4 = omega arith in
