@@ -1,7 +1,7 @@
 /*
- * Fennqualo's library for C: plays, checks and copies archives (docs/FORMAT.md has their form). Link libfennqualo.a; it
- * needs memcpy and memset and nothing else, keeps nothing between calls, and may be called from many threads at once.
- * It is compiled for x86-64 Linux. A call takes less than 64 KB of stack.
+ * Fennqualo's library for C: plays, checks and copies archives (docs/FORMAT.md has their form, docs/MODEL.md what they
+ * mean). Link libfennqualo.a; it needs memcpy and memset and nothing else, keeps nothing between calls, and may be
+ * called from many threads at once. It is compiled for x86-64 Linux. A call takes less than 64 KB of stack.
  *
  * Slices. A slice is a pointer and the number of elements behind it. The caller sees to it that
  *   - the elements are there, and a uint64_t slice is aligned as any uint64_t array is;

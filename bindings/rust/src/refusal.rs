@@ -1,4 +1,4 @@
-//! The refusals of an archive, by name; document 01's number is their number here too.
+//! The refusals of an archive, by name, each with its number of docs/MODEL.md, "Refusals".
 
 use std::error::Error;
 use std::fmt::{self, Display, Formatter};
@@ -32,7 +32,7 @@ const WORDS: [(Refusal, &str); 9] = [
 ];
 
 impl Refusal {
-    /// The number of document 01.
+    /// Its number: 1 to 8, or 14.
     pub fn number(self) -> u8 {
         self as u8
     }
