@@ -10,12 +10,10 @@ use Rattle.types.specs.declared.Network.{Network}
 use Rattle.types.specs.declared.State.{State}
 use Rattle.types.specs.declared.AfterRun.{AfterRun}
 use Rattle.types.specs.declared.Ran.the-variants.{the-data as Ran, Nothing, Changed, Serviced}
-use Rattle.model.specs.Types.{noInput, inputD, siteAt, inAt, outAt, setSite, setIn, setOut, withInQueue, withOutQueue}
+use Rattle.model.specs.Types.{noInput, inputD, siteAt, inAt, outAt, setSite}
 use Rattle.model.specs.Network.{channel, joined}
 use Rattle.types.specs.Numbers.{stateNumber}
-use Rattle.model.specs.NetInput.{netInput, ready}
-use Rattle.model.specs.Places.{localOutput, channelOutput, outQueue, operator, timeout}
-use Rattle.model.specs.Steps.{Act, Idle, Own, Serve, Pass, setFar, setBoth, ownTurn, passTurn, workDone, act, ends}
+use Rattle.model.specs.Steps.{Act, Idle, Own, Serve, Pass, setFar, act, ends}
 use Rattle.machine.specs.declared.step.Act.the-variants.{the-data as Did, Idle as didNothing, Own as didOwn}
 use Rattle.machine.specs.declared.step.Act.the-variants.{Serve as didServe, Pass as didPass}
 use Rattle.machine.specs.declared.step.Change.{Change}
@@ -49,31 +47,6 @@ flags f = f 0 ∷ f 1 ∷ f 2 ∷ f 3 ∷ f 4 ∷ []
 -- which outputs 1 to 4 have a channel, as an array
 abbrev pub fourFlags : (ℕ → Bool) → List Bool
 fourFlags f = f 0 ∷ f 1 ∷ f 2 ∷ f 3 ∷ []
-
--- ---- what RUN does at a site, by kinds of codes, as crate model's `act` has it
-
-abbrev pub inputAct : Network → ℕ → Site → (ℕ → Input) → ℕ → Act
-inputAct n s x far i =
-    ownTurn (setBoth x i) (netInput n s i (inAt x i) (x .outputs) (ready (joined n s) far (x .outputs)))
-
-abbrev pub localAct : Network → Site → Act
-localAct n x =
-    ownTurn (λ o q. setOut (withInQueue x q) 0 o) (localOutput (n .depth) (outAt x 0) (x .incoming))
-
--- of output j + 1
-abbrev pub channelAct : Network → ℕ → Site → (ℕ → Input) → ℕ → Act
-channelAct n s x far j =
-    passTurn x (suc j) (channelOutput (joined n s (suc j)) (outAt x (suc j)) (far (suc j)))
-
-abbrev pub queueAct : Site → Act
-queueAct x = ownTurn (λ q y. setIn (withOutQueue x q) 0 y) (outQueue (x .outgoing) (inAt x 0))
-
-abbrev pub operatorAct : Network → ℕ → Site → Act
-operatorAct n s x = workDone x (operator (n .depth) s (x .incoming) (x .outgoing))
-
-abbrev pub timeoutAct : Site → Act
-timeoutAct x =
-    let i = outAt x 0 .input in ownTurn (setBoth x i) (timeout (x .incoming) (x .outputs) (inAt x i))
 
 -- ---- what is asked
 

@@ -5,7 +5,7 @@ ghost use mathlib.Core.Bool.{cond};
 ghost use Rattle.model.specs.Types as spec;
 ghost use Rattle.model.specs.Steps as steps;
 ghost use Rattle.machine.specs.Step.{ofAct, unchanged, changed, farAt, Runnable};
-ghost use Rattle.machine.specs.Step.{inputAct, localAct, channelAct, queueAct, operatorAct, timeoutAct};
+ghost use Rattle.rules.specs.Acts.{inputAct, localAct, channelAct, queueAct, operatorAct, timeoutAct};
 use crate::heard::channel_byte;
 use crate::heard::ends_there;
 use crate::heard::is_channel;
@@ -90,7 +90,7 @@ fn input_step(network: Network, s: usize, site: Site, far: [Input; base::PORTS],
 
 // Code 5: net-output 0.
 fn local_step(network: Network, s: usize, site: Site) -> Change
-    ensures { λ r. ⌜ r ≡ ofAct network s site (localAct network site) ⌝ }
+    ensures { λ r. ⌜ r ≡ ofAct network s site (localAct (network .depth) site) ⌝ }
 {
     let depth = network.depth;
     let output = site.outputs[0];
@@ -154,7 +154,7 @@ fn queue_step(network: Network, s: usize, site: Site) -> Change
 
 // Code 11: the operator.
 fn operator_step(network: Network, s: usize, site: Site) -> Change
-    ensures { λ r. ⌜ r ≡ ofAct network s site (operatorAct network s site) ⌝ }
+    ensures { λ r. ⌜ r ≡ ofAct network s site (operatorAct (network .depth) s site) ⌝ }
 {
     let depth = network.depth;
     let incoming = site.incoming;

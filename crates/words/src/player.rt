@@ -18,6 +18,7 @@ use machine::PlayAnswer;
 use machine::capped;
 use machine::enter_answer;
 use machine::is_due;
+use machine::refused;
 use machine::start;
 use machine::ticked;
 use types::Counts;
@@ -246,15 +247,7 @@ pub fn play(bytes: &[u8], book: &mut [u8]) -> PlayAnswer
     let seed = run.seed;
     let draws = run.draws;
     if refusal != 0 {
-        return PlayAnswer {
-            refusal,
-            counts: Counts {
-                accepted: 0,
-                pairs: 0,
-                serviced: 0,
-                owed: 0,
-            },
-        };
+        return refused(refusal);
     }
     let counts = play_run(network, sends, count, seed, draws, book);
     PlayAnswer { refusal: 0, counts }
