@@ -1,5 +1,5 @@
-// A line that grows in lent bytes: each function takes the place behind what stands there, adds as much as there is room
-// for, and answers the place behind that. So a line is composed first and goes out by one write.
+// A line that grows in lent bytes: each function takes the place behind what stands there, adds as much as there is
+// room for, and answers the place behind that. So a line is composed first and goes out by one write.
 ghost use mathlib.Core.List.{_++_};
 ghost use Rattle.io.specs.Counts.{Counts as Front};
 ghost use Rattle.io.specs.Digits.{digits};
