@@ -1,6 +1,17 @@
 // What a batch is asked for: its options, in any order, and how many names its words have.
 use front::Words;
 
+// The options of batch's own.
+pub const NO_OPTION: u8 = 0;
+
+const SERVICES: u8 = 1;
+
+const ZERO: u8 = 2;
+
+const UNPLAYED: u8 = 3;
+
+const SLICE: u8 = 4;
+
 // The number that comes next of `--slice A B`.
 const NONE: u8 = 0;
 
@@ -22,7 +33,7 @@ pub struct Asked {
 }
 
 // Nothing asked yet.
-pub fn nothing_asked(words: Words) -> Asked {
+fn nothing_asked(words: Words) -> Asked {
     Asked {
         services: false,
         zero: false,
@@ -50,37 +61,50 @@ fn take_argument(who: &[u8], i: usize, asked: Asked) -> Asked {
     take_word(who, i, &room[..n], asked)
 }
 
+// The number of an option of batch's own, or NO_OPTION; there is none behind `--`.
+pub fn option_of(ended: bool, word: &[u8]) -> u8 {
+    if ended {
+        return NO_OPTION;
+    }
+    if check::same(word, b"--services") {
+        return SERVICES;
+    }
+    if check::same(word, b"-0") {
+        return ZERO;
+    }
+    if check::same(word, b"--unplayed") {
+        return UNPLAYED;
+    }
+    if check::same(word, b"--slice") {
+        return SLICE;
+    }
+    NO_OPTION
+}
+
 // One word more.
-pub fn take_word(who: &[u8], i: usize, word: &[u8], asked: Asked) -> Asked {
+fn take_word(who: &[u8], i: usize, word: &[u8], asked: Asked) -> Asked {
     let words = asked.words;
     let mut now = asked;
-    if words.help || words.wrong {
+    if words.help | words.wrong {
         return now;
     }
     if asked.wants != NONE {
         return take_number(who, word, asked);
     }
-    if !words.ended {
-        if check::same(word, b"--services") {
-            now.services = true;
-            return now;
-        }
-        if check::same(word, b"-0") {
-            now.zero = true;
-            return now;
-        }
-        if check::same(word, b"--unplayed") {
-            now.unplayed = true;
-            return now;
-        }
-        if check::same(word, b"--slice") {
-            now.slice = true;
-            now.wants = SKIPPED;
-            return now;
-        }
+    let option = option_of(words.ended, word);
+    if option == NO_OPTION {
+        let more = front::take_word(who, i, word, words);
+        now.words = more;
+        return now;
     }
-    let more = front::take_word(who, i, word, words);
-    now.words = more;
+    now.services = asked.services | (option == SERVICES);
+    now.zero = asked.zero | (option == ZERO);
+    now.unplayed = asked.unplayed | (option == UNPLAYED);
+    if option == SLICE {
+        now.slice = true;
+        now.wants = SKIPPED;
+        return now;
+    }
     now
 }
 
@@ -104,13 +128,13 @@ fn take_number(who: &[u8], word: &[u8], asked: Asked) -> Asked {
 // Behind the last word: whether the words fit together.
 fn whole(who: &[u8], asked: Asked) -> Asked {
     let words = asked.words;
-    if words.help || words.wrong {
+    if words.help | words.wrong {
         return asked;
     }
     if asked.wants != NONE {
         return wrong(who, b"--slice wants two numbers", asked);
     }
-    if asked.slice && words.names > 0 {
+    if asked.slice & (words.names > 0) {
         return wrong(who, b"--slice takes its names from standard input", asked);
     }
     asked

@@ -41,12 +41,10 @@ fn answer(who: &[u8], first: usize) -> Outcome {
         front::no_output(who);
         return without_files(front::FAILED);
     }
-    let totals = if words.names > 0 {
-        names::from_arguments(who, first, asked)
-    } else {
-        names::from_input(who, asked)
-    };
-    ended(who, asked, totals)
+    if words.names > 0 {
+        return ended(who, asked, names::from_arguments(who, first, asked));
+    }
+    ended(who, asked, names::from_input(who, asked))
 }
 
 fn without_files(status: u64) -> Outcome {
@@ -58,15 +56,19 @@ fn without_files(status: u64) -> Outcome {
 
 // Prints the totals, unless this is a slice or nothing can be printed any more.
 fn ended(who: &[u8], asked: Asked, totals: Totals) -> Outcome {
-    let mut now = totals;
-    if !asked.slice && !totals.lost {
-        now.lost = !print_totals(who, totals);
+    if asked.slice | totals.lost {
+        return with_files(totals, totals.lost);
     }
-    let failed = now.lost || now.cut || now.refused > 0 || now.unreadable > 0;
+    let is_printed = print_totals(who, totals);
+    with_files(totals, !is_printed)
+}
+
+fn with_files(totals: Totals, lost: bool) -> Outcome {
+    let failed = lost | totals.cut | (totals.refused > 0) | (totals.unreadable > 0);
     let status = if failed { front::FAILED } else { front::DONE };
     Outcome {
         status: status,
-        totals: now,
+        totals: totals,
     }
 }
 

@@ -1,13 +1,14 @@
 // The names of a batch, from the arguments or from standard input, each played as it comes.
 use crate::asked::Asked;
-use crate::asked::nothing_asked;
-use crate::asked::take_word;
+use crate::asked::NO_OPTION;
+use crate::asked::option_of;
 use crate::one::Totals;
 use crate::one::long_name;
 use crate::one::no_files;
 use crate::one::play_file;
 use crate::one::print_part;
 use crate::one::tell_unplayed;
+use front::Words;
 use libc::STDIN_FILENO;
 
 // The longest argument that Linux passes, with the 0 that ends it.
@@ -36,30 +37,39 @@ fn no_names(asked: Asked) -> Names {
     }
 }
 
-// Where a name ends: with its line, or with a 0, which no argument has.
-struct Ends {
-    byte: u8,
+// How names are taken: the byte that ends one, a newline or a 0, which no argument has; whether a carriage return before
+// it is dropped; what is asked for each.
+struct Manner {
+    end: u8,
     line: bool,
+    services: bool,
+    unplayed: bool,
 }
 
 // ---- from the arguments
 
 // The arguments so far: their words, sorted again, and those of them that are names.
 struct Arguments {
-    sorted: Asked,
+    words: Words,
     names: Names,
 }
 
 // Plays the files that the arguments name, from number `first` on.
 pub fn from_arguments(who: &[u8], first: usize, asked: Asked) -> Totals {
+    let manner = Manner {
+        end: 0,
+        line: false,
+        services: asked.services,
+        unplayed: asked.unplayed,
+    };
     let mut arguments = Arguments {
-        sorted: nothing_asked(front::no_words(who, first)),
+        words: front::no_words(who, first),
         names: no_names(asked),
     };
     let mut argument = [0u8; ARGUMENT];
     let mut name = io::buffer();
     for i in first..os::arg_count() {
-        arguments = take_argument(who, i, &mut argument, &mut name, asked, arguments);
+        arguments = take_argument(who, i, &mut argument, &mut name, manner, arguments);
     }
     let names = arguments.names;
     names.totals
@@ -71,46 +81,37 @@ fn take_argument(
     i: usize,
     argument: &mut [u8],
     name: &mut [u8],
-    asked: Asked,
+    manner: Manner,
     arguments: Arguments,
 ) -> Arguments {
-    let before = arguments.sorted;
+    let words = arguments.words;
     let names = arguments.names;
     let n = front::word_at(i, argument);
-    let after = take_word(who, i, &argument[..n], before);
-    if !is_name(before, after) {
+    if option_of(words.ended, &argument[..n]) != NO_OPTION {
+        return arguments;
+    }
+    let more = front::take_word(who, i, &argument[..n], words);
+    if more.names == words.names {
         return Arguments {
-            sorted: after,
+            words: more,
             names: names,
         };
     }
-    let more = play_argument(who, &argument[..n], name, asked, names);
     Arguments {
-        sorted: after,
-        names: more,
+        words: more,
+        names: play_argument(who, &argument[..n], name, manner, names),
     }
-}
-
-// Whether the word between these was a name.
-fn is_name(before: Asked, after: Asked) -> bool {
-    let less = before.words;
-    let more = after.words;
-    less.names != more.names
 }
 
 fn play_argument(
     who: &[u8],
     argument: &[u8],
     name: &mut [u8],
-    asked: Asked,
+    manner: Manner,
     names: Names,
 ) -> Names {
-    let ends = Ends {
-        byte: 0,
-        line: false,
-    };
-    let all = take_chunk(who, argument, name, ends, asked, names);
-    end_name(who, name, ends, asked, all)
+    let all = take_chunk(who, argument, name, manner, names);
+    end_name(who, name, manner, all)
 }
 
 // ---- from standard input
@@ -120,11 +121,11 @@ fn play_argument(
 pub fn from_input(who: &[u8], asked: Asked) -> Totals {
     let mut name = io::buffer();
     let mut names = no_names(asked);
-    let ends = ends_of(asked);
+    let manner = manner_of(asked);
     let mut turns = u64::MAX;
     while turns > 0 {
         turns -= 1;
-        names = read_some(who, &mut name, ends, asked, names);
+        names = read_some(who, &mut name, manner, names);
         if names.over {
             break;
         }
@@ -132,21 +133,17 @@ pub fn from_input(who: &[u8], asked: Asked) -> Totals {
     names.totals
 }
 
-fn ends_of(asked: Asked) -> Ends {
-    if asked.zero {
-        return Ends {
-            byte: 0,
-            line: false,
-        };
-    }
-    Ends {
-        byte: b'\n',
-        line: true,
+fn manner_of(asked: Asked) -> Manner {
+    Manner {
+        end: if asked.zero { 0 } else { b'\n' },
+        line: !asked.zero,
+        services: asked.services,
+        unplayed: asked.unplayed,
     }
 }
 
 // Reads once, and plays the names that are complete.
-fn read_some(who: &[u8], name: &mut [u8], ends: Ends, asked: Asked, names: Names) -> Names {
+fn read_some(who: &[u8], name: &mut [u8], manner: Manner, names: Names) -> Names {
     let mut chunk = io::buffer();
     let got = libc::read(STDIN_FILENO, &mut chunk);
     if got < 0 {
@@ -154,9 +151,9 @@ fn read_some(who: &[u8], name: &mut [u8], ends: Ends, asked: Asked, names: Names
     }
     let n = io::count(got, &chunk);
     if n == 0 {
-        return end_input(who, name, ends, asked, names);
+        return end_input(who, name, manner, names);
     }
-    take_chunk(who, &chunk[..n], name, ends, asked, names)
+    take_chunk(who, &chunk[..n], name, manner, names)
 }
 
 // Standard input cannot be read, or not further.
@@ -170,45 +167,33 @@ fn cut(who: &[u8], names: Names) -> Names {
     now
 }
 
-fn end_input(who: &[u8], name: &[u8], ends: Ends, asked: Asked, names: Names) -> Names {
-    let mut now = names;
-    if names.count > 0 || names.long {
-        now = end_name(who, name, ends, asked, names);
+fn end_input(who: &[u8], name: &[u8], manner: Manner, names: Names) -> Names {
+    if (names.count > 0) | names.long {
+        let mut now = end_name(who, name, manner, names);
+        now.over = true;
+        return now;
     }
+    let mut now = names;
     now.over = true;
     now
 }
 
 // ---- byte by byte
 
-fn take_chunk(
-    who: &[u8],
-    chunk: &[u8],
-    name: &mut [u8],
-    ends: Ends,
-    asked: Asked,
-    names: Names,
-) -> Names {
+fn take_chunk(who: &[u8], chunk: &[u8], name: &mut [u8], manner: Manner, names: Names) -> Names {
     let mut now = names;
     for i in 0..chunk.len() {
-        now = take_byte(who, chunk[i], name, ends, asked, now);
+        now = take_byte(who, chunk[i], name, manner, now);
     }
     now
 }
 
-fn take_byte(
-    who: &[u8],
-    byte: u8,
-    name: &mut [u8],
-    ends: Ends,
-    asked: Asked,
-    names: Names,
-) -> Names {
+fn take_byte(who: &[u8], byte: u8, name: &mut [u8], manner: Manner, names: Names) -> Names {
     if names.over {
         return names;
     }
-    if byte == ends.byte {
-        return end_name(who, name, ends, asked, names);
+    if byte == manner.end {
+        return end_name(who, name, manner, names);
     }
     add_byte(byte, name, spilled(who, name, names))
 }
@@ -221,11 +206,12 @@ fn spilled(who: &[u8], name: &[u8], names: Names) -> Names {
     let mut now = names;
     now.count = 0;
     now.long = true;
-    if names.skip == 0 {
-        let totals = print_part(who, name, names.totals);
-        now.totals = totals;
-        now.over = totals.lost;
+    if names.skip > 0 {
+        return now;
     }
+    let totals = print_part(who, name, names.totals);
+    now.totals = totals;
+    now.over = totals.lost;
     now
 }
 
@@ -241,7 +227,7 @@ fn add_byte(byte: u8, name: &mut [u8], names: Names) -> Names {
 }
 
 // The present name is complete.
-fn end_name(who: &[u8], name: &[u8], ends: Ends, asked: Asked, names: Names) -> Names {
+fn end_name(who: &[u8], name: &[u8], manner: Manner, names: Names) -> Names {
     let mut now = names;
     if names.over {
         return now;
@@ -253,23 +239,23 @@ fn end_name(who: &[u8], name: &[u8], ends: Ends, asked: Asked, names: Names) -> 
         now.skip = skip - 1;
         return now;
     }
-    let word = front_of(name, trimmed(name, names.count, ends.line));
-    let totals = play_name(who, word, names.long, asked, names.totals);
+    let word = front_of(name, trimmed(name, names.count, manner.line));
+    let totals = play_name(who, word, names.long, manner, names.totals);
     let left = std::num::wrapping_sub_u64(names.left, 1);
     now.left = left;
     now.totals = totals;
-    now.over = totals.lost || left == 0;
+    now.over = totals.lost | (left == 0);
     now
 }
 
-fn play_name(who: &[u8], word: &[u8], long: bool, asked: Asked, totals: Totals) -> Totals {
-    if asked.unplayed {
+fn play_name(who: &[u8], word: &[u8], long: bool, manner: Manner, totals: Totals) -> Totals {
+    if manner.unplayed {
         return tell_unplayed(who, word, totals);
     }
     if long {
         return long_name(who, word, totals);
     }
-    play_file(who, word, asked.services, totals)
+    play_file(who, word, manner.services, totals)
 }
 
 // The number of bytes without the carriage return at the end of a line.

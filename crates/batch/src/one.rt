@@ -63,7 +63,7 @@ pub fn print_part(who: &[u8], name: &[u8], totals: Totals) -> Totals {
     let end = report::add_name(&mut line, 0, name);
     let is_printed = front::print(who, &line[..end]);
     let mut now = totals;
-    now.lost = totals.lost || !is_printed;
+    now.lost = totals.lost | !is_printed;
     now
 }
 
@@ -76,7 +76,7 @@ fn tell(who: &[u8], name: &[u8], words: &[u8], totals: Totals) -> Totals {
     let mut now = totals;
     now.files = wrapping_add_u64(totals.files, 1);
     now.unreadable = wrapping_add_u64(totals.unreadable, 1);
-    now.lost = totals.lost || !is_printed;
+    now.lost = totals.lost | !is_printed;
     now
 }
 
@@ -91,11 +91,11 @@ fn print_answer(who: &[u8], name: &[u8], refusal: u8, counts: Counts) -> bool {
 fn counted(totals: Totals, refusal: u8, is_printed: bool) -> Totals {
     let mut now = totals;
     now.files = wrapping_add_u64(totals.files, 1);
+    now.lost = totals.lost | !is_printed;
     if refusal == 0 {
         now.played = wrapping_add_u64(totals.played, 1);
-    } else {
-        now.refused = wrapping_add_u64(totals.refused, 1);
+        return now;
     }
-    now.lost = totals.lost || !is_printed;
+    now.refused = wrapping_add_u64(totals.refused, 1);
     now
 }

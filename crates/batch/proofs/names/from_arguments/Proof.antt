@@ -7,16 +7,13 @@ use Rattle.batch.proofs.names.from_arguments.Statement.{statement}
 use Rattle.batch.proofs.names.from_arguments.Tie as tie
 
 abbrev Inv-loop : tie.InvT-loop
-Inv-loop who first asked arguments₀ argument₀ name₀ i₀ i-end arguments argument name i = (131072 ≡ length argument) × (4096 ≡ length name)
+Inv-loop who first manner arguments₀ argument₀ name₀ i₀ i-end arguments argument name i = (131072 ≡ length argument) × (4096 ≡ length name)
 
 abbrev μ-loop : tie.MeasureT-loop
-μ-loop who first asked arguments₀ argument₀ name₀ i₀ i-end arguments argument name i = i-end - i
+μ-loop who first manner arguments₀ argument₀ name₀ i₀ i-end arguments argument name i = i-end - i
 
 no-words-requires : tie.Need-no-words-requires Inv-loop μ-loop
 no-words-requires c κs = search needs
-
-nothing-asked-requires : tie.Need-nothing-asked-requires Inv-loop μ-loop
-nothing-asked-requires c κs = search needs
 
 no-names-requires : tie.Need-no-names-requires Inv-loop μ-loop
 no-names-requires c κs = search needs
@@ -58,7 +55,6 @@ from-arguments-spec =
     Inv-loop
     μ-loop
     no-words-requires
-    nothing-asked-requires
     no-names-requires
     buffer-requires
     arg-count-requires

@@ -6,10 +6,10 @@ use Rattle.batch.proofs.names.from_input.Statement.{statement}
 use Rattle.batch.proofs.names.from_input.Tie as tie
 
 abbrev Inv-loop : tie.InvT-loop
-Inv-loop who asked name₀ names₀ ends turns₀ name names turns = 4096 ≡ length name
+Inv-loop who name₀ names₀ manner turns₀ name names turns = 4096 ≡ length name
 
 abbrev μ-loop : tie.MeasureT-loop
-μ-loop who asked name₀ names₀ ends turns₀ name names turns = turns
+μ-loop who name₀ names₀ manner turns₀ name names turns = turns
 
 buffer-requires : tie.Need-buffer-requires Inv-loop μ-loop
 buffer-requires c κs = search needs
@@ -17,8 +17,8 @@ buffer-requires c κs = search needs
 no-names-requires : tie.Need-no-names-requires Inv-loop μ-loop
 no-names-requires c κs = search needs
 
-ends-of-requires : tie.Need-ends-of-requires Inv-loop μ-loop
-ends-of-requires c κs = search needs
+manner-of-requires : tie.Need-manner-of-requires Inv-loop μ-loop
+manner-of-requires c κs = search needs
 
 loop-holds : tie.Need-loop-holds Inv-loop μ-loop
 loop-holds c = search needs
@@ -49,7 +49,7 @@ from-input-spec =
     μ-loop
     buffer-requires
     no-names-requires
-    ends-of-requires
+    manner-of-requires
     loop-holds
     sub-turns
     slice-aggregate-read-some

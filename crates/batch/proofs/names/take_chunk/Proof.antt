@@ -7,10 +7,10 @@ use Rattle.batch.proofs.names.take_chunk.Statement.{statement}
 use Rattle.batch.proofs.names.take_chunk.Tie as tie
 
 abbrev Inv-loop : tie.InvT-loop
-Inv-loop who chunk name₀ ends asked now₀ i₀ i-end name now i = length name ≡ length name₀
+Inv-loop who chunk name₀ manner now₀ i₀ i-end name now i = length name ≡ length name₀
 
 abbrev μ-loop : tie.MeasureT-loop
-μ-loop who chunk name₀ ends asked now₀ i₀ i-end name now i = i-end - i
+μ-loop who chunk name₀ manner now₀ i₀ i-end name now i = i-end - i
 
 loop-holds : tie.Need-loop-holds Inv-loop μ-loop
 loop-holds c = search needs
