@@ -4,6 +4,7 @@
 # runs `batch` with the same names on standard input.) Prints one line. The programs are target/bin/batch and
 # target/bin/play (run as scripts/program.sh says), or those that FENNQUALO_BATCH and FENNQUALO_PLAY name, as seen from the
 # root. Exit: 0 no difference, 1 a difference (the lines stay in target/batch.txt and target/by-book.txt), 2 no program.
+# Why a name cannot be read goes to target/batch.err; scripts/programs.sh looks at such messages.
 set -u
 export LC_ALL=C
 root=$(CDPATH= cd -- "$(dirname -- "$0")/.." && pwd) || exit 2
@@ -24,7 +25,7 @@ can_run "$book" || end 2 "$why"
 mkdir -p "$root/target" && cd "$root/corpus" || exit 2
 set -- --services
 while IFS= read -r name || [ -n "$name" ]; do set -- "$@" "$name"; done <"$root/crates/batch/stdin"
-run "$program" "$@" >"$printed"
+run "$program" "$@" >"$printed" 2>"$root/target/batch.err"
 cmp -s "$printed" "$expected" ||
     end 1 "not crates/batch/stdout: $(diff "$expected" "$printed" | grep -c '^[<>]') lines differ in target/batch.txt"
 

@@ -1,11 +1,12 @@
--- Computed examples of the text: what document 01 quotes, and the longest lines. Assumes nothing.
+-- Computed examples of the text: what document 01 quotes, the longest lines, and names as they are shown. Assumes nothing.
 use mathlib.Core.Path.{_≡_, refl}
-use mathlib.Core.List.{List, [], _∷_}
+use mathlib.Core.List.{List, [], _∷_, _++_}
 use Prim.Native.Nat.{ℕ}
 use Rattle.types.specs.declared.Counts.{Counts}
 use lib.ListN.{length}
 use Rattle.report.specs.Text.{ascii, places, decimal, refusedLine, countsLine, answerLine, answerMost}
 use Rattle.report.specs.Text.{serviceLine, serviceMost, lineAt, serviceLines}
+use Rattle.report.specs.Add.{shown, shownTo, shownByte}
 
 abbrev counts : ℕ → ℕ → ℕ → ℕ → Counts
 counts a p v o = record { accepted = a; pairs = p; serviced = v; owed = o }
@@ -86,3 +87,18 @@ book-one = refl
 pub book-two : serviceLines book 2 ≡ ascii "1000 25 7\n65534 0 15\n"
 unfolding serviceLines lineAt serviceLine decimal places
 book-two = refl
+
+-- ---- a name: what ends a line, what a terminal obeys and the backslash are escaped, all else stays
+
+pub plain-name : shown (ascii "load one-site_2.bin") ≡ ascii "load one-site_2.bin"
+unfolding shownTo shownByte
+plain-name = refl
+
+pub strange-name : shown (ascii "a\nb\r\t\\") ≡ ascii "a\\nb\\r\\t\\\\"
+unfolding shownTo shownByte
+strange-name = refl
+
+-- bytes 0, 27, 31, 32, 126, 127, 128 and 255
+pub edges : shown (0 ∷ 27 ∷ 31 ∷ 32 ∷ 126 ∷ 127 ∷ 128 ∷ 255 ∷ []) ≡ ascii "\\x00\\x1b\\x1f ~\\x7f" ++ (128 ∷ 255 ∷ [])
+unfolding shownTo shownByte
+edges = refl

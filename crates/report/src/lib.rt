@@ -1,8 +1,13 @@
 // What `play`, `batch` and `rewrite` share: the bytes of an archive, read as far as they are seen, and the lines printed
-// of a played archive. `answer_line` and `service_lines` compose the lines in lent bytes; their contracts settle each
-// byte. What is read and written no contract can say: the functions that do it are proved safe and ending.
+// of a played archive. `answer_line`, `service_lines` and `add_..` compose the lines in lent bytes; their contracts settle
+// each byte. What is read and written no contract can say: the functions that do it are proved safe and ending.
+mod adding;
 mod text;
 
+pub use adding::add_answer;
+pub use adding::add_bytes;
+pub use adding::add_name;
+pub use adding::add_number;
 ghost use Prim.Native.Nat.{min};
 ghost use mathlib.Core.Path.{_≡_};
 ghost use lib.ListN.{length};
@@ -73,7 +78,7 @@ pub fn service_lines(book: &[u8], text: &mut [u8]) -> Lines
     }
 }
 
-fn least(a: usize, b: usize) -> usize
+pub(crate) fn least(a: usize, b: usize) -> usize
     ensures { λ r. ⌜ r ≡ min a b ⌝ }
 {
     if a < b { a } else { b }
@@ -107,20 +112,20 @@ pub fn read_seen(fd: i32, room: &mut [u8]) -> Seen
 }
 
 // Prints the lines of the first `count` services of a book, as far as the book has them, many in one write and no line
-// in two. Answers whether all was written.
+// in two. Stops at a write that fails. Answers whether all was written.
 pub fn print_services(book: &[u8], count: usize) -> bool {
     let n = least(count, book.len() / 4);
     let mut text = io::buffer();
-    let mut whole = true;
     let mut k = 0usize;
     while k < n {
         let lines = service_lines(&book[4 * k..4 * n], &mut text);
         let bytes = lines.bytes;
-        let done = io::write_all(STDOUT_FILENO, &text[..bytes]);
-        whole = whole & done;
+        if !io::write_all(STDOUT_FILENO, &text[..bytes]) {
+            return false;
+        }
         k += lines.services;
     }
-    whole
+    true
 }
 
 // Prints the line of an answer in one write. Answers whether all was written.

@@ -14,10 +14,10 @@ use Rattle.report.proofs.print_services.Statement.{statement}
 use Rattle.report.proofs.print_services.Tie as tie
 
 abbrev Inv-loop : tie.InvT-loop
-Inv-loop book count n text₀ whole₀ k₀ text whole k = (4096 ≡ length text) × (k ≤ n)
+Inv-loop book count n text₀ k₀ text k = (4096 ≡ length text) × (k ≤ n)
 
 abbrev μ-loop : tie.MeasureT-loop
-μ-loop book count n text₀ whole₀ k₀ text whole k = n - k
+μ-loop book count n text₀ k₀ text k = n - k
 
 abbrev turn : tie.After-service-lines Inv-loop μ-loop → tie.In-loop Inv-loop μ-loop
 turn c = c .before .before .before
@@ -93,17 +93,20 @@ slice-aggregate-write-all c = composed (c .before .before) .0 .1
 write-all-requires : tie.Need-write-all-requires Inv-loop μ-loop
 write-all-requires c κs = search needs
 
-add-k : tie.Need-add-k Inv-loop μ-loop
-add-k c = let s = c .before .before .before .before in omega (arith, onward s)
-
-loop-less : tie.Need-loop-less Inv-loop μ-loop
-loop-less c = let s = c .before .before .before .before in omega (arith, onward s)
-
-loop-again : tie.Need-loop-again Inv-loop μ-loop
-loop-again c = let s = c .before .before .before .before in (search needs, onward s .1)
-
 returns : tie.Need-returns Inv-loop μ-loop
 returns c = search needs
+
+add-k : tie.Need-add-k Inv-loop μ-loop
+add-k c = let s = c .before .before .before .before .before in omega (arith, onward s)
+
+loop-less : tie.Need-loop-less Inv-loop μ-loop
+loop-less c = let s = c .before .before .before .before .before in omega (arith, onward s)
+
+loop-again : tie.Need-loop-again Inv-loop μ-loop
+loop-again c = let s = c .before .before .before .before .before in (search needs, onward s .1)
+
+returns-2 : tie.Need-returns-2 Inv-loop μ-loop
+returns-2 c = search needs
 
 pub print-services-spec : {M : Type 1} → statement M
 print-services-spec =
@@ -124,7 +127,8 @@ print-services-spec =
     array-share-prefix-text
     slice-aggregate-write-all
     write-all-requires
+    returns
     add-k
     loop-less
     loop-again
-    returns)
+    returns-2)

@@ -1,24 +1,25 @@
--- `names::from_arguments` is safe and ends. Assumes nothing.
+-- `names::from_arguments` is safe and ends: an argument a turn. Assumes nothing.
 use borrow.Author.Needs.{needs}
 use Prim.Native.Nat.{_-_}
 use mathlib.Core.Path.{_≡_}
 use lib.ListN.{length}
 use Rattle.batch.proofs.names.from_arguments.Statement.{statement}
 use Rattle.batch.proofs.names.from_arguments.Tie as tie
-use Rattle.batch.proofs.names.from_arguments.Reads as reads
-use Rattle.batch.proofs.names.from_arguments.Lts as lts
-use Rattle.batch.proofs.names.play_argument.Reads as play-argument-reads
-use Rattle.batch.proofs.one.no_files.Reads as no-files-reads
-use Rattle.os.proofs.arg_count.Reads as arg-count-reads
 
 abbrev Inv-loop : tie.InvT-loop
-Inv-loop first services totals₀ name₀ i₀ i-end totals name i = 131072 ≡ length name
+Inv-loop who first manner arguments₀ argument₀ name₀ i₀ i-end arguments argument name i = (131072 ≡ length argument) × (4096 ≡ length name)
 
 abbrev μ-loop : tie.MeasureT-loop
-μ-loop first services totals₀ name₀ i₀ i-end totals name i = i-end - i
+μ-loop who first manner arguments₀ argument₀ name₀ i₀ i-end arguments argument name i = i-end - i
 
-no-files-requires : tie.Need-no-files-requires Inv-loop μ-loop
-no-files-requires c κs = search needs
+no-words-requires : tie.Need-no-words-requires Inv-loop μ-loop
+no-words-requires c κs = search needs
+
+no-names-requires : tie.Need-no-names-requires Inv-loop μ-loop
+no-names-requires c κs = search needs
+
+buffer-requires : tie.Need-buffer-requires Inv-loop μ-loop
+buffer-requires c κs = search needs
 
 arg-count-requires : tie.Need-arg-count-requires Inv-loop μ-loop
 arg-count-requires c κs = search needs
@@ -26,11 +27,14 @@ arg-count-requires c κs = search needs
 loop-holds : tie.Need-loop-holds Inv-loop μ-loop
 loop-holds c = search needs
 
-slice-aggregate-play-argument : tie.Need-slice-aggregate-play-argument Inv-loop μ-loop
-slice-aggregate-play-argument c = search needs
+slice-aggregate-take-argument : tie.Need-slice-aggregate-take-argument Inv-loop μ-loop
+slice-aggregate-take-argument c = search needs
 
-play-argument-requires : tie.Need-play-argument-requires Inv-loop μ-loop
-play-argument-requires c κs = search needs
+slice-aggregate-take-argument-2 : tie.Need-slice-aggregate-take-argument-2 Inv-loop μ-loop
+slice-aggregate-take-argument-2 c = search needs
+
+take-argument-requires : tie.Need-take-argument-requires Inv-loop μ-loop
+take-argument-requires c κs = search needs
 
 add-i : tie.Need-add-i Inv-loop μ-loop
 add-i c = search needs
@@ -50,11 +54,14 @@ from-arguments-spec =
     (tie.spec
     Inv-loop
     μ-loop
-    no-files-requires
+    no-words-requires
+    no-names-requires
+    buffer-requires
     arg-count-requires
     loop-holds
-    slice-aggregate-play-argument
-    play-argument-requires
+    slice-aggregate-take-argument
+    slice-aggregate-take-argument-2
+    take-argument-requires
     add-i
     loop-less
     loop-again

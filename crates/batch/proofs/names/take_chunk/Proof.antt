@@ -1,19 +1,16 @@
--- `names::take_chunk` is safe and ends. Assumes nothing.
+-- `names::take_chunk` is safe and ends: a byte a turn. Assumes nothing.
 use borrow.Author.Needs.{needs}
 use Prim.Native.Nat.{_-_}
 use mathlib.Core.Path.{_≡_}
 use lib.ListN.{length}
 use Rattle.batch.proofs.names.take_chunk.Statement.{statement}
 use Rattle.batch.proofs.names.take_chunk.Tie as tie
-use Rattle.batch.proofs.names.take_chunk.Reads as reads
-use Rattle.batch.proofs.names.take_chunk.Lts as lts
-use Rattle.batch.proofs.names.take_byte.Reads as take-byte-reads
 
 abbrev Inv-loop : tie.InvT-loop
-Inv-loop chunk name₀ services now₀ i₀ i-end name now i = length name ≡ length name₀
+Inv-loop who chunk name₀ manner now₀ i₀ i-end name now i = length name ≡ length name₀
 
 abbrev μ-loop : tie.MeasureT-loop
-μ-loop chunk name₀ services now₀ i₀ i-end name now i = i-end - i
+μ-loop who chunk name₀ manner now₀ i₀ i-end name now i = i-end - i
 
 loop-holds : tie.Need-loop-holds Inv-loop μ-loop
 loop-holds c = search needs

@@ -1,0 +1,50 @@
+-- `words::words_of` is safe and ends: an argument a turn. Assumes nothing.
+use borrow.Author.Needs.{needs}
+use Prim.Native.Nat.{_-_}
+use Rattle.front.proofs.words.words_of.Statement.{statement}
+use Rattle.front.proofs.words.words_of.Tie as tie
+
+abbrev Inv-loop : tie.InvT-loop
+Inv-loop who first words₀ i₀ i-end words i = Unit {0}
+
+abbrev μ-loop : tie.MeasureT-loop
+μ-loop who first words₀ i₀ i-end words i = i-end - i
+
+no-words-requires : tie.Need-no-words-requires Inv-loop μ-loop
+no-words-requires c κs = search needs
+
+arg-count-requires : tie.Need-arg-count-requires Inv-loop μ-loop
+arg-count-requires c κs = search needs
+
+loop-holds : tie.Need-loop-holds Inv-loop μ-loop
+loop-holds c = tt
+
+take-argument-requires : tie.Need-take-argument-requires Inv-loop μ-loop
+take-argument-requires c κs = search needs
+
+add-i : tie.Need-add-i Inv-loop μ-loop
+add-i c = search needs
+
+loop-less : tie.Need-loop-less Inv-loop μ-loop
+loop-less c = search needs
+
+loop-again : tie.Need-loop-again Inv-loop μ-loop
+loop-again c = tt
+
+returns : tie.Need-returns Inv-loop μ-loop
+returns c = search needs
+
+pub words-of-spec : {M : Type 1} → statement M
+words-of-spec =
+    tie.close
+    (tie.spec
+    Inv-loop
+    μ-loop
+    no-words-requires
+    arg-count-requires
+    loop-holds
+    take-argument-requires
+    add-i
+    loop-less
+    loop-again
+    returns)
