@@ -1,52 +1,46 @@
 // Words for the first channel, route or send at fault: refusals 6 to 8. Each adds to a line.
 use crate::held;
-use crate::text::add;
-use crate::text::add_hex;
-use crate::text::add_with;
-
-// The sites that there are.
-fn add_sites(text: &mut [u8], at: usize, sites: usize) -> usize {
-    if sites < 2 {
-        return add(text, at, b", and there is site 0 alone");
-    }
-    add_with(text, at, b", and there are sites 0 to ", sites - 1, b"")
-}
-
-// A port of a site, by the number of its channel.
-fn add_port(text: &mut [u8], at: usize, m: usize) -> usize {
-    let site = add_with(text, at, b"site ", m / base::PORTS, b", port ");
-    add_with(text, site, b"", m % base::PORTS + 1, b"")
-}
+use crate::text::fill;
 
 // 6: channel m, which leads to no input of the network, or to one that a channel before it feeds.
 pub fn add_channel(text: &mut [u8], at: usize, b: &[u8], m: usize) -> usize {
     let sites = held::sites(b);
     let byte = held::channel(b, m);
-    let the = add(text, at, b"the channel of ");
-    let port = add_port(text, the, m);
-    let place = add_with(text, port, b", byte ", 13 + m % 256, b", ");
+    let site = m / base::PORTS;
+    let port = m % base::PORTS + 1;
+    let place = 13 + m % 256;
     let end = base::PORTS * sites;
     if byte < end {
-        return add_fed(text, place, byte, first_to(b, byte));
+        let other = first_to(b, byte);
+        let numbers = [
+            site,
+            port,
+            place,
+            byte,
+            other / base::PORTS,
+            other % base::PORTS + 1,
+        ];
+        return fill(
+            text,
+            at,
+            b"the channel of site %, port %, byte %, leads to input %, as site %, port % does",
+            numbers,
+        );
     }
-    add_stray(text, place, byte, sites, end)
-}
-
-// It leads to an input that this other channel feeds.
-fn add_fed(text: &mut [u8], at: usize, byte: usize, other: usize) -> usize {
-    let input = add_with(text, at, b"leads to input ", byte, b", as ");
-    let port = add_port(text, input, other);
-    add(text, port, b" does")
-}
-
-// It leads to none of the inputs below `end` that so many sites have.
-fn add_stray(text: &mut [u8], at: usize, byte: usize, sites: usize, end: usize) -> usize {
-    let is = add_with(text, at, b"is ", byte, b", and ");
     if end < 5 {
-        return add(text, is, b"1 site has inputs 0 to 3");
+        return fill(
+            text,
+            at,
+            b"the channel of site %, port %, byte %, is %, and 1 site has inputs 0 to 3",
+            [site, port, place, byte, 0, 0],
+        );
     }
-    let many = add_with(text, is, b"", sites, b" sites have inputs 0 to ");
-    add_with(text, many, b"", end - 1, b"")
+    fill(
+        text,
+        at,
+        b"the channel of site %, port %, byte %, is %, and % sites have inputs 0 to %",
+        [site, port, place, byte, sites, end - 1],
+    )
 }
 
 // The first channel with this byte.
@@ -59,8 +53,7 @@ fn first_to(b: &[u8], byte: usize) -> usize {
     0
 }
 
-// 7: route k, by the first of these that holds: it is one from a site to itself; it lists nothing; a digit is no port;
-// a port is there twice; a port has no channel; a 0 stands left of a port.
+// 7: route k. One from a site to itself is not 0000.
 pub fn add_route(text: &mut [u8], at: usize, b: &[u8], k: usize) -> usize {
     let sites = held::sites(b);
     if sites == 0 {
@@ -70,59 +63,50 @@ pub fn add_route(text: &mut [u8], at: usize, b: &[u8], k: usize) -> usize {
     let to = k % sites;
     let place = held::route_place(b, k);
     let route = held::word_at(b, place);
-    let way = add_way(text, at, from, to);
-    let bytes = add_bytes(text, way, place);
     if from == to {
-        return add_digits(text, bytes, route, b", not 0000");
+        return fill(
+            text,
+            at,
+            b"the route from site % to itself, bytes % and %, is #, not 0000",
+            [from, place, place + 1, route, 0, 0],
+        );
     }
-    add_list(text, bytes, b, from, route)
+    let way = fill(
+        text,
+        at,
+        b"the route from site % to site %, bytes % and %, ",
+        [from, to, place, place + 1, 0, 0],
+    );
+    add_list(text, way, b, from, route)
 }
 
-// From where to where.
-fn add_way(text: &mut [u8], at: usize, from: usize, to: usize) -> usize {
-    let the = add_with(text, at, b"the route from site ", from, b" to ");
-    if from == to {
-        return add(text, the, b"itself, ");
-    }
-    add_with(text, the, b"site ", to, b", ")
-}
-
-// The four digits of a route, and words behind them.
-fn add_digits(text: &mut [u8], at: usize, route: usize, behind: &[u8]) -> usize {
-    let is = add(text, at, b"is ");
-    let digits = add_hex(text, is, route, 4);
-    add(text, digits, behind)
-}
-
+// A list that is none, by the first of these that holds: it lists nothing; a digit is no port; a port is there twice; a
+// port has no channel; a 0 stands left of a port.
 fn add_list(text: &mut [u8], at: usize, b: &[u8], from: usize, route: usize) -> usize {
     if route == 0 {
-        return add(text, at, b"lists no port");
+        return fill(text, at, b"lists no port", [0; 6]);
     }
     let stray = first_stray(route);
     if stray < 4 {
-        return add_with(
-            text,
-            at,
-            b"names port ",
-            digit(route, stray),
-            b", and ports are 1 to 4",
-        );
+        let numbers = [digit(route, stray), 0, 0, 0, 0, 0];
+        return fill(text, at, b"names port %, and ports are 1 to 4", numbers);
     }
     let again = first_again(route);
     if again < 4 {
-        return add_with(text, at, b"names port ", digit(route, again), b" twice");
+        let numbers = [digit(route, again), 0, 0, 0, 0, 0];
+        return fill(text, at, b"names port % twice", numbers);
     }
     let loose = first_loose(b, from, route);
     if loose < 4 {
-        return add_with(
-            text,
-            at,
-            b"names port ",
-            digit(route, loose),
-            b", which has no channel",
-        );
+        let numbers = [digit(route, loose), 0, 0, 0, 0, 0];
+        return fill(text, at, b"names port %, which has no channel", numbers);
     }
-    add_digits(text, at, route, b", with a 0 left of a port")
+    fill(
+        text,
+        at,
+        b"is #, with a 0 left of a port",
+        [route, 0, 0, 0, 0, 0],
+    )
 }
 
 // Digit i of the four, from the left.
@@ -202,35 +186,43 @@ pub fn add_send(text: &mut [u8], at: usize, b: &[u8], m: usize) -> usize {
     let place = held::send_place(b, m);
     let site = held::byte_at(b, place + 2);
     let set = held::word_at(b, place + 3);
-    let send = add_with(text, at, b"send ", m, b", ");
     if sites <= site {
-        let byte = add_with(text, send, b"byte ", place + 2, b", is from site ");
-        let is = add_with(text, byte, b"", site, b"");
-        return add_sites(text, is, sites);
+        let from = fill(
+            text,
+            at,
+            b"send %, byte %, is from site %",
+            [m, place + 2, site, 0, 0, 0],
+        );
+        return add_sites(text, from, sites);
     }
+    let numbers = [m, place + 3, place + 4, 0, 0, 0];
     if set == 0 {
-        let bytes = add_bytes(text, send, place + 3);
-        return add(text, bytes, b"has an empty set");
+        return fill(
+            text,
+            at,
+            b"send %, bytes % and %, has an empty set",
+            numbers,
+        );
     }
     let beyond = first_beyond(set, sites);
     if beyond < 16 {
-        let bytes = add_bytes(text, send, place + 3);
-        let goes = add_with(text, bytes, b"goes to site ", beyond, b"");
-        return add_sites(text, goes, sites);
+        let numbers = [m, place + 3, place + 4, beyond, 0, 0];
+        let to = fill(text, at, b"send %, bytes % and %, goes to site %", numbers);
+        return add_sites(text, to, sites);
     }
-    let bytes = add_bytes(text, send, place);
-    add_draw(text, bytes, b, m)
+    add_draw(text, at, b, m)
 }
 
-// Two bytes, of which this is the place of the first.
-fn add_bytes(text: &mut [u8], at: usize, place: usize) -> usize {
-    let first = add_with(text, at, b"bytes ", place, b" and ");
-    add_with(
+// The sites that there are.
+fn add_sites(text: &mut [u8], at: usize, sites: usize) -> usize {
+    if sites < 2 {
+        return fill(text, at, b", and there is site 0 alone", [0; 6]);
+    }
+    fill(
         text,
-        first,
-        b"",
-        std::num::wrapping_add_usize(place, 1),
-        b", ",
+        at,
+        b", and there are sites 0 to %",
+        [sites - 1, 0, 0, 0, 0, 0],
     )
 }
 
@@ -246,30 +238,33 @@ fn first_beyond(set: usize, sites: usize) -> usize {
 
 // The draw number of send m.
 fn add_draw(text: &mut [u8], at: usize, b: &[u8], m: usize) -> usize {
-    let draw = draw_of(b, m);
+    let place = held::send_place(b, m);
+    let draw = held::word_at(b, place);
     let draws = held::draws(b);
-    let has = add_with(text, at, b"has draw number ", draw, b", ");
+    let numbers = [m, place, place + 1, draw, 0, 0];
+    let has = fill(
+        text,
+        at,
+        b"send %, bytes % and %, has draw number %, ",
+        numbers,
+    );
     if draws < draw {
         return add_draws(text, has, draws);
     }
-    add_with(
+    let last = held::word_at(b, held::send_place(b, one_less(m)));
+    fill(
         text,
         has,
-        b"below the ",
-        draw_of(b, one_less(m)),
-        b" of the send before it",
+        b"below the % of the send before it",
+        [last, 0, 0, 0, 0, 0],
     )
 }
 
 fn add_draws(text: &mut [u8], at: usize, draws: usize) -> usize {
     if draws == 1 {
-        return add(text, at, b"and there is 1 draw");
+        return fill(text, at, b"and there is 1 draw", [0; 6]);
     }
-    add_with(text, at, b"and there are ", draws, b" draws")
-}
-
-fn draw_of(b: &[u8], m: usize) -> usize {
-    held::word_at(b, held::send_place(b, m))
+    fill(text, at, b"and there are % draws", [draws, 0, 0, 0, 0, 0])
 }
 
 fn one_less(m: usize) -> usize {

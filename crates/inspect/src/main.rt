@@ -13,7 +13,7 @@ use libc::STDERR_FILENO;
 use libc::STDOUT_FILENO;
 use text::add;
 use text::add_name;
-use text::add_with;
+use text::fill;
 use text::print;
 use words::ARGUMENT;
 use words::LINE;
@@ -47,7 +47,12 @@ fn judge(who: &[u8], line: &mut [u8], at: usize, b: &[u8]) -> u64 {
         let good = heads::add_good(line, at, b);
         return printed(who, line, good, DONE);
     }
-    let number = add_with(line, at, b"refused ", base::wide(refusal), b": ");
+    let number = fill(
+        line,
+        at,
+        b"refused %: ",
+        [base::wide(refusal), 0, 0, 0, 0, 0],
+    );
     let told = add_fault(line, number, b, refusal, fault.place);
     printed(who, line, told, FAILED)
 }

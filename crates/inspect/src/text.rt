@@ -21,33 +21,67 @@ pub fn add(text: &mut [u8], at: usize, bytes: &[u8]) -> usize {
 }
 
 // Adds a number in decimal.
-pub fn add_number(text: &mut [u8], at: usize, n: usize) -> usize {
+fn add_number(text: &mut [u8], at: usize, n: usize) -> usize {
     let mut digits = [0u8; 20];
     let k = io::decimal(n as u64, &mut digits);
     add(text, at, &digits[..k])
 }
 
-// Adds words, a number, and words behind it.
-pub fn add_with(text: &mut [u8], at: usize, before: &[u8], n: usize, behind: &[u8]) -> usize {
-    let named = add(text, at, before);
-    let numbered = add_number(text, named, n);
-    add(text, numbered, behind)
-}
-
-// Adds a number of things, with an `s` behind their name unless it is one of them.
-pub fn add_count(text: &mut [u8], at: usize, n: usize, thing: &[u8]) -> usize {
-    let named = add_with(text, at, b"", n, thing);
-    if n == 1 {
-        return named;
-    }
-    add(text, named, b"s")
-}
-
 // Adds hexadecimal digits, at least so many.
-pub fn add_hex(text: &mut [u8], at: usize, n: usize, width: usize) -> usize {
+fn add_hex(text: &mut [u8], at: usize, n: usize, width: usize) -> usize {
     let mut digits = [0u8; 16];
     let k = io::hex(n as u64, width, &mut digits);
     add(text, at, &digits[..k])
+}
+
+// How far words are filled in: the place behind them, and how many of the numbers were used.
+struct Filled {
+    to: usize,
+    used: usize,
+}
+
+// Adds words, with the numbers in turn for each `%` in decimal and for each `#` as four hexadecimal digits, and for each
+// `~` an `s`, unless the number before it is 1.
+pub fn fill(text: &mut [u8], at: usize, words: &[u8], numbers: [usize; 6]) -> usize {
+    let mut filled = Filled { to: at, used: 0 };
+    for i in 0..words.len() {
+        filled = fill_byte(text, words[i], numbers, filled);
+    }
+    filled.to
+}
+
+fn fill_byte(text: &mut [u8], byte: u8, numbers: [usize; 6], filled: Filled) -> Filled {
+    let to = filled.to;
+    let used = filled.used % 6;
+    if byte == b'%' {
+        return Filled {
+            to: add_number(text, to, numbers[used]),
+            used: used + 1,
+        };
+    }
+    if byte == b'#' {
+        return Filled {
+            to: add_hex(text, to, numbers[used], 4),
+            used: used + 1,
+        };
+    }
+    if byte == b'~' {
+        return Filled {
+            to: add_plural(text, to, numbers[(used + 5) % 6]),
+            used: used,
+        };
+    }
+    Filled {
+        to: add_byte(text, to, byte),
+        used: used,
+    }
+}
+
+fn add_plural(text: &mut [u8], at: usize, n: usize) -> usize {
+    if n == 1 {
+        return at;
+    }
+    add_byte(text, at, b's')
 }
 
 // Adds a name, its control characters and backslashes escaped, so that it stays within its line.

@@ -59,7 +59,7 @@ fn is_fronted() -> bool {
 pub fn tell(fronted: bool, status: u64) {
     if fronted {
         let mut line = [0u8; 24];
-        let k = crate::text::add_with(&mut line, 0, b"", status as usize, b"\n");
+        let k = crate::text::fill(&mut line, 0, b"%\n", [status as usize, 0, 0, 0, 0, 0]);
         print(NUMBERS, &line, k);
     }
 }
