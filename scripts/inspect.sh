@@ -91,7 +91,7 @@ done <"$folder/kinds"
 # opened after a while, and its line differs).
 cd "$folder" || exit 2
 mkfifo fifo || exit 2
-{ sleep 60 && : >fifo; } >/dev/null 2>&1 &
+{ sleep 20 && : >fifo; } >/dev/null 2>&1 &
 opener=$!
 cp "$root/corpus/01-run-r.bin" 'a line
 end' || exit 2
