@@ -6,6 +6,7 @@
 
 pub mod archive;
 pub mod draws;
+pub mod faults;
 pub mod making;
 pub mod network;
 pub mod owing;

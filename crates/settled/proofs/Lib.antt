@@ -9,6 +9,7 @@ pub mod Types
 pub mod Checks
 pub mod Report
 pub mod Archive
+pub mod Faults
 pub mod Rules
 pub mod Machine
 pub mod Words

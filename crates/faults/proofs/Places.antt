@@ -1,0 +1,82 @@
+-- The place that is looked for: none below 6, and where a search through the items ends. Assumes nothing.
+use mathlib.Core.Path.{_≡_, refl, sym, ap, _∙_}
+use mathlib.Core.Bool.{Bool, true, false, cond}
+use mathlib.Core.List.{List}
+use Prim.Native.Nat.{ℕ, _≤_, _<_}
+use native.Mathlib.Omega.{arith}
+use borrow.Author.Tests.{eqb-true, ne-eqb}
+use lib.Dec.{eqb}
+use Rattle.base.specs.Bools.{either-way}
+use Rattle.base.specs.All.{all}
+use Rattle.types.specs.declared.Run.{Run}
+use Rattle.model.specs.Network.{sizesOk}
+use Rattle.model.specs.Runs.{bodyRefusal}
+use Rattle.format.specs.Format.{at, sitesPlace, versionPlace, countPlace, version, networkOf, runOf}
+use Rattle.format.specs.Refusals.{lengthOk, sizeOk, headThen, readRefusal}
+use Rattle.archive.specs.Code.{Head}
+use Rattle.archive.proofs.Passed.{head-passes, head-then}
+use Rattle.faults.specs.declared.Fault.{Fault}
+use Rattle.faults.specs.First.{first, left-at, left-none}
+use Rattle.faults.specs.Faults.{itemCount, itemOk, placeOf, faultOf}
+
+-- ---- refusals above 5
+
+-- the head's tests alone give 5 at most
+head-most : (b : List ℕ) → headThen b 0 ≤ 5
+unfolding headThen
+head-most b = go (lengthOk b) (eqb (at b versionPlace) version) (sizesOk (networkOf b)) (eqb (runOf b .seed) 0) (sizeOk b)
+  where
+    go : (a v s x z : Bool) → cond a (cond v (cond s (cond x 4 (cond z 0 5)) 3) 2) 1 ≤ 5
+    go false v s x z = omega arith
+    go true false s x z = omega arith
+    go true true false x z = omega arith
+    go true true true true z = omega arith
+    go true true true false false = omega arith
+    go true true true false true = omega arith
+
+-- a greater one is given behind a head that passed
+pub behind-head : (b : List ℕ) → 6 ≤ readRefusal b → headThen b 0 ≡ 0
+unfolding readRefusal
+behind-head b h =
+    either-way (eqb (headThen b 0) 0) (λ e. eqb-true (headThen b 0) 0 e)
+    (λ e.
+    let q : headThen b (bodyRefusal (runOf b)) ≡ headThen b 0 = head-then b (bodyRefusal (runOf b)) ∙ (rw e refl) in
+    absurd (omega (arith, head-most b)))
+
+pub head-held : (b : List ℕ) → 6 ≤ readRefusal b → Head b
+head-held b h = head-passes b 0 (behind-head b h) .0
+
+-- ---- the fault by its parts
+
+pub place-none : (f : ℕ) (R : Run) → f < 6 → placeOf f R ≡ 0
+unfolding placeOf itemCount first
+place-none f R h =
+    rw (ne-eqb f 6 (λ e. omega arith), ne-eqb f 7 (λ e. omega arith), ne-eqb f 8 (λ e. omega arith)) refl
+
+pub told : (b : List ℕ) (f k : ℕ) → readRefusal b ≡ f → placeOf f (runOf b) ≡ k
+    → faultOf b ≡ record { refusal = f; place = k }
+unfolding faultOf
+told b f k e q = rw (e, q) refl
+
+pub asked : (b : List ℕ) (f k : ℕ) → faultOf b ≡ record { refusal = f; place = k }
+    → (readRefusal b ≡ f) × (placeOf f (runOf b) ≡ k)
+unfolding faultOf
+asked b f k e =
+    let r : readRefusal b ≡ f = ap (λ (x : Fault). x .refusal) e in
+    (r, sym (ap (λ (g : ℕ). placeOf g (runOf b)) r) ∙ ap (λ (x : Fault). x .place) e)
+
+-- ---- a search through the c items: it ends at the first that fails, or behind the last
+
+module _ (b : List ℕ) (f c : ℕ) (ec : c ≡ itemCount f (at b sitesPlace) (at b countPlace)) where
+  counted : c ≡ itemCount f (runOf b .network .sites) (runOf b .count)
+  unfolding runOf networkOf
+  counted = ec
+
+  pub ends-at : (k : ℕ) → k < c → all (itemOk f (runOf b)) k ≡ true → itemOk f (runOf b) k ≡ false
+      → k ≡ placeOf f (runOf b)
+  unfolding placeOf
+  ends-at k l a e = left-at (itemOk f (runOf b)) c k l a e ∙ ap (first (itemOk f (runOf b))) counted
+
+  pub ends-behind : (k : ℕ) → k ≡ c → all (itemOk f (runOf b)) k ≡ true → c ≡ placeOf f (runOf b)
+  unfolding placeOf
+  ends-behind k q a = left-none (itemOk f (runOf b)) c (rw q at a) ∙ ap (first (itemOk f (runOf b))) counted

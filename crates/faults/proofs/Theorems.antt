@@ -1,0 +1,141 @@
+-- What the fault that is found says: refusal 6, 7 and 8 with place k are given exactly if what the reader judges before
+-- passed and number k is the first channel, route or send that the model's test turns down; below 6 the place is 0.
+-- Assumes nothing.
+use mathlib.Core.Path.{_≡_, refl, sym, ap₂, _∙_, subst}
+use mathlib.Core.Bool.{Bool, true, false, cond}
+use mathlib.Core.List.{List}
+use Prim.Native.Nat.{ℕ, _+_, _*_, _/_, _%_, _≤_, _<_}
+use native.Mathlib.Nat.{le-refl}
+use native.Mathlib.Omega.{arith}
+use lib.Arith.{digits-div, digits-mod}
+use Rattle.base.specs.Sizes.{portCount}
+use Rattle.base.specs.All.{all, all-at, all-by}
+use Rattle.base.specs.Flat.{place-below}
+use Rattle.types.specs.declared.Network.{Network}
+use Rattle.model.specs.Network.{channelOk, channelsOk, routeOk, routesOk}
+use Rattle.model.specs.Runs.{sendOk, sendsOk, bodyRefusal}
+use Rattle.format.specs.Format.{networkOf, runOf}
+use Rattle.format.specs.Refusals.{headThen, readRefusal}
+use Rattle.archive.proofs.Answers.{read-body}
+use Rattle.faults.specs.First.{first, Fails, fails-at, fails-is}
+use Rattle.faults.specs.Faults.{numberedOk, itemCount, itemOk, placeOf, faultOf}
+use Rattle.faults.proofs.Numbers.{row-below, rest-below}
+use Rattle.faults.proofs.Places.{behind-head, place-none, told, asked}
+
+-- ---- routes by number
+
+-- route s x S + t is that from site s to site t
+pub route-numbered : (n : Network) (s t : ℕ) → t < n .sites → numberedOk n (s * n .sites + t) ≡ routeOk n s t
+route-numbered n s t h = ap₂ (λ (a c : ℕ). routeOk n a c) (digits-div s h) (digits-mod s h)
+
+same-test : (a c : Bool) → (a ≡ true → c ≡ true) → (c ≡ true → a ≡ true) → a ≡ c
+same-test true c h k = sym (h refl)
+same-test false true h k = k refl
+same-test false false h k = refl
+
+-- all of them are the model's routes
+pub routes-numbered : (n : Network) → all (numberedOk n) (n .sites * n .sites) ≡ routesOk n
+routes-numbered n =
+    let S = n .sites in
+    same-test (all (numberedOk n) (S * S)) (routesOk n)
+    (λ h.
+    all-by (λ s. all (routeOk n s) S) S
+    (λ s ls.
+    all-by (routeOk n s) S
+    (λ t lt.
+    sym (route-numbered n s t lt)
+    ∙ all-at (numberedOk n) (s * S + t) (S * S) (place-below s t S S ls lt (le-refl S)) h)))
+    (λ h.
+    all-by (numberedOk n) (S * S)
+    (λ k l.
+    all-at (routeOk n (k / S)) (k % S) S (rest-below S k l)
+    (all-at (λ s. all (routeOk n s) S) (k / S) S (row-below S k l) h)))
+
+-- ---- the body's refusals by its three tests
+
+abbrev body : Bool → Bool → Bool → ℕ
+body c t s = cond c (cond t (cond s 0 8) 7) 6
+
+body-parts : (c t s : Bool)
+    → (body c t s ≡ 6 → c ≡ false)
+    × (body c t s ≡ 7 → (c ≡ true) × (t ≡ false))
+    × (body c t s ≡ 8 → (c ≡ true) × (t ≡ true) × (s ≡ false))
+body-parts false t s = (λ e. refl, λ e. absurd (omega arith), λ e. absurd (omega arith))
+body-parts true false s = (λ e. absurd (omega arith), λ e. (refl, refl), λ e. absurd (omega arith))
+body-parts true true false = (λ e. absurd (omega arith), λ e. absurd (omega arith), λ e. (refl, refl, refl))
+body-parts true true true = (λ e. absurd (omega arith), λ e. absurd (omega arith), λ e. absurd (omega arith))
+
+-- ---- what the reader judges before 6, 7 and 8
+
+abbrev pub Before6 : List ℕ → Type 0
+Before6 b = headThen b 0 ≡ 0
+
+abbrev pub Before7 : List ℕ → Type 0
+Before7 b = (headThen b 0 ≡ 0) × (channelsOk (networkOf b) ≡ true)
+
+abbrev pub Before8 : List ℕ → Type 0
+Before8 b = (headThen b 0 ≡ 0) × (channelsOk (networkOf b) ≡ true) × (routesOk (networkOf b) ≡ true)
+
+-- fault f with place k is found exactly if what is judged before it passed, and k is the first of n items at which p fails
+abbrev pub Found : List ℕ → ℕ → Type 0 → (ℕ → Bool) → ℕ → Type 0
+Found b f Before p n =
+    (k : ℕ)
+    → (faultOf b ≡ record { refusal = f; place = k } → Before × Fails p n k)
+    × (Before × Fails p n k → faultOf b ≡ record { refusal = f; place = k })
+
+module _ (b : List ℕ) where
+  -- behind a head that passed the body's refusal is the reader's
+  body-read : headThen b 0 ≡ 0 → bodyRefusal (runOf b) ≡ readRefusal b
+  body-read h = read-body b (headThen b 0) (bodyRefusal (runOf b)) refl h refl
+
+  -- where the search of refusal f is that for p, and all that f needs are `Before` and that p fails somewhere
+  found : (f : ℕ) (Before : Type 0) (p : ℕ → Bool) (n : ℕ) → 6 ≤ f → placeOf f (runOf b) ≡ first p n
+      → (headThen b 0 ≡ 0 → bodyRefusal (runOf b) ≡ f → Before × (all p n ≡ false))
+      → (Before × (all p n ≡ false) → (headThen b 0 ≡ 0) × (bodyRefusal (runOf b) ≡ f))
+      → Found b f Before p n
+  found f Before p n l place to from k = (
+    λ e.
+        let w = asked b f k e in
+        let h = behind-head b (omega (arith, w .0)) in
+        let z = to h (body-read h ∙ w .0) in
+        (z .0, subst (Fails p n) (sym place ∙ w .1) (fails-at p n (z .1))),
+    λ x.
+        let y = fails-is p n k (x .1) in
+        let z = from (x .0, y .0) in
+        told b f k (sym (body-read (z .0)) ∙ z .1) (place ∙ y .1),
+  )
+
+  -- below 6 the place is 0
+  pub fault-none : readRefusal b < 6 → faultOf b ≡ record { refusal = readRefusal b; place = 0 }
+  fault-none h = told b (readRefusal b) 0 refl (place-none (readRefusal b) (runOf b) h)
+
+  -- the channels
+  pub fault-6 : Found b 6 (Before6 b) (channelOk (networkOf b)) (portCount * networkOf b .sites)
+  unfolding bodyRefusal runOf placeOf itemOk itemCount
+  fault-6 =
+      let n = networkOf b in
+      found 6 (Before6 b) (channelOk n) (portCount * n .sites) (omega arith) refl
+      (λ h e. (h, body-parts (channelsOk n) (routesOk n) (sendsOk (runOf b)) .0 e))
+      (λ x. (x .0, rw (x .1) refl))
+
+  -- the routes by number
+  pub fault-7 : Found b 7 (Before7 b) (numberedOk (networkOf b)) (networkOf b .sites * networkOf b .sites)
+  unfolding bodyRefusal runOf placeOf itemOk itemCount
+  fault-7 =
+      let n = networkOf b in
+      found 7 (Before7 b) (numberedOk n) (n .sites * n .sites) (omega arith) refl
+      (λ h e.
+      let w = body-parts (channelsOk n) (routesOk n) (sendsOk (runOf b)) .1 e in
+      ((h, w .0), routes-numbered n ∙ w .1))
+      (λ x. (x .0 .0, rw (x .0 .1, sym (routes-numbered n) ∙ x .1) refl))
+
+  -- the sends
+  pub fault-8 : Found b 8 (Before8 b) (sendOk (runOf b)) (runOf b .count)
+  unfolding bodyRefusal runOf placeOf itemOk itemCount
+  fault-8 =
+      let n = networkOf b in
+      found 8 (Before8 b) (sendOk (runOf b)) (runOf b .count) (omega arith) refl
+      (λ h e.
+      let w = body-parts (channelsOk n) (routesOk n) (sendsOk (runOf b)) .2 e in
+      ((h, w .0, w .1), w .2))
+      (λ x. (x .0 .0, rw (x .0 .1, x .0 .2, x .1) refl))

@@ -1,0 +1,45 @@
+use Prim.Native.Nat.{_-_, _≤_}
+use borrow.Author.Needs.{needs}
+use Rattle.inspect.proofs.items.first_beyond.Statement.{statement}
+use Rattle.inspect.proofs.items.first_beyond.Tie as tie
+use Rattle.inspect.proofs.items.first_beyond.Reads as reads
+use Rattle.inspect.proofs.items.first_beyond.Lts as lts
+
+abbrev Inv-loop : tie.InvT-loop
+Inv-loop set sites t₀ t = t ≤ 16
+
+abbrev μ-loop : tie.MeasureT-loop
+μ-loop set sites t₀ t = 16 - t
+
+-- src/items.rt:231:5
+loop-holds : tie.Need-loop-holds Inv-loop μ-loop
+loop-holds c = search needs
+
+-- src/items.rt:232:27
+shr-if2 : tie.Need-shr-if2 Inv-loop μ-loop
+shr-if2 c = search needs
+
+-- src/items.rt:233:13
+returns : tie.Need-returns Inv-loop μ-loop
+returns c = search needs
+
+-- src/items.rt:231:9
+add-t : tie.Need-add-t Inv-loop μ-loop
+add-t c = search needs
+
+-- src/items.rt:231:5
+loop-less : tie.Need-loop-less Inv-loop μ-loop
+loop-less c = search needs
+
+-- src/items.rt:231:5
+loop-again : tie.Need-loop-again Inv-loop μ-loop
+loop-again c = search needs
+
+-- src/items.rt:230:1
+returns-2 : tie.Need-returns-2 Inv-loop μ-loop
+returns-2 c = search needs
+
+pub first-beyond-spec : {M : Type 1} → statement M
+first-beyond-spec =
+    tie.close
+    (tie.spec Inv-loop μ-loop loop-holds shr-if2 returns add-t loop-less loop-again returns-2)

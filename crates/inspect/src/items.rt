@@ -1,0 +1,272 @@
+// Words for the first channel, route or send at fault: refusals 6 to 8. Each adds to a line.
+use crate::held;
+use crate::text::fill;
+
+// 6: channel m, which leads to no input of the network, or to one that a channel before it feeds.
+pub fn add_channel(text: &mut [u8], at: usize, b: &[u8], m: usize) -> usize {
+    let sites = held::sites(b);
+    let byte = held::channel(b, m);
+    let site = m / base::PORTS;
+    let port = m % base::PORTS + 1;
+    let place = 13 + m % 256;
+    let end = base::PORTS * sites;
+    if byte < end {
+        let other = first_to(b, byte);
+        let numbers = [
+            site,
+            port,
+            place,
+            byte,
+            other / base::PORTS,
+            other % base::PORTS + 1,
+        ];
+        return fill(
+            text,
+            at,
+            b"the channel of site %, port %, byte %, leads to input %, as site %, port % does",
+            numbers,
+        );
+    }
+    if end < 5 {
+        return fill(
+            text,
+            at,
+            b"the channel of site %, port %, byte %, is %, and 1 site has inputs 0 to 3",
+            [site, port, place, byte, 0, 0],
+        );
+    }
+    fill(
+        text,
+        at,
+        b"the channel of site %, port %, byte %, is %, and % sites have inputs 0 to %",
+        [site, port, place, byte, sites, end - 1],
+    )
+}
+
+// The first channel with this byte.
+fn first_to(b: &[u8], byte: usize) -> usize {
+    for m in 0usize..64 {
+        if held::channel(b, m) == byte {
+            return m;
+        }
+    }
+    0
+}
+
+// 7: route k. One from a site to itself is not 0000.
+pub fn add_route(text: &mut [u8], at: usize, b: &[u8], k: usize) -> usize {
+    let sites = held::sites(b);
+    if sites == 0 {
+        return at;
+    }
+    let from = k / sites;
+    let to = k % sites;
+    let place = held::route_place(b, k);
+    let route = held::word_at(b, place);
+    if from == to {
+        return fill(
+            text,
+            at,
+            b"the route from site % to itself, bytes % and %, is #, not 0000",
+            [from, place, place + 1, route, 0, 0],
+        );
+    }
+    let way = fill(
+        text,
+        at,
+        b"the route from site % to site %, bytes % and %, ",
+        [from, to, place, place + 1, 0, 0],
+    );
+    add_list(text, way, b, from, route)
+}
+
+// A list that is none, by the first of these that holds: it lists nothing; a digit is no port; a port is there twice; a
+// port has no channel; a 0 stands left of a port.
+fn add_list(text: &mut [u8], at: usize, b: &[u8], from: usize, route: usize) -> usize {
+    if route == 0 {
+        return fill(text, at, b"lists no port", [0; 6]);
+    }
+    let stray = first_stray(route);
+    if stray < 4 {
+        let numbers = [digit(route, stray), 0, 0, 0, 0, 0];
+        return fill(text, at, b"names port %, and ports are 1 to 4", numbers);
+    }
+    let again = first_again(route);
+    if again < 4 {
+        let numbers = [digit(route, again), 0, 0, 0, 0, 0];
+        return fill(text, at, b"names port % twice", numbers);
+    }
+    let loose = first_loose(b, from, route);
+    if loose < 4 {
+        let numbers = [digit(route, loose), 0, 0, 0, 0, 0];
+        return fill(text, at, b"names port %, which has no channel", numbers);
+    }
+    fill(
+        text,
+        at,
+        b"is #, with a 0 left of a port",
+        [route, 0, 0, 0, 0, 0],
+    )
+}
+
+// Digit i of the four, from the left.
+fn digit(route: usize, i: usize) -> usize {
+    if i == 0 {
+        return route / 4096 % 16;
+    }
+    if i == 1 {
+        return route / 256 % 16;
+    }
+    if i == 2 {
+        return route / 16 % 16;
+    }
+    route % 16
+}
+
+// The first digit that is no port and not 0; that is a port named before; that is a port without a channel. 4 if none is.
+fn first_stray(route: usize) -> usize {
+    first_of(
+        4 < digit(route, 0),
+        4 < digit(route, 1),
+        4 < digit(route, 2),
+        4 < digit(route, 3),
+    )
+}
+
+fn first_again(route: usize) -> usize {
+    let a = digit(route, 0);
+    let b = digit(route, 1);
+    let c = digit(route, 2);
+    let d = digit(route, 3);
+    first_of(
+        false,
+        (b != 0) & (b == a),
+        (c != 0) & ((c == a) | (c == b)),
+        (d != 0) & ((d == a) | (d == b) | (d == c)),
+    )
+}
+
+fn first_loose(b: &[u8], from: usize, route: usize) -> usize {
+    first_of(
+        is_loose(b, from, digit(route, 0)),
+        is_loose(b, from, digit(route, 1)),
+        is_loose(b, from, digit(route, 2)),
+        is_loose(b, from, digit(route, 3)),
+    )
+}
+
+fn is_loose(b: &[u8], from: usize, port: usize) -> bool {
+    if port == 0 {
+        return false;
+    }
+    held::channel(b, base::PORTS * (from % 64) + (port - 1) % 4) == 255
+}
+
+// The first of four that holds; 4 if none does.
+fn first_of(a: bool, b: bool, c: bool, d: bool) -> usize {
+    if a {
+        return 0;
+    }
+    if b {
+        return 1;
+    }
+    if c {
+        return 2;
+    }
+    if d {
+        return 3;
+    }
+    4
+}
+
+// 8: send m, by the first of these that holds: its site is none; its set is empty; its set has a site that is none; its
+// draw number is above the draws; it is below that of the send before.
+pub fn add_send(text: &mut [u8], at: usize, b: &[u8], m: usize) -> usize {
+    let sites = held::sites(b);
+    let place = held::send_place(b, m);
+    let site = held::byte_at(b, place + 2);
+    let set = held::word_at(b, place + 3);
+    if sites <= site {
+        let from = fill(
+            text,
+            at,
+            b"send %, byte %, is from site %",
+            [m, place + 2, site, 0, 0, 0],
+        );
+        return add_sites(text, from, sites);
+    }
+    let numbers = [m, place + 3, place + 4, 0, 0, 0];
+    if set == 0 {
+        return fill(
+            text,
+            at,
+            b"send %, bytes % and %, has an empty set",
+            numbers,
+        );
+    }
+    let beyond = first_beyond(set, sites);
+    if beyond < 16 {
+        let numbers = [m, place + 3, place + 4, beyond, 0, 0];
+        let to = fill(text, at, b"send %, bytes % and %, goes to site %", numbers);
+        return add_sites(text, to, sites);
+    }
+    add_draw(text, at, b, m)
+}
+
+// The sites that there are.
+fn add_sites(text: &mut [u8], at: usize, sites: usize) -> usize {
+    if sites < 2 {
+        return fill(text, at, b", and there is site 0 alone", [0; 6]);
+    }
+    fill(
+        text,
+        at,
+        b", and there are sites 0 to %",
+        [sites - 1, 0, 0, 0, 0, 0],
+    )
+}
+
+// The first site of the set, of 16, from S on; 16 if there is none.
+fn first_beyond(set: usize, sites: usize) -> usize {
+    for t in 0usize..16 {
+        if sites <= t && (set >> t) % 2 == 1 {
+            return t;
+        }
+    }
+    16
+}
+
+// The draw number of send m.
+fn add_draw(text: &mut [u8], at: usize, b: &[u8], m: usize) -> usize {
+    let place = held::send_place(b, m);
+    let draw = held::word_at(b, place);
+    let draws = held::draws(b);
+    let numbers = [m, place, place + 1, draw, 0, 0];
+    let has = fill(
+        text,
+        at,
+        b"send %, bytes % and %, has draw number %, ",
+        numbers,
+    );
+    if draws < draw {
+        return add_draws(text, has, draws);
+    }
+    let last = held::word_at(b, held::send_place(b, one_less(m)));
+    fill(
+        text,
+        has,
+        b"below the % of the send before it",
+        [last, 0, 0, 0, 0, 0],
+    )
+}
+
+fn add_draws(text: &mut [u8], at: usize, draws: usize) -> usize {
+    if draws == 1 {
+        return fill(text, at, b"and there is 1 draw", [0; 6]);
+    }
+    fill(text, at, b"and there are % draws", [draws, 0, 0, 0, 0, 0])
+}
+
+fn one_less(m: usize) -> usize {
+    if m == 0 { 0 } else { m - 1 }
+}
