@@ -1,6 +1,6 @@
 // Is this state in range for this network: the refusal 13; with the network's own 3, 6 and 7 these are the refusals
-// that SEND and RUN share. Every place of every site is looked at, also room beyond a queue's count and beyond S, and no
-// test leaves early. Takes any network and any state.
+// that SEND and RUN share. Every place of every site is looked at, also room beyond a queue's count and beyond S; a place is
+// tested as an empty one or as a used one. Takes any network and any state.
 mod phases;
 mod places;
 

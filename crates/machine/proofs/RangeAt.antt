@@ -1,10 +1,10 @@
--- What the sites of a state in range have: what RUN asks of one, and that every queue fits its room. Assumes nothing.
-use Prim.Native.Nat.{ℕ, _^_, _≤_, _<_}
+-- What the sites of a state in range have: what RUN asks of one. Assumes nothing.
+use Prim.Native.Nat.{ℕ, _^_, _<_}
 use mathlib.Core.Path.{_≡_, refl}
 use mathlib.Core.List.{List}
 use mathlib.Core.Bool.{Bool, true, false, not, _&&_}
 use native.Mathlib.Omega.{arith}
-use borrow.Author.Tests.{ltb-true, leb-true, eqb-true, lt-ltb}
+use borrow.Author.Tests.{ltb-true, eqb-true, lt-ltb}
 use lib.Dec.{eqb, ltb, leb}
 use Rattle.base.specs.Bools.{both, both3, both6, implies, pick, alike, pick-at, either-way}
 use Rattle.base.specs.All.{all, all-at}
@@ -18,9 +18,9 @@ use Rattle.types.specs.declared.State.{State}
 use Rattle.types.specs.declared.Network.{Network}
 use Rattle.types.specs.Numbers.{stateNumber}
 use Rattle.types.specs.Phases.{isFree, connected, splitting, aborting, isNone, isKeep}
-use Rattle.model.specs.Types.{inAt, outAt, siteAt, mark, outOf, outEntry, inEntry}
-use Rattle.model.specs.Range.{inputOk, outputOk, outEntryOk, inEntryOk, outQueueOk, inQueueOk, siteOk, zeroSite, placeOk, inRange}
-use Rattle.model.specs.Range.{tagOk, zeroInput, zeroOutput, zeroOutEntry, zeroInEntry, anyMark, anyRemote, fedBy}
+use Rattle.model.specs.Types.{inAt, outAt, siteAt, mark, outOf}
+use Rattle.model.specs.Range.{inputOk, outputOk, outQueueOk, inQueueOk, siteOk, zeroSite, placeOk, inRange}
+use Rattle.model.specs.Range.{tagOk, zeroInput, zeroOutput, anyMark, anyRemote, fedBy}
 use Rattle.theorems.proofs.Networks.{Valid}
 use Rattle.machine.specs.Step.{Runnable}
 
@@ -33,31 +33,11 @@ module _ (S T D k : ℕ) (x : Site) where
   abbrev outs : Bool
   outs = all (λ j. outputOk S k j (outAt x j)) 5
 
-  -- of the network
-  site-parts : siteOk S T D k x ≡ true
-      → (ins ≡ true) × (outs ≡ true) × (x .outgoing .count ≤ D) × (x .incoming .count ≤ D)
+  site-parts : siteOk S T D k x ≡ true → (ins ≡ true) × (outs ≡ true)
   site-parts h =
-      let out = all (λ m. outEntryOk S k (x .outgoing .count) m (outEntry (x .outgoing) m)) 8 in
-      let inn = all (λ m. inEntryOk S k (x .incoming .count) m (inEntry (x .incoming) m)) 8 in
-      let a = both (ins && outs && outQueueOk S D k (x .outgoing)) (inQueueOk S D k (x .incoming)) h in
-      let b = both3 ins outs (outQueueOk S D k (x .outgoing)) (a .0) in (
-        b .0,
-        b .1,
-        leb-true _ D (both (leb (x .outgoing .count) D) out (b .2) .0),
-        leb-true _ D (both (leb (x .incoming .count) D) inn (a .1) .0),
-      )
-
--- beyond it
-zero-counts : (x : Site) → zeroSite x ≡ true → (x .outgoing .count ≡ 0) × (x .incoming .count ≡ 0)
-zero-counts x h =
-    let ins = all (λ i. zeroInput (inAt x i)) 5 in
-    let outs = all (λ j. zeroOutput (outAt x j)) 5 in
-    let out = all (λ m. zeroOutEntry (outEntry (x .outgoing) m)) 8 in
-    let inn = all (λ m. zeroInEntry (inEntry (x .incoming) m)) 8 in
-    let none = eqb (x .outgoing .count) 0 in
-    let a = both (ins && outs && (none && out)) (eqb (x .incoming .count) 0 && inn) h in
-    let b = both3 ins outs (none && out) (a .0) in
-    (eqb-true _ 0 (both none out (b .2) .0), eqb-true _ 0 (both (eqb (x .incoming .count) 0) inn (a .1) .0))
+      let q = outQueueOk S D k (x .outgoing) in
+      let b = both3 ins outs q (both (ins && outs && q) (inQueueOk S D k (x .incoming)) h .0) in
+      (b .0, b .1)
 
 -- ---- a place's own
 
@@ -105,23 +85,21 @@ module _ (n : Network) (val : Valid n) (st : State) (h : inRange n st ≡ true) 
   abbrev isOk : ℕ → Bool
   isOk s = siteOk (n .sites) (n .tries) (n .depth) (st .counter) (at s)
 
-  place-at : (s : ℕ) → s < 16 → (ltb s (n .sites) ≡ true → isOk s ≡ true) × (ltb s (n .sites) ≡ false → zeroSite (at s) ≡ true)
+  place-at : (s : ℕ) → s < 16 → ltb s (n .sites) ≡ true → isOk s ≡ true
   unfolding inRange
   place-at s hs =
       pick-at (ltb s (n .sites)) (isOk s) (zeroSite (at s))
-      (all-at (λ s. placeOk (n .sites) (n .tries) (n .depth) (st .counter) s (at s)) s 16 hs h)
+      (all-at (λ s. placeOk (n .sites) (n .tries) (n .depth) (st .counter) s (at s)) s 16 hs h) .0
 
   pub range-runnable : (s : ℕ) → s < n .sites → Runnable n s (at s)
   range-runnable s hs =
       let S = n .sites in
       let k = st .counter in
       let x = at s in
-      let parts = site-parts S (n .tries) (n .depth) k x (place-at s (omega (arith, hs, val .few)) .0 (lt-ltb s S hs)) in
+      let parts = site-parts S (n .tries) (n .depth) k x (place-at s (omega (arith, hs, val .few)) (lt-ltb s S hs)) in
       record {
         site = hs;
         few = val .few;
-        deep = val .deep;
-        incoming = omega (arith, parts .3, val .deep);
         feeder = fed-below S k 0 (outAt x 0) (all-at (λ j. outputOk S k j (outAt x j)) 0 5 (omega arith) (parts .1));
         sought =
             λ i hi.

@@ -1,11 +1,12 @@
 -- RUN looks at the inputs at the ends of its own channels alone, and what it passes on goes to one of them. Assumes nothing.
-use Prim.Native.Nat.{ℕ, zero, suc, _-_, _<_}
+use Prim.Native.Nat.{ℕ, zero, suc, _-_, _/_, _%_, _<_}
 use mathlib.Core.Path.{_≡_, refl, sym, ap, ap₂, _∙_}
 use mathlib.Core.List.{List}
 use mathlib.Core.Bool.{Bool, true, false, cond, _&&_}
 use native.Mathlib.Omega.{arith}
-use borrow.Author.Tests.{ltb-true}
-use lib.Dec.{eqb, ltb}
+use borrow.Author.Tests.{ltb-true, le-leb}
+use lib.Dec.{eqb, ltb, leb}
+use Rattle.base.specs.Sizes.{portCount}
 use Rattle.base.specs.Bools.{cond-ok, clash, implies, either-way}
 use Rattle.base.specs.All.{all-same}
 use Rattle.types.specs.declared.Phase.the-variants.{the-data as Phase, Free, Seek, Open, Wait, Done, Last, Abort as Aborted, FinAbort}
@@ -14,18 +15,18 @@ use Rattle.types.specs.declared.Input.{Input}
 use Rattle.types.specs.declared.Output.{Output}
 use Rattle.types.specs.declared.Site.{Site}
 use Rattle.types.specs.declared.Network.{Network}
-use Rattle.model.specs.Types.{inAt, outAt, mark, outOf, setIn, setOut, withInQueue, withOutQueue}
-use Rattle.model.specs.Network.{joined, channel}
+use Rattle.model.specs.Types.{noInput, siteAt, inAt, outAt, mark, outOf, setIn, setOut, withInQueue, withOutQueue}
+use Rattle.model.specs.Network.{joined, channel, isChannel, endPort}
 use Rattle.types.specs.Phases.{listening}
 use Rattle.model.specs.NetInput.{Turn, Stay, To, allReady, hears, ready, inState, netInput}
 use Rattle.model.specs.Places.{Work, Rest, Cleared, Service, localOutput, deliver, channelOutput, outQueue, operator, timeout}
-use Rattle.model.specs.Steps.{Act, ownTurn, passTurn, workDone, setBoth, netOutput, act}
+use Rattle.model.specs.Steps.{Act, ownTurn, passTurn, workDone, setBoth, netOutput, act, farEnd, ends}
 use Rattle.theorems.proofs.Networks.{Valid}
 use Rattle.machine.specs.Step.{ofAct, EndsWithin, Passable, farAt, fourEnds}
 
 -- ---- an output without a channel does nothing
 
-unjoined : (o : Output) (y : Input) → channelOutput false o y ≡ Stay
+pub unjoined : (o : Output) (y : Input) → channelOutput false o y ≡ Stay
 unfolding channelOutput deliver
 unjoined o y =
     cond-ok (λ (t : Turn Output Input). t ≡ Stay) (o .used) _ _
@@ -150,3 +151,20 @@ module _ (n : Network) (val : Valid n) (s : ℕ) (x : Site) (hs : s < n .sites) 
 -- the channels of a valid network end within the sites
 pub valid-bytes : (n : Network) → Valid n → (s : ℕ) → s < n .sites → EndsWithin n s
 valid-bytes n val s hs j hj e = omega (arith, val .ends s j hs hj e, val .few)
+
+-- ---- the far ends as the code reads them
+
+-- y is read by the channel's byte b from the site u at its end
+pub end-seen : (n : Network) (xs : List Site) (s : ℕ) → EndsWithin n s → (j : ℕ) → j < 4 → {b : ℕ} → b ≡ channel n s (suc j) → {u : ℕ} → u ≡ b / 4 % 16
+    → {y : Input} → y ≡ cond (isChannel b) (inAt (siteAt xs u) (endPort b)) noInput → y ≡ ends n xs s (suc j)
+end-seen n xs s within j hj {b = b} e {u = u} eu ey = ey ∙ go (isChannel b) refl ∙ ap byByte e
+  where
+    byByte : ℕ → Input
+    byByte b = cond (leb (suc j) portCount && isChannel b) (farEnd xs b) noInput
+
+    go : (t : Bool) → isChannel b ≡ t → cond t (inAt (siteAt xs u) (endPort b)) noInput ≡ byByte b
+    go true t =
+        let low : b < 64 = omega (arith, e, within j hj (ap isChannel (sym e) ∙ t)) in
+        let there : u ≡ b / 4 = omega (arith, eu, low) in
+        rw (le-leb (suc j) 4 (omega arith), t) (ap (λ (u : ℕ). inAt (siteAt xs u) (endPort b)) there)
+    go false t = rw (le-leb (suc j) 4 (omega arith), t) refl

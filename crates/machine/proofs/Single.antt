@@ -1,6 +1,7 @@
 -- The single events by their refusals, as the code tests them, and RUN by the change that it stores. Assumes nothing.
 use Prim.Native.Nat.{ℕ, _≤_, _<_}
-use mathlib.Core.Path.{_≡_, refl, ap, _∙_}
+use mathlib.Core.Path.{_≡_, refl, ap, ap₂, _∙_}
+use mathlib.Core.List.{List}
 use mathlib.Core.Bool.{Bool, true, false, cond, _&&_}
 use native.Mathlib.Omega.{arith}
 use borrow.Author.Tests.{ne-eqb, ltb-true}
@@ -9,18 +10,23 @@ use Rattle.base.specs.Sizes.{codeCount}
 use Rattle.base.specs.Bools.{first-of}
 use Rattle.sets.specs.Sets.{targets}
 use Rattle.types.specs.declared.Network.{Network}
+use Rattle.types.specs.declared.Site.{Site}
 use Rattle.types.specs.declared.State.{State}
+use Rattle.types.specs.declared.AfterRun.{AfterRun}
 use Rattle.types.specs.declared.Sent.the-variants.{Refused as SendRefused}
-use Rattle.types.specs.declared.Ran.the-variants.{Refused as RunRefused}
+use Rattle.types.specs.declared.Ran.the-variants.{the-data as Ran, Refused as RunRefused}
 use Rattle.model.specs.Types.{siteAt}
 use Rattle.model.specs.Network.{networkRefusal}
 use Rattle.model.specs.Range.{inRange}
 use Rattle.model.specs.Steps.{Act, Idle, Own, Serve, Pass, patch, act, ends, run}
 use Rattle.model.specs.Runs.{trySend}
 use Rattle.model.specs.Events.{refusalThen, runFault, sendFault, runRefusal, sendRefusal, runs, sends, ran, sent}
+use Rattle.theorems.proofs.Networks.{valid-ok}
 use Rattle.theorems.proofs.Refusals.{not-refused}
-use Rattle.machine.specs.Step.{ofAct, stored, farAt, fourEnds}
-use Rattle.machine.proofs.Seen.{act-same, four-at}
+use Rattle.machine.specs.declared.step.Change.{Change}
+use Rattle.machine.specs.declared.store.Seen.{Seen}
+use Rattle.machine.specs.Step.{ofAct, farAt, fourEnds, seenAt, changeOf, Passable, storedState, answerTo, stored}
+use Rattle.machine.proofs.Seen.{act-same, four-at, act-passable}
 
 -- ---- the refusals that all events share
 
@@ -94,12 +100,33 @@ stored-is n st s (Own x) = refl
 stored-is n st s (Serve x q) = refl
 stored-is n st s (Pass x j y) = refl
 
-pub run-stored : (n : Network) (st : State) (s code : ℕ)
-    → let x = siteAt (st .sites) s in
-    stored st s (ofAct n s x (act n s x (farAt (fourEnds (ends n (st .sites) s))) code)) ≡ runs n st s code
-unfolding run
-run-stored n st s code =
-    let x = siteAt (st .sites) s in
-    let far = ends n (st .sites) s in
-    ap (λ (a : Act). stored st s (ofAct n s x a)) (act-same n s x (farAt (fourEnds far)) far (λ j h e. four-at far j h) code)
-    ∙ stored-is n st s (act n s x far code)
+pub run-stored : (n : Network) (st : State) (s code : ℕ) → stored st s (changeOf n (st .sites) s code) ≡ runs n st s code
+unfolding run changeOf
+run-stored n st s code = stored-is n st s (act n s (siteAt (st .sites) s) (ends n (st .sites) s) code)
+
+-- what is seen is enough
+pub change-seen : (n : Network) (xs : List Site) (s code : ℕ) {v : Seen} → v ≡ seenAt n xs s
+    → ofAct n s (v .site) (act n s (v .site) (farAt (v .far)) code) ≡ changeOf n xs s code
+unfolding changeOf
+change-seen n xs s code e =
+    let x = siteAt xs s in
+    let far = ends n xs s in
+    ap (λ (v : Seen). ofAct n s (v .site) (act n s (v .site) (farAt (v .far)) code)) e
+    ∙ ap (ofAct n s x) (act-same n s x (farAt (fourEnds far)) far (λ j h e. four-at far j h) code)
+
+-- at a site of a valid network the change can be stored
+pub change-storable : (n : Network) → networkRefusal n ≡ 0 → (xs : List Site) (s code : ℕ) → s < n .sites → {c : Change}
+    → c ≡ changeOf n xs s code → (s < 16) × Passable c
+unfolding changeOf
+change-storable n ok xs s code h e =
+    let v = valid-ok n ok in
+    (omega (arith, v .few, h), rw e (act-passable n v s (siteAt xs s) h (ends n xs s) code))
+
+-- the answer and the state by themselves
+abbrev left : Ran → State → AfterRun
+left a y = record { answer = a; state = y }
+
+pub run-done : (n : Network) (st : State) (s code : ℕ) {c : Change} → c ≡ changeOf n (st .sites) s code → {a : Ran} → a ≡ answerTo (c .act) s
+    → {y : State} → y ≡ storedState st s c → left a y ≡ runs n st s code
+run-done n st s code e ha hy =
+    ap₂ left ha hy ∙ ap (stored st s) e ∙ run-stored n st s code

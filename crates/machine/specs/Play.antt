@@ -30,12 +30,15 @@ playRefusal b room = orNext (readRefusal b) (cond (ltb room (bookRoom (runOf b))
 abbrev pub noCounts : Counts
 noCounts = record { accepted = 0; pairs = 0; serviced = 0; owed = 0 }
 
+abbrev pub refusedBy : ℕ → PlayAnswer
+refusedBy k = record { refusal = k; counts = noCounts }
+
 -- "The player's answer also holds the packets accepted, their summed set sizes (pairs), the services and the owed pairs
 -- counted over the final state."
 unfoldable pub playAnswer : List ℕ → ℕ → PlayAnswer
 playAnswer b room =
     cond (eqb (playRefusal b room) 0) (record { refusal = 0; counts = countsOf (playedRun (runOf b)) })
-    (record { refusal = playRefusal b room; counts = noCounts })
+    (refusedBy (playRefusal b room))
 
 -- the book of run r in the lent bytes
 abbrev pub bookIn : Run → List ℕ → List ℕ

@@ -2,23 +2,24 @@
 use Prim.Native.Nat.{ℕ, suc, zero, _^_, _≤_, _<_}
 use mathlib.Core.Path.{_≡_}
 use mathlib.Core.List.{List, [], _∷_}
-use mathlib.Core.Bool.{Bool, true, false}
+use mathlib.Core.Bool.{Bool, true, false, cond}
 use lib.ListN.{getD}
 use Rattle.types.specs.declared.Input.{Input}
 use Rattle.types.specs.declared.Site.{Site}
 use Rattle.types.specs.declared.Network.{Network}
 use Rattle.types.specs.declared.State.{State}
 use Rattle.types.specs.declared.AfterRun.{AfterRun}
-use Rattle.types.specs.declared.Ran.the-variants.{Nothing, Changed, Serviced}
-use Rattle.model.specs.Types.{noInput, inputD, inAt, outAt, setSite, setIn, setOut, withInQueue, withOutQueue}
+use Rattle.types.specs.declared.Ran.the-variants.{the-data as Ran, Nothing, Changed, Serviced}
+use Rattle.model.specs.Types.{noInput, inputD, siteAt, inAt, outAt, setSite, setIn, setOut, withInQueue, withOutQueue}
 use Rattle.model.specs.Network.{channel, joined}
 use Rattle.types.specs.Numbers.{stateNumber}
 use Rattle.model.specs.NetInput.{netInput, ready}
 use Rattle.model.specs.Places.{localOutput, channelOutput, outQueue, operator, timeout}
-use Rattle.model.specs.Steps.{Act, Idle, Own, Serve, Pass, setFar, setBoth, ownTurn, passTurn, workDone}
+use Rattle.model.specs.Steps.{Act, Idle, Own, Serve, Pass, setFar, setBoth, ownTurn, passTurn, workDone, act, ends}
 use Rattle.machine.specs.declared.step.Act.the-variants.{the-data as Did, Idle as didNothing, Own as didOwn}
 use Rattle.machine.specs.declared.step.Act.the-variants.{Serve as didServe, Pass as didPass}
 use Rattle.machine.specs.declared.step.Change.{Change}
+use Rattle.machine.specs.declared.store.Seen.{Seen}
 
 abbrev pub unchanged : Site → Change
 unchanged x = record { site = x; input = noInput; byte = 0; act = didNothing }
@@ -32,21 +33,6 @@ ofAct n s x Idle = unchanged x
 ofAct n s x (Own z) = changed z
 ofAct n s x (Serve z q) = record { site = z; input = noInput; byte = 0; act = didServe q }
 ofAct n s x (Pass z j y) = record { site = z; input = y; byte = channel n s j; act = didPass }
-
--- the state and the answer that a change at site s leaves
-abbrev pub storedBy : Did → State → ℕ → Change → AfterRun
-storedBy didNothing st s c = record { answer = Nothing; state = st }
-storedBy didOwn st s c = record { answer = Changed; state = record { sites = setSite (st .sites) s (c .site); counter = st .counter } }
-storedBy (didServe q) st s c =
-    record { answer = Serviced q s; state = record { sites = setSite (st .sites) s (c .site); counter = st .counter } }
-storedBy didPass st s c =
-    record {
-      answer = Changed;
-      state = record { sites = setFar (setSite (st .sites) s (c .site)) (c .byte) (c .input); counter = st .counter };
-    }
-
-abbrev pub stored : State → ℕ → Change → AfterRun
-stored st s c = storedBy (c .act) st s c
 
 -- of the ports 1 to 4, as arrays: the inputs at the ends of the channels, and which have one
 abbrev pub farAt : List Input → ℕ → Input
@@ -95,22 +81,32 @@ timeoutAct x =
 pub record Runnable (n : Network) (s : ℕ) (x : Site) : Type 0 where
   pub site : s < n .sites
   pub few : n .sites ≤ 16
-  pub deep : n .depth ≤ 8
-  pub incoming : x .incoming .count ≤ 8
   pub feeder : outAt x 0 .input < 5
   pub sought : (i : ℕ) → i < 5 → stateNumber (inAt x i .phase) ≡ 1 → (0 < inAt x i .set) × (inAt x i .set < 2 ^ n .sites)
+
+-- the channels of site s end within the array of sites
+abbrev pub EndsWithin : Network → ℕ → Type 0
+EndsWithin n s = (j : ℕ) → j < 4 → joined n s (suc j) ≡ true → channel n s (suc j) < 64
+
+-- ---- what RUN sees, does and stores
 
 -- the ends of the four channels as an array
 abbrev pub fourEnds : (ℕ → Input) → List Input
 fourEnds f = f 1 ∷ f 2 ∷ f 3 ∷ f 4 ∷ []
 
--- the two stores of an input passed on
-abbrev pub passed : State → ℕ → Site → ℕ → Input → State
-passed st s x b y = record { sites = setFar (setSite (st .sites) s x) b y; counter = st .counter }
+-- what RUN sees at site s
+abbrev pub seenAt : Network → List Site → ℕ → Seen
+seenAt n xs s = record { site = siteAt xs s; far = fourEnds (ends n xs s) }
 
--- the channels of site s end within the array of sites
-abbrev pub EndsWithin : Network → ℕ → Type 0
-EndsWithin n s = (j : ℕ) → j < 4 → joined n s (suc j) ≡ true → channel n s (suc j) < 64
+-- what RUN does at site s
+unfoldable pub changeOf : Network → List Site → ℕ → ℕ → Change
+changeOf n xs s code = ofAct n s (siteAt xs s) (act n s (siteAt xs s) (ends n xs s) code)
+
+abbrev pub isIdle : Did → Bool
+isIdle didNothing = true
+isIdle didOwn = false
+isIdle (didServe q) = false
+isIdle didPass = false
 
 abbrev pub isPass : Did → Bool
 isPass didNothing = false
@@ -118,5 +114,28 @@ isPass didOwn = false
 isPass (didServe q) = false
 isPass didPass = true
 
+-- an input that is passed on has a place
 abbrev pub Passable : Change → Type 0
 Passable c = isPass (c .act) ≡ true → c .byte < 64
+
+-- the site stored, and the two stores of an input passed on
+abbrev pub owned : State → ℕ → Site → State
+owned st s x = record { sites = setSite (st .sites) s x; counter = st .counter }
+
+abbrev pub passed : State → ℕ → Site → ℕ → Input → State
+passed st s x b y = record { sites = setFar (setSite (st .sites) s x) b y; counter = st .counter }
+
+-- the state that a change at site s leaves, and RUN's answer to it
+abbrev pub storedState : State → ℕ → Change → State
+storedState st s c =
+    cond (isIdle (c .act)) st
+    (cond (isPass (c .act)) (passed st s (c .site) (c .byte) (c .input)) (owned st s (c .site)))
+
+abbrev pub answerTo : Did → ℕ → Ran
+answerTo didNothing s = Nothing
+answerTo didOwn s = Changed
+answerTo (didServe q) s = Serviced q s
+answerTo didPass s = Changed
+
+abbrev pub stored : State → ℕ → Change → AfterRun
+stored st s c = record { answer = answerTo (c .act) s; state = storedState st s c }

@@ -7,8 +7,11 @@ ghost use Rattle.model.specs.Network.{networkRefusal};
 ghost use Rattle.model.specs.Range.{inRange};
 ghost use Rattle.model.specs.Events as spec;
 ghost use Rattle.model.specs.Runs.{trySend};
+ghost use Rattle.machine.specs.Step.{changeOf};
+use crate::step::Change;
 use crate::step::step;
-use crate::store::far_inputs;
+use crate::store::answer_to;
+use crate::store::seen_at;
 use crate::store::store_change;
 use rules::empty_output;
 use rules::free_input;
@@ -65,15 +68,28 @@ pub fn empty_state() -> State
     }
 }
 
+// What RUN does on a state in range of a valid network: the core step on what it sees there.
+pub(crate) fn change_of(network: Network, state: State, s: usize, code: usize) -> Change
+    requires { ⌜ (networkRefusal network ≡ 0) × (inRange network state ≡ true) × (s < network .sites) ⌝ }
+    ensures { λ r. ⌜ r ≡ changeOf network (state .sites) s code ⌝ }
+{
+    let seen = seen_at(network, state, s);
+    let site = seen.site;
+    let far = seen.far;
+    step(network, s, site, far, code)
+}
+
 // RUN on a state in range of a valid network.
-pub(crate) fn run_checked(network: Network, state: State, s: usize, code: usize) -> AfterRun
+fn run_checked(network: Network, state: State, s: usize, code: usize) -> AfterRun
     requires { ⌜ (networkRefusal network ≡ 0) × (inRange network state ≡ true) × (s < network .sites) ⌝ }
     ensures { λ r. ⌜ r ≡ spec.runs network state s code ⌝ }
 {
-    let site = state.sites[s];
-    let far = far_inputs(network, state, s);
-    let change = step(network, s, site, far, code);
-    store_change(state, s, change)
+    let change = change_of(network, state, s, code);
+    let act = change.act;
+    AfterRun {
+        answer: answer_to(act, s),
+        state: store_change(state, s, change),
+    }
 }
 
 // RUN (site, code): the answer and the next state; a refusal hands the state back.

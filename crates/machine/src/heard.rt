@@ -24,12 +24,21 @@ fn is_ready(output: Output) -> bool
     output.used & output.head & true
 }
 
+// The byte of the channel of output j + 1 of site s.
+pub(crate) fn channel_byte(network: Network, s: usize, j: usize) -> u8
+    requires { ⌜ (s < 16) × (j < 4) ⌝ }
+    ensures { λ r. ⌜ r ≡ net.channel network s (suc j) ⌝ }
+{
+    let channels = network.channels;
+    channels[4 * s + j]
+}
+
 // Whether output j + 1 of site s has a channel.
 fn is_joined(network: Network, s: usize, j: usize) -> bool
     requires { ⌜ (s < 16) × (j < 4) ⌝ }
     ensures { λ r. ⌜ r ≡ net.joined network s (suc j) ⌝ }
 {
-    let byte = network.channels[4 * s + j];
+    let byte = channel_byte(network, s, j);
     is_channel(byte)
 }
 

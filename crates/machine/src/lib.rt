@@ -19,6 +19,7 @@ pub use events::send;
 pub use owing::site_pairs;
 pub use player::PlayAnswer;
 pub use player::play;
+pub use player::refused;
 pub use player::start;
 pub use turns::book_room;
 pub use turns::capped;

@@ -3,13 +3,15 @@
 ghost use mathlib.Core.Path.{_≡_};
 ghost use lib.ListN.{length};
 ghost use Rattle.model.specs.Runs.{playedRun, countsOf};
-ghost use Rattle.machine.specs.Play.{playAnswer, playBook, bookIn, runWith, Playable, startOf};
+ghost use Rattle.machine.specs.Play.{refusedBy, playAnswer, playBook, bookIn, runWith, Playable, startOf};
 use crate::clock::Clock;
 use crate::clock::ticked;
+use crate::events::change_of;
 use crate::events::empty_state;
-use crate::events::run_checked;
 use crate::events::try_send;
 use crate::owing::owed_pairs;
+use crate::store::answer_to;
+use crate::store::store_change;
 use crate::turns::book_room;
 use crate::turns::capped;
 use crate::turns::enter_answer;
@@ -24,6 +26,21 @@ use types::StoredSend;
 pub struct PlayAnswer {
     pub refusal: u8,
     pub counts: Counts,
+}
+
+// The answer with a refusal.
+pub fn refused(refusal: u8) -> PlayAnswer
+    ensures { λ r. ⌜ r ≡ refusedBy refusal ⌝ }
+{
+    PlayAnswer {
+        refusal,
+        counts: Counts {
+            accepted: 0,
+            pairs: 0,
+            serviced: 0,
+            owed: 0,
+        },
+    }
 }
 
 // A valid run played from the empty state, the book large enough: one state, advanced draw by draw by the core step by value.
@@ -73,9 +90,11 @@ fn play_run(
         }
         clock = ticked(clock);
         let named = draws::event_of(clock.value, network.sites);
-        let after = run_checked(network, state, named.site, named.code);
-        let answer = after.answer;
-        state = after.state;
+        let s = named.site;
+        let change = change_of(network, state, s, named.code);
+        let act = change.act;
+        state = store_change(state, s, change);
+        let answer = answer_to(act, s);
         serviced = enter_answer(book, serviced, d, answer);
     }
     let owed = owed_pairs(state);
@@ -124,15 +143,7 @@ pub fn play(bytes: &[u8], book: &mut [u8]) -> PlayAnswer
     let seed = run.seed;
     let draws = run.draws;
     if refusal != 0 {
-        return PlayAnswer {
-            refusal,
-            counts: Counts {
-                accepted: 0,
-                pairs: 0,
-                serviced: 0,
-                owed: 0,
-            },
-        };
+        return refused(refusal);
     }
     let counts = play_run(network, sends, count, seed, draws, book);
     PlayAnswer { refusal: 0, counts }

@@ -1,11 +1,12 @@
 // RUN on a site by value: what the event sees in (the site, the inputs at the ends of its channels), what becomes of it out.
 ghost use mathlib.Core.Path.{_≡_};
-ghost use Prim.Native.Nat.{_<_, _≤_};
+ghost use Prim.Native.Nat.{_<_};
 ghost use mathlib.Core.Bool.{cond};
 ghost use Rattle.model.specs.Types as spec;
 ghost use Rattle.model.specs.Steps as steps;
 ghost use Rattle.machine.specs.Step.{ofAct, unchanged, changed, farAt, Runnable};
 ghost use Rattle.machine.specs.Step.{inputAct, localAct, channelAct, queueAct, operatorAct, timeoutAct};
+use crate::heard::channel_byte;
 use crate::heard::ends_there;
 use crate::heard::is_channel;
 use crate::heard::ready_outputs;
@@ -89,7 +90,6 @@ fn input_step(network: Network, s: usize, site: Site, far: [Input; base::PORTS],
 
 // Code 5: net-output 0.
 fn local_step(network: Network, s: usize, site: Site) -> Change
-    requires { ⌜ (network .depth ≤ 8) × (site .incoming .count ≤ 8) ⌝ }
     ensures { λ r. ⌜ r ≡ ofAct network s site (localAct network site) ⌝ }
 {
     let depth = network.depth;
@@ -118,7 +118,7 @@ fn channel_step(
 {
     let output = site.outputs[j + 1];
     let input = far[j];
-    let byte = network.channels[4 * s + j];
+    let byte = channel_byte(network, s, j);
     let there = is_channel(byte);
     let turn = channel_output(there, output, input);
     let now = turn.output;
@@ -154,7 +154,6 @@ fn queue_step(network: Network, s: usize, site: Site) -> Change
 
 // Code 11: the operator.
 fn operator_step(network: Network, s: usize, site: Site) -> Change
-    requires { ⌜ network .depth ≤ 8 ⌝ }
     ensures { λ r. ⌜ r ≡ ofAct network s site (operatorAct network s site) ⌝ }
 {
     let depth = network.depth;
@@ -182,7 +181,7 @@ fn operator_step(network: Network, s: usize, site: Site) -> Change
 
 // Code 12: the timeout.
 fn timeout_step(network: Network, s: usize, site: Site) -> Change
-    requires { ⌜ (site .incoming .count ≤ 8) × (spec.outAt site 0 .input < 5) ⌝ }
+    requires { ⌜ spec.outAt site 0 .input < 5 ⌝ }
     ensures { λ r. ⌜ r ≡ ofAct network s site (timeoutAct site) ⌝ }
 {
     let own = site.outputs[0];

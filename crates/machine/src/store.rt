@@ -1,56 +1,76 @@
-// What RUN sees of a state, and what it leaves of it: the site, then the far input into the changed sites.
+// What RUN sees of a state, and what it leaves of it: the site, then the far input into the changed sites. A function
+// that reads or stores a site by its number has a copy of the State to itself: so one reads all that RUN sees, and
+// where RUN is idle none stores.
 ghost use mathlib.Core.Path.{_≡_};
-ghost use Prim.Native.Nat.{suc, _<_};
-ghost use Rattle.model.specs.Steps as steps;
-ghost use Rattle.machine.specs.Step.{stored, passed, fourEnds, EndsWithin, Passable};
+ghost use mathlib.Core.Bool.{cond};
+ghost use Prim.Native.Nat.{_<_, _/_, _%_};
+ghost use Rattle.model.specs.Types.{noInput, inAt};
+ghost use Rattle.model.specs.Network.{isChannel, endPort};
+ghost use Rattle.machine.specs.Step.{seenAt, storedState, answerTo, passed, isIdle, isPass, EndsWithin, Passable};
+use crate::heard::channel_byte;
 use crate::heard::is_channel;
 use crate::step::Act;
 use crate::step::Change;
 use rules::free_input;
-use types::AfterRun;
 use types::Input;
 use types::Network;
 use types::Ran;
 use types::Site;
 use types::State;
 
-// The input at the end of a channel.
-fn end_of(state: State, byte: u8) -> Input
-    requires { ⌜ byte < 64 ⌝ }
-    ensures { λ r. ⌜ r ≡ steps.farEnd (state .sites) byte ⌝ }
-{
-    let u = (byte / 4) as usize;
-    let k = (byte % 4) as usize + 1;
-    let site = state.sites[u];
-    site.inputs[k]
+// What RUN sees at a site: the site, and the inputs at the ends of its four channels.
+pub struct Seen {
+    pub site: Site,
+    pub far: [Input; base::PORTS],
 }
 
-// The input at the end of channel j + 1 of site s; a free one where there is no channel.
-pub(crate) fn far_input(network: Network, state: State, s: usize, j: usize) -> Input
-    requires { ⌜ (s < 16) × (j < 4) ⌝ ∗ ⌜ EndsWithin network s ⌝ }
-    ensures { λ r. ⌜ r ≡ steps.ends network (state .sites) s (suc j) ⌝ }
+// The site at the end of a channel; where there is no channel some site.
+fn end_site(byte: u8) -> usize
+    ensures { λ r. ⌜ r ≡ byte / 4 % 16 ⌝ }
 {
-    let byte = network.channels[4 * s + j];
+    (byte / 4) as usize % base::SITES
+}
+
+// The input at the end of a channel, of the site there; a free one where there is no channel.
+fn end_of(site: Site, byte: u8) -> Input
+    ensures { λ r. ⌜ r ≡ cond (isChannel byte) (inAt site (endPort byte)) noInput ⌝ }
+{
+    let inputs = site.inputs;
     if is_channel(byte) {
-        return end_of(state, byte);
+        let k = (byte % 4) as usize + 1;
+        return inputs[k];
     }
     free_input()
 }
 
-// The inputs at the ends of the four channels of site s.
-pub(crate) fn far_inputs(network: Network, state: State, s: usize) -> [Input; base::PORTS]
+// What RUN sees at site s.
+pub(crate) fn seen_at(network: Network, state: State, s: usize) -> Seen
     requires { ⌜ s < 16 ⌝ ∗ ⌜ EndsWithin network s ⌝ }
-    ensures { λ r. ⌜ r ≡ fourEnds (steps.ends network (state .sites) s) ⌝ }
+    ensures { λ r. ⌜ r ≡ seenAt network (state .sites) s ⌝ }
 {
-    let a = far_input(network, state, s, 0);
-    let b = far_input(network, state, s, 1);
-    let c = far_input(network, state, s, 2);
-    let d = far_input(network, state, s, 3);
-    [a, b, c, d]
+    let first = channel_byte(network, s, 0);
+    let second = channel_byte(network, s, 1);
+    let third = channel_byte(network, s, 2);
+    let fourth = channel_byte(network, s, 3);
+    let site = state.sites[s];
+    let a = state.sites[end_site(first)];
+    let b = state.sites[end_site(second)];
+    let c = state.sites[end_site(third)];
+    let d = state.sites[end_site(fourth)];
+    Seen {
+        site,
+        far: [
+            end_of(a, first),
+            end_of(b, second),
+            end_of(c, third),
+            end_of(d, fourth),
+        ],
+    }
 }
 
-// Site s becomes `site`, then the input at the end of the channel with this byte becomes `input`: it may be of that very site.
-pub(crate) fn pass_on(state: State, s: usize, site: Site, byte: u8, input: Input) -> State
+// Site s becomes `site`, then the input at the end of the channel with this byte becomes `input`: it may be of that
+// very site.
+fn pass_on(state: State, s: usize, site: Site, byte: u8, input: Input) -> State
     requires { ⌜ (s < 16) × (byte < 64) ⌝ }
     ensures { λ r. ⌜ r ≡ passed state s site byte input ⌝ }
 {
@@ -64,38 +84,59 @@ pub(crate) fn pass_on(state: State, s: usize, site: Site, byte: u8, input: Input
     next
 }
 
-// The state after a change at site s, and RUN's answer.
-pub(crate) fn store_change(state: State, s: usize, change: Change) -> AfterRun
+// Whether RUN does nothing.
+fn is_idle(act: Act) -> bool
+    ensures { λ r. ⌜ r ≡ isIdle act ⌝ }
+{
+    match act {
+        Act::Idle => true,
+        Act::Own => false,
+        Act::Serve(_) => false,
+        Act::Pass => false,
+    }
+}
+
+// Whether RUN changes the input at the end of a channel.
+fn is_pass(act: Act) -> bool
+    ensures { λ r. ⌜ r ≡ isPass act ⌝ }
+{
+    match act {
+        Act::Idle => false,
+        Act::Own => false,
+        Act::Serve(_) => false,
+        Act::Pass => true,
+    }
+}
+
+// The state after a change at site s; where nothing changes it is handed back as it is.
+pub(crate) fn store_change(state: State, s: usize, change: Change) -> State
     requires { ⌜ s < 16 ⌝ ∗ ⌜ Passable change ⌝ }
-    ensures { λ r. ⌜ r ≡ stored state s change ⌝ }
+    ensures { λ r. ⌜ r ≡ storedState state s change ⌝ }
 {
     let act = change.act;
     let site = change.site;
     let input = change.input;
     let byte = change.byte;
+    if is_idle(act) {
+        return state;
+    }
+    if is_pass(act) {
+        return pass_on(state, s, site, byte, input);
+    }
     let mut next = state;
+    next.sites[s] = site;
+    next
+}
+
+// RUN's answer to what it did at site s.
+pub(crate) fn answer_to(act: Act, s: usize) -> Ran
+    requires { ⌜ s < 16 ⌝ }
+    ensures { λ r. ⌜ r ≡ answerTo act s ⌝ }
+{
     match act {
-        Act::Idle => AfterRun {
-            answer: Ran::Nothing,
-            state,
-        },
-        Act::Own => {
-            next.sites[s] = site;
-            AfterRun {
-                answer: Ran::Changed,
-                state: next,
-            }
-        }
-        Act::Serve(packet) => {
-            next.sites[s] = site;
-            AfterRun {
-                answer: Ran::Serviced(packet, s as u8),
-                state: next,
-            }
-        }
-        Act::Pass => AfterRun {
-            answer: Ran::Changed,
-            state: pass_on(state, s, site, byte, input),
-        },
+        Act::Idle => Ran::Nothing,
+        Act::Own => Ran::Changed,
+        Act::Serve(packet) => Ran::Serviced(packet, s as u8),
+        Act::Pass => Ran::Changed,
     }
 }

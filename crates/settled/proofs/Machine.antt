@@ -8,6 +8,7 @@ use Rattle.machine.proofs.run as the-run
 use Rattle.machine.proofs.send as the-send
 use Rattle.machine.proofs.site_pairs as the-site-pairs
 use Rattle.machine.proofs.play as the-play
+use Rattle.machine.proofs.refused as the-refused
 use Rattle.machine.proofs.start as the-start
 use Rattle.machine.proofs.tick as the-tick
 use Rattle.machine.proofs.ticked as the-ticked
@@ -36,6 +37,9 @@ site-pairs-settled = settled (λ κs a x y p q. refl) (λ κs a x y p q i. (same
 pub play-settled : Settles the-play.ended (λ M. the-play.clauses) (λ M. the-play.spec)
 play-settled = settled (λ κs a. beside value (beside (behind (inputs the-play.ended κs .1 .0)) value))
     (λ κs a x y p q i. (same (p .0) (q .0) i, (tt, (same (p .1) (q .1) i, tt))))
+
+pub refused-settled : Settles the-refused.ended (λ M. the-refused.clauses) (λ M. the-refused.spec)
+refused-settled = settled (λ κs a x y p q. refl) (λ κs a x y p q i. (same p q i, x .1))
 
 -- the refusal and the run; the contract says besides what a run that is not refused has
 pub start-settled : Settles the-start.ended (λ M. the-start.clauses) (λ M. the-start.spec)

@@ -5,7 +5,7 @@ use mathlib.Core.List.{List}
 use Prim.Native.Nat.{ℕ}
 use Rattle.types.specs.declared.Sent.the-variants.{the-data as Sent}
 use Rattle.types.specs.declared.Ran.the-variants.{the-data as Ran}
-use Rattle.words.specs.Public.{RanWords, SentWords}
+use Rattle.layout.specs.Public.{RanWords, SentWords}
 use Rattle.settled.specs.Outcomes.{Settles}
 use Rattle.settled.proofs.Shown.{settled, value, beside, behind, inputs, same}
 use Rattle.words.proofs.owed as the-owed

@@ -1,7 +1,7 @@
 -- What RUN decides and what its code has stored. Assumes what each law names.
 use mathlib.Core.Path.{_≡_, refl, sym, ap, ap₂, subst, _∙_}
 use mathlib.Core.List.{List}
-use mathlib.Core.Bool.{Bool, true, false, cond, _||_}
+use mathlib.Core.Bool.{Bool, true, false, not, _||_}
 use Prim.Native.Nat.{ℕ, suc, _+_}
 use native.Mathlib.Numerals.{add-one}
 use borrow.Author.Tests.{eq-eqb}
@@ -26,13 +26,37 @@ use Rattle.rules.specs.declared.places.ChannelTurn.{ChannelTurn}
 use Rattle.rules.specs.declared.places.QueueTurn.{QueueTurn}
 use Rattle.rules.specs.declared.work.OperatorTurn.{OperatorTurn}
 use Rattle.rules.specs.Turns.{ofLocalTurn, ofChannelTurn, ofQueueTurn, ofWork, ofInputTurn}
-use Rattle.words.specs.Layout.{wordCount}
-use Rattle.words.specs.Words.{sitesOf}
-use Rattle.words.specs.Stored.{Stored}
-use Rattle.words.specs.Events.{Did, DidOwn, DidPass, siteIn, endOf, atRest, localAct, queueAct, operatorAct, timeoutAct}
+use Rattle.layout.specs.Layout.{wordCount}
+use Rattle.layout.specs.Words.{sitesOf}
+use Rattle.layout.specs.Stored.{Stored}
+use Rattle.words.specs.Events.{Did, DidOwn, DidPass, siteIn, endOf}
+use Rattle.rules.specs.Acts.{localAct, queueAct, operatorAct, timeoutAct}
+use Rattle.layout.specs.Idle.{atRest}
 use Rattle.words.specs.Events.{localBack, channelBack, queueBack, inputBack, workBack}
-use Rattle.words.proofs.Chained.{stays}
-use Rattle.words.proofs.Rests.{local-idle, queue-idle, operator-idle, timeout-idle, channel-rests, pass-none}
+use Rattle.layout.proofs.Chained.{stays}
+use Rattle.layout.proofs.Rests.{local-rests, queue-rests, operator-rests, timeout-rests, channel-rests}
+use Rattle.machine.proofs.Seen.{unjoined}
+
+-- ---- the arms that have nothing to do
+
+pub local-idle : (D : ℕ) (x : Site) → atRest (outAt x 0) ≡ true → localAct D x ≡ Idle
+local-idle D x h = ap (ownTurn (λ o iq. setOut (withInQueue x iq) 0 o)) (local-rests D (outAt x 0) (x .incoming) h)
+
+pub queue-idle : (x : Site) → eqb (x .outgoing .count) 0 ≡ true → queueAct x ≡ Idle
+queue-idle x h = ap (ownTurn (λ oq y. setIn (withOutQueue x oq) 0 y)) (queue-rests (x .outgoing) (inAt x 0) h)
+
+pub operator-idle : (D s : ℕ) (x : Site) → (eqb (x .incoming .count) 0 || isNone (inEntry (x .incoming) 0 .terminator)) ≡ true
+    → operatorAct D s x ≡ Idle
+operator-idle D s x h = ap (workDone x) (operator-rests D s (x .incoming) (x .outgoing) h)
+
+pub timeout-idle : (x : Site) → stalled (outAt x 0) ≡ false → timeoutAct x ≡ Idle
+timeout-idle x h =
+    ap (ownTurn (setBoth x (outAt x 0 .input)))
+    (timeout-rests (x .incoming) (x .outputs) (inAt x (outAt x 0 .input)) (ap not h))
+
+-- an output 1 to 4 without a channel
+pub pass-none : (o : Output) (y : Input) (b : ℕ) → isChannel b ≡ false → channelOutput (isChannel b) o y ≡ Stay
+pass-none o y b e = rw e (unjoined o y)
 
 -- ---- what a rule's struct says is what the rule decided
 

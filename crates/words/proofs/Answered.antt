@@ -22,12 +22,12 @@ use Rattle.model.specs.Steps.{Act, Idle, Own, Serve, Pass, act, ends, patch, ru
 use Rattle.model.specs.Events.{refusalThen, runRefusal, sendRefusal, runs, ran, sent}
 use Rattle.model.specs.Runs.{trySend}
 use Rattle.theorems.proofs.Refusals.{ran-ways, sent-ways}
-use Rattle.words.specs.Layout.{wordCount}
-use Rattle.words.specs.Words.{sitesOf, stateOf, wordsOf, canonical, isState}
-use Rattle.words.specs.Stored.{Stored}
+use Rattle.layout.specs.Layout.{wordCount}
+use Rattle.layout.specs.Words.{sitesOf, stateOf, wordsOf, canonical, isState}
+use Rattle.layout.specs.Stored.{Stored}
 use Rattle.words.specs.Events.{Did, Took, siteIn, tried}
-use Rattle.words.specs.Public.{RanWords, SentWords, ofRan, ofSent, formRefusal, ranWords, sentWords, sharedRefusal}
-use Rattle.words.proofs.Settled.{packed}
+use Rattle.layout.specs.Public.{RanWords, SentWords, ofRan, ofSent, formRefusal, ranWords, sentWords, sharedRefusal}
+use Rattle.layout.proofs.Settled.{packed}
 use Rattle.words.proofs.Taken.{tried-is}
 use Rattle.words.proofs.Publics.{fit}
 

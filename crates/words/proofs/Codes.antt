@@ -7,6 +7,7 @@ use native.Mathlib.Omega.{arith}
 use borrow.Author.Tests.{lt-ltb, le-ltb, le-leb, ne-eqb}
 use lib.Dec.{eqb, ltb, leb}
 use lib.ListN.{length, getD}
+use Rattle.base.specs.Sizes.{sitesMost, inputCount}
 use Rattle.types.specs.declared.Input.{Input}
 use Rattle.types.specs.declared.Network.{Network}
 use Rattle.types.specs.declared.Site.{Site}
@@ -15,19 +16,19 @@ use Rattle.model.specs.Types.{outAt, noInput}
 use Rattle.model.specs.Network.{channel, isChannel}
 use Rattle.model.specs.Places.{channelOutput}
 use Rattle.model.specs.Steps.{Idle, passTurn, netOutput, act, ends, farEnd}
-use Rattle.words.specs.Layout.{wordCount}
-use Rattle.words.specs.Words.{sitesOf}
-use Rattle.words.specs.Events.{Did, DidPass, Runnable, Seekable, EndsWithin, networkOf, siteIn, endOf}
-use Rattle.words.specs.Events.{inputAct, localAct, queueAct, operatorAct, timeoutAct}
+use Rattle.layout.specs.Layout.{wordCount}
+use Rattle.layout.specs.Words.{sitesOf}
+use Rattle.words.specs.Events.{Did, DidPass, RunAsks, Seekable, BytesWithin, networkBy, siteIn, endOf}
+use Rattle.rules.specs.Acts.{inputAct, localAct, queueAct, operatorAct, timeoutAct}
 use Rattle.words.proofs.Acts.{did-nothing}
 
 -- ---- what the arms ask
 
-module _ (S D T : ℕ) (l m c : List ℕ) (s : ℕ) (ok : Runnable (networkOf S D T l m) c s) where
-  pub below : s < 16
+module _ (S D T : ℕ) (l m c : List ℕ) (s : ℕ) (ok : RunAsks (networkBy S D T l m) c s) where
+  pub below : s < sitesMost
   below = omega (arith, ok .site, ok .few)
 
-  pub seekable : (i : ℕ) → i < 5 → Seekable m S c s i
+  pub seekable : (i : ℕ) → i < inputCount → Seekable m S c s i
   seekable i h =
       record { site = ok .site; few = ok .few; words = ok .words; routes = ok .routes; set = λ e. ok .sought i h e }
 

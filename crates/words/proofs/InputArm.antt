@@ -1,15 +1,13 @@
 -- Codes 0 to 4 in place: readiness by the packed words, and what each way of the code makes of the definition. Assumes what each law names.
 use mathlib.Core.Path.{_≡_, refl, sym, ap, subst, _∙_}
-use mathlib.Core.List.{List, [], _∷_}
-use mathlib.Core.Bool.{Bool, true, false, cond, _&&_, _||_}
-use Prim.Native.Nat.{ℕ, zero, suc, _+_, _*_, _/_, _%_, _<_, _≤_}
+use mathlib.Core.List.{List, _∷_}
+use mathlib.Core.Bool.{Bool, true, _&&_, _||_}
+use Prim.Native.Nat.{ℕ, suc, _+_, _*_, _/_, _%_, _<_, _≤_}
 use native.Mathlib.Numerals.{add-one}
-use native.Mathlib.Omega.{arith}
 use borrow.Author.Tests.{lt-ltb, le-leb, eq-eqb}
-use lib.Dec.{eqb, ltb, leb}
-use lib.ListN.{length, getD}
-use Rattle.base.specs.Bools.{and, implies}
-use Rattle.base.specs.All.{all-same}
+use lib.Dec.{eqb}
+use lib.ListN.{length}
+use Rattle.base.specs.Bools.{and}
 use Rattle.base.specs.Sizes.{sitesMost}
 use Rattle.sets.specs.Sets.{targets}
 use Rattle.types.specs.Numbers.{stateNumber}
@@ -23,28 +21,32 @@ use Rattle.types.specs.declared.Ran.the-variants.{the-data as Ran, Nothing}
 use Rattle.model.specs.Types.{siteAt, inAt, mark}
 use Rattle.model.specs.Network.{isChannel, joined}
 use Rattle.model.specs.Router.{Choice as ModelChoice, route}
-use Rattle.model.specs.NetInput.{Turn, Stay, hears, ready, allReady, inState, netInput, seek}
-use Rattle.model.specs.Steps.{Idle, ownTurn, setBoth, ends, farEnd}
+use Rattle.model.specs.NetInput.{Turn, hears, ready, netInput, seek}
+use Rattle.model.specs.Steps.{ownTurn, setBoth, ends}
 use Rattle.rules.specs.declared.router.Choice.{Choice}
 use Rattle.rules.specs.declared.inputs.InputTurn.{InputTurn}
 use Rattle.rules.specs.Router.{ofChoice, routesOnly, askedBy}
 use Rattle.rules.specs.Turns.{ofInputTurn, otherTurn, seekTurn, toChoice}
 use Rattle.rules.proofs.Asked.{route-same}
 use Rattle.rules.proofs.ByNumber.{other-is, seek-is, choice-back}
-use Rattle.words.specs.Layout.{wordCount}
-use Rattle.words.specs.Words.{sitesOf}
-use Rattle.words.specs.Events.{Did, DidOwn, DidReady, DidInput, DidSought, networkOf, siteIn, endOf, stands, waits}
-use Rattle.words.specs.Events.{inputAct, inputBack, readyFlags, sought, Seekable}
+use Rattle.machine.specs.Step.{flags}
+use Rattle.machine.proofs.Ready.{by-flags}
+use Rattle.layout.specs.Layout.{wordCount}
+use Rattle.layout.specs.Words.{sitesOf}
+use Rattle.words.specs.Events.{Did, DidOwn, DidReady, DidInput, DidSought, networkBy, siteIn, endOf}
+use Rattle.layout.specs.Idle.{waits}
+use Rattle.words.specs.Events.{inputBack, readyFlags, sought, Seekable}
+use Rattle.rules.specs.Acts.{inputAct}
 use Rattle.words.proofs.Acts.{did-nothing, input-done}
-use Rattle.words.proofs.Rests.{quiet-stays, stands-stays}
+use Rattle.layout.proofs.Rests.{quiet-stays, stands-stays}
 
 -- the router asked by the parts of a network
 asked-is : (m : List ℕ) (S D T : ℕ) (l : List ℕ) (s : ℕ) (os : List Output) (X : ℕ) → s < S → S ≤ sitesMost
     → length m ≡ sitesMost * sitesMost → targets S X ≡ true
-    → askedBy m S s os X ≡ route (networkOf S D T l m) s os X
+    → askedBy m S s os X ≡ route (networkBy S D T l m) s os X
 asked-is m S D T l s os X a b e t =
     rw (lt-ltb s S a, le-leb S sitesMost b, eq-eqb (length m) (sitesMost * sitesMost) e, t)
-    (route-same (routesOnly S m) (networkOf S D T l m) refl refl s os X)
+    (route-same (routesOnly S m) (networkBy S D T l m) refl refl s os X)
 
 -- ---- the input at a channel's end
 
@@ -65,9 +67,6 @@ heard-by xs b byte k e there f =
 
 -- ---- which outputs are ready
 
-abbrev flags : (ℕ → Bool) → List Bool
-flags f = f 0 ∷ f 1 ∷ f 2 ∷ f 3 ∷ f 4 ∷ []
-
 -- the outputs of site s of a network n that are ready
 abbrev readyIn : Network → List Site → ℕ → ℕ → Bool
 readyIn n xs s = ready (joined n s) (ends n xs s) (siteAt xs s .outputs)
@@ -75,31 +74,6 @@ readyIn n xs s = ready (joined n s) (ends n xs s) (siteAt xs s .outputs)
 flags-are : (n : Network) (xs : List Site) (s : ℕ) → readyFlags (n .channels) xs s ≡ flags (readyIn n xs s)
 unfolding hears
 flags-are n xs s = refl
-
-flag-at : (f : ℕ → Bool) (j : ℕ) → j < 5 → mark (flags f) j ≡ f j
-flag-at f zero h = refl
-flag-at f (suc zero) h = refl
-flag-at f (suc (suc zero)) h = refl
-flag-at f (suc (suc (suc zero))) h = refl
-flag-at f (suc (suc (suc (suc zero)))) h = refl
-flag-at f (suc (suc (suc (suc (suc j))))) h = absurd (omega arith)
-
-all-flags : (f : ℕ → Bool) (bs : List Bool) → allReady (mark (flags f)) bs ≡ allReady f bs
-all-flags f bs =
-    all-same (λ j. implies (mark bs j) (mark (flags f) j)) (λ j. implies (mark bs j) (f j)) 5
-    (λ j h. ap (λ (b : Bool). implies (mark bs j) b) (flag-at f j h))
-
-by-flags : (n : Network) (s i : ℕ) (y : Input) (os : List Output) (f : ℕ → Bool) (ph : Phase)
-    → inState n s i y os (mark (flags f)) ph ≡ inState n s i y os f ph
-unfolding inState
-by-flags n s i y os f Free = refl
-by-flags n s i y os f Seek = refl
-by-flags n s i y os f (Open c) = rw (all-flags f (y .outputs)) refl
-by-flags n s i y os f (Wait c) = rw (all-flags f (y .outputs)) refl
-by-flags n s i y os f (Done c r) = rw (all-flags f (y .outputs)) refl
-by-flags n s i y os f (Last c r) = rw (all-flags f (y .outputs)) refl
-by-flags n s i y os f (Aborted c) = refl
-by-flags n s i y os f (FinAbort c r) = refl
 
 -- ---- the ways of the code
 
@@ -146,7 +120,7 @@ module _ (c : List ℕ) (s i : ℕ) where
     pub sought-done : (m : List ℕ) (S T : ℕ) (w : InputTurn) → Seekable m S c s i → stateNumber (y .phase) ≡ 1
         → w ≡ ofInputTurn y (x .outputs) (sought m S T x s i) → DidOwn c d s r (ownTurn (setBoth x i) (inputBack w)) → DidSought m S T c d s r i
     sought-done m S T w ok e f p D l =
-        let n = networkOf S D T l m in
+        let n = networkBy S D T l m in
         subst (λ (t : Turn Input (List Output)). Did n c d s r (ownTurn (setBoth x i) t))
         (ap (seek T i y (x .outputs)) (asked-is m S D T l s (x .outputs) (y .set) (ok .site) (ok .few) (ok .routes) (ok .set e))
         ∙ sym (seek-is y (x .outputs) (readyIn n (sitesOf c) s) n s i e))

@@ -1,11 +1,10 @@
 -- A player's loop over words: what is known before each turn, what a turn asks of it, and the end. Assumes what each law names.
 use Prim.Native.Nat.{ℕ, _+_, _*_, _≤_, _<_}
-use mathlib.Core.Path.{_≡_, refl, sym, ap, _∙_}
+use mathlib.Core.Path.{_≡_, refl, ap, _∙_}
 use mathlib.Core.List.{List}
-use mathlib.Core.Bool.{Bool, true, false}
 use native.Mathlib.Omega.{arith}
 use lib.ListN.{length}
-use Rattle.base.specs.Sizes.{sitesMost, portCount, sendsMost}
+use Rattle.base.specs.Sizes.{sitesMost, portCount}
 use Rattle.types.specs.declared.State.{State}
 use Rattle.types.specs.declared.StoredSend.{StoredSend}
 use Rattle.types.specs.declared.Run.{Run}
@@ -13,21 +12,16 @@ use Rattle.model.specs.Types.{sendAt}
 use Rattle.model.specs.Owing.{owedPairs}
 use Rattle.model.specs.Runs.{playedRun, countsOf}
 use Rattle.machine.specs.Play.{Playable, bookIn}
-use Rattle.machine.specs.Progress.{Progress, due, turned, progress, no-turn, one-turn, cappedAt, capped-same}
-use Rattle.machine.proofs.PlayerTurns.{Playing, known, next-most, accepted-most, pairs-most, network-valid, state-in-range, ended}
+use Rattle.machine.specs.Progress.{Progress, progress, no-turn, cappedAt, capped-same}
+use Rattle.machine.proofs.PlayerTurns.{Playing, known, next-most, accepted-most, pairs-most, network-valid, state-in-range, more, ended}
 use Rattle.machine.proofs.ProgressLaws.{stored-sends}
 use Rattle.machine.proofs.ProgressLawsOrder.{draw-below}
 use Rattle.words.specs.declared.player.Tally.{Tally}
-use Rattle.words.specs.Layout.{wordCount}
-use Rattle.words.specs.Words.{sitesOf, stateOf, noWords}
+use Rattle.layout.specs.Layout.{wordCount}
+use Rattle.layout.specs.Words.{sitesOf, stateOf}
 use Rattle.words.specs.Turned.{standing, Turnable, Turned, Startable, Stands}
-use Rattle.words.proofs.Empty.{empty-words, length-none}
+use Rattle.layout.proofs.Empty.{empty-words, length-none}
 use Rattle.words.proofs.RunLaws.{run-asks}
-
-one-more : {R : Run} {room : List ℕ} {total k : ℕ} {p : Progress} → Playing R room total k p → k < total → (q : Progress) → q ≡ turned R p
-    → Playing R room total (k + 1) q
-one-more {R = R} {room = room} {k = k} {p = p} at l q e =
-    record { run = at .run; turns = at .turns; draws = at .draws; here = omega (arith, l); same = one-turn R room k p q (at .same) e }
 
 -- after k of total turns: the words c, the bytes b (room at first), the counts t
 pub record Going (R : Run) (room : List ℕ) (total k : ℕ) (c b : List ℕ) (t : Tally) : Type 0 where
@@ -81,7 +75,7 @@ module _ {R : Run} {room : List ℕ} {total k : ℕ} {c b : List ℕ} {t : Tally
   goes-on l {m = m} hm {o = o} ho {d = d} {q = q} {r = r} turn =
       record {
         playing =
-            one-more (at .playing) l (standing r d q)
+            more (at .playing) l (standing r d q)
             (turn .same R refl refl
             (λ h. ho ∙ ap (sendAt R) (hm ∙ capped-same (t .next) (omega (arith, h, stored-sends R (at .playing .run .valid) .0))))
             (λ e.

@@ -7,7 +7,7 @@ use native.Mathlib.Omega.{arith}
 use borrow.Author.Tests.{eqb-true, eqb-false, ne-eqb}
 use lib.Dec.{eqb}
 use lib.ListN.{length}
-use Rattle.base.specs.Sizes.{portCount, sitesMost}
+use Rattle.base.specs.Sizes.{portCount, sitesMost, queueRoom}
 use Rattle.base.specs.Bools.{both, first-of}
 use Rattle.base.specs.All.{all, all-end}
 use Rattle.types.specs.declared.State.{State}
@@ -16,22 +16,22 @@ use Rattle.model.specs.Types.{siteAt}
 use Rattle.model.specs.Network.{networkRefusal}
 use Rattle.model.specs.Range.{placeOk, inRange}
 use Rattle.theorems.proofs.Networks.{valid-ok}
-use Rattle.words.specs.Layout.{wordCount}
-use Rattle.words.specs.Words.{sitesOf, stateOf, canonical, isState}
-use Rattle.words.specs.Events.{Runnable, networkOf}
-use Rattle.words.specs.Public.{sharedRefusal}
+use Rattle.layout.specs.Layout.{wordCount}
+use Rattle.layout.specs.Words.{sitesOf, stateOf, canonical, isState}
+use Rattle.words.specs.Events.{RunAsks, networkBy}
+use Rattle.layout.specs.Public.{sharedRefusal}
 use Rattle.words.proofs.RunLaws.{run-asks}
 
 -- ---- in range
 
 -- of a network its sites, depth and tries alone are looked at
-pub in-range-is : (n : Network) (st : State) → inRange (networkOf (n .sites) (n .depth) (n .tries) [] []) st ≡ inRange n st
+pub in-range-is : (n : Network) (st : State) → inRange (networkBy (n .sites) (n .depth) (n .tries) [] []) st ≡ inRange n st
 unfolding inRange
 in-range-is n st = refl
 
 -- the test of all sites, k being the counter
-pub range-found : (S T D k m : ℕ) (c : List ℕ) (ok : Bool) → k ≡ stateOf c .counter → m ≤ 16 → 16 ≤ m
-    → ok ≡ all (λ t. placeOk S T D k t (siteAt (sitesOf c) t)) m → ok ≡ inRange (networkOf S D T [] []) (stateOf c)
+pub range-found : (S T D k m : ℕ) (c : List ℕ) (ok : Bool) → k ≡ stateOf c .counter → m ≤ sitesMost → sitesMost ≤ m
+    → ok ≡ all (λ t. placeOk S T D k t (siteAt (sitesOf c) t)) m → ok ≡ inRange (networkBy S D T [] []) (stateOf c)
 unfolding inRange
 range-found S T D k m c ok e h l f = rw (← e) (all-end (λ t. placeOk S T D k t (siteAt (sitesOf c) t)) 16 m ok h l f)
 
@@ -51,7 +51,7 @@ module _ (n : Network) (c : List ℕ) where
   unfolding sharedRefusal
   shared-network k e ne = rw (← e, ne-eqb k 0 ne) refl
 
-  pub shared-fit : (k : ℕ) (a b : Bool) → k ≡ networkRefusal n → k ≡ 0 → b ≡ isState c && inRange (networkOf (n .sites) (n .depth) (n .tries) [] []) st
+  pub shared-fit : (k : ℕ) (a b : Bool) → k ≡ networkRefusal n → k ≡ 0 → b ≡ isState c && inRange (networkBy (n .sites) (n .depth) (n .tries) [] []) st
       → b ≡ a → cond a 0 13 ≡ sharedRefusal n c
   unfolding sharedRefusal
   shared-fit k a b e z f g =
@@ -80,10 +80,10 @@ module _ (n : Network) (c : List ℕ) where
 -- ---- what RUN in place asks
 
 -- what SEND in place asks
-pub sendable : (n : Network) (c : List ℕ) → sharedRefusal n c ≡ 0 → (n .sites ≤ 16) × (n .depth ≤ 8) × (length c ≡ wordCount)
+pub sendable : (n : Network) (c : List ℕ) → sharedRefusal n c ≡ 0 → (n .sites ≤ sitesMost) × (n .depth ≤ queueRoom) × (length c ≡ wordCount)
 sendable n c none = let ok = fit n c none in let val = valid-ok n (ok .network) in (val .few, val .deep, ok .size)
 
 pub runnable : (n : Network) (c : List ℕ) (s : ℕ) → sharedRefusal n c ≡ 0 → s < n .sites → length (n .channels) ≡ portCount * sitesMost
-    → length (n .routes) ≡ sitesMost * sitesMost → Runnable n c s
+    → length (n .routes) ≡ sitesMost * sitesMost → RunAsks n c s
 runnable n c s none hs hc hr =
     let ok = fit n c none in run-asks n c s (valid-ok n (ok .network)) (ok .range) (ok .size) hc hr hs

@@ -16,9 +16,9 @@ use Rattle.model.specs.Events.{runs}
 use Rattle.theorems.proofs.Networks.{Valid}
 use Rattle.machine.proofs.RangeAt.{range-runnable}
 use Rattle.machine.proofs.Seen.{valid-bytes}
-use Rattle.words.specs.Layout.{wordCount}
-use Rattle.words.specs.Words.{sitesOf, stateOf}
-use Rattle.words.specs.Events.{Did, Runnable, siteIn}
+use Rattle.layout.specs.Layout.{wordCount}
+use Rattle.layout.specs.Words.{sitesOf, stateOf}
+use Rattle.words.specs.Events.{Did, RunAsks, siteIn}
 
 -- ---- what the act left is what RUN leaves
 
@@ -35,7 +35,7 @@ module _ (n : Network) (c d : List ℕ) (s code : ℕ) (r : Ran) (did : Did n c 
 -- ---- a valid network, and a state in range
 
 pub run-asks : (n : Network) (c : List ℕ) (s : ℕ) → Valid n → inRange n (stateOf c) ≡ true → length c ≡ wordCount
-    → length (n .channels) ≡ portCount * sitesMost → length (n .routes) ≡ sitesMost * sitesMost → s < n .sites → Runnable n c s
+    → length (n .channels) ≡ portCount * sitesMost → length (n .routes) ≡ sitesMost * sitesMost → s < n .sites → RunAsks n c s
 run-asks n c s val ok size chans routes h =
     let w = range-runnable n val (stateOf c) ok s h in
     record {

@@ -7,7 +7,7 @@ use native.Mathlib.Omega.{arith}
 use borrow.Author.Tests.{ltb-true, ne-eqb}
 use lib.Dec.{ltb}
 use lib.ListN.{length, getD, List·getD-eq-default}
-use Rattle.base.specs.Sizes.{packetsMost}
+use Rattle.base.specs.Sizes.{packetsMost, sitesMost, queueRoom}
 use Rattle.base.specs.Bools.{first-of}
 use Rattle.sets.specs.Sets.{targets}
 use Rattle.types.specs.declared.OutEntry.{OutEntry}
@@ -19,11 +19,11 @@ use Rattle.model.specs.Types.{siteD, setSite, withOutQueue, pushOut}
 use Rattle.model.specs.Steps.{enqueue}
 use Rattle.model.specs.Events.{sendFaultBy, sends}
 use Rattle.model.specs.Runs.{trySend}
-use Rattle.words.specs.Layout.{counterAt, wordCount}
-use Rattle.words.specs.Words.{sitesOf, stateOf}
-use Rattle.words.specs.Stored.{Stored, Counted, leavingSet, leavingCount}
+use Rattle.layout.specs.Layout.{counterAt, wordCount}
+use Rattle.layout.specs.Words.{sitesOf, stateOf}
+use Rattle.layout.specs.Stored.{Stored, Counted, leavingSet, leavingCount}
 use Rattle.words.specs.Events.{Took, tried, siteIn}
-use Rattle.words.proofs.Decoded.{sixteen}
+use Rattle.layout.proofs.Decoded.{sixteen}
 
 -- what SEND does is said of a network's sites and depth alone
 pub tried-is : (n : Network) (st : State) (s X : ℕ) → tried (n .sites) (n .depth) st s X ≡ trySend n st s X
@@ -39,8 +39,8 @@ abbrev fault : List ℕ → ℕ → ℕ → ℕ → ℕ → ℕ
 fault c S D s X = sendFaultBy S D (stateOf c .counter) (siteIn c s .outgoing .count) s X
 
 -- what a SEND that is not refused is known by
-pub acceptable : (c : List ℕ) (S D s X f : ℕ) → (S ≤ 16) × (D ≤ 8) × (length c ≡ wordCount) → f ≡ fault c S D s X → f ≡ 0
-    → (s < 16) × (length c ≡ wordCount) × (siteIn c s .outgoing .count < 8) × (stateOf c .counter < 255)
+pub acceptable : (c : List ℕ) (S D s X f : ℕ) → (S ≤ sitesMost) × (D ≤ queueRoom) × (length c ≡ wordCount) → f ≡ fault c S D s X → f ≡ 0
+    → (s < sitesMost) × (length c ≡ wordCount) × (siteIn c s .outgoing .count < 8) × (stateOf c .counter < 255)
 acceptable c S D s X f small e z =
     let k = stateOf c .counter in
     let m = siteIn c s .outgoing .count in

@@ -28,9 +28,9 @@ use Rattle.machine.specs.declared.clock.Clock.{Clock}
 use Rattle.machine.specs.Clock.{advanced}
 use Rattle.machine.specs.Progress.{Progress, due, answered, sendTurn, drew, drawTurn, entriesBy, bookBy, turned}
 use Rattle.words.specs.declared.player.Tally.{Tally}
-use Rattle.words.specs.Layout.{wordCount}
-use Rattle.words.specs.Words.{sitesOf, stateOf}
-use Rattle.words.specs.Events.{Did, Took, tried, networkOf, siteIn}
+use Rattle.layout.specs.Layout.{wordCount}
+use Rattle.layout.specs.Words.{sitesOf, stateOf}
+use Rattle.words.specs.Events.{Did, Took, tried, networkBy, siteIn}
 use Rattle.words.specs.Turned.{standing, Turnable, triedSend, Tried, ranBy, Drew, Turned}
 use Rattle.machine.proofs.ProgressLaws.{is-due}
 use Rattle.words.proofs.RunLaws.{ran-answer, ran-state}
@@ -80,7 +80,7 @@ module _ (S D : ℕ) (c d : List ℕ) (o : StoredSend) (t : Tally) (w : Sent) (s
   unfolding tried
   refused-on f e =
       let a : triedSend S D c o .answer ≡ SendRefused f = sym (took .answer) ∙ e in
-      let y : stateOf d ≡ stateOf c = took .state ∙ refused-state (networkOf S D 0 [] []) (stateOf c) (o .site) (o .set) f a in
+      let y : stateOf d ≡ stateOf c = took .state ∙ refused-state (networkBy S D 0 [] []) (stateOf c) (o .site) (o .set) f a in
       record {
         size = took .size;
         same =

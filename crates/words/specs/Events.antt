@@ -2,13 +2,12 @@
 use Prim.Native.Nat.{ℕ, suc, _+_, _*_, _<_, _≤_, _^_, _%_}
 use mathlib.Core.Path.{_≡_}
 use mathlib.Core.List.{List, [], _∷_}
-use mathlib.Core.Bool.{Bool, true, false, cond, not, _&&_, _||_}
+use mathlib.Core.Bool.{Bool, true, cond, _&&_}
 use lib.ListN.{length, getD}
-use Rattle.base.specs.Sizes.{sitesMost, portCount}
+use Rattle.base.specs.Sizes.{sitesMost, portCount, inputCount}
 use Rattle.sets.specs.Sets.{targets}
 use Rattle.types.specs.Numbers.{stateNumber}
 use Rattle.types.specs.Phases.{listening}
-use Rattle.types.specs.declared.Phase.the-variants.{the-data as Phase, Free, Seek, Open, Wait, Done, Last, Abort as Aborted, FinAbort}
 use Rattle.types.specs.declared.Input.{Input}
 use Rattle.types.specs.declared.Output.{Output}
 use Rattle.types.specs.declared.OutQueue.{OutQueue}
@@ -19,59 +18,41 @@ use Rattle.types.specs.declared.Network.{Network}
 use Rattle.types.specs.declared.AfterSend.{AfterSend}
 use Rattle.types.specs.declared.Sent.the-variants.{the-data as Sent}
 use Rattle.types.specs.declared.Ran.the-variants.{the-data as Ran}
-use Rattle.model.specs.Types.{noInput, siteAt, inAt, outAt, setIn, setOut, withOutQueue, withInQueue}
+use Rattle.model.specs.Types.{noInput, siteAt, inAt, outAt}
 use Rattle.model.specs.Network.{channel, joined, isChannel}
-use Rattle.model.specs.NetInput.{Turn, Stay, To, ready, allReady, netInput, seek}
-use Rattle.model.specs.Places.{localOutput, channelOutput, outQueue, operator, timeout, stalled, Work, Rest, Cleared, Service}
-use Rattle.model.specs.Steps.{Act, ownTurn, passTurn, workDone, setBoth, farEnd, ends, patch}
+use Rattle.model.specs.NetInput.{Turn, Stay, To, netInput, seek}
+use Rattle.model.specs.Places.{Work, Rest, Cleared, Service}
+use Rattle.model.specs.Steps.{Act, ownTurn, passTurn, setBoth, farEnd, ends, patch}
 use Rattle.model.specs.Runs.{trySend}
 use Rattle.rules.specs.declared.inputs.InputTurn.{InputTurn}
 use Rattle.rules.specs.declared.places.LocalTurn.{LocalTurn}
 use Rattle.rules.specs.declared.places.ChannelTurn.{ChannelTurn}
 use Rattle.rules.specs.declared.places.QueueTurn.{QueueTurn}
 use Rattle.rules.specs.declared.work.OperatorTurn.{OperatorTurn}
+use Rattle.rules.specs.Acts.{inputAct}
 use Rattle.rules.specs.Router.{askedBy}
-use Rattle.words.specs.Layout.{wordCount}
-use Rattle.words.specs.Words.{sitesOf, stateOf, canonical}
-use Rattle.words.specs.Stored.{Stored}
+use Rattle.layout.specs.Layout.{wordCount, endCount}
+use Rattle.layout.specs.Words.{sitesOf, stateOf, canonical}
+use Rattle.layout.specs.Stored.{Stored}
 
 -- a network by its parts
-abbrev pub networkOf : ℕ → ℕ → ℕ → List ℕ → List ℕ → Network
-networkOf S D T channels routes = record { sites = S; depth = D; tries = T; channels = channels; routes = routes }
+abbrev pub networkBy : ℕ → ℕ → ℕ → List ℕ → List ℕ → Network
+networkBy S D T channels routes = record { sites = S; depth = D; tries = T; channels = channels; routes = routes }
 
 -- site s of the words c
 abbrev pub siteIn : List ℕ → ℕ → Site
 siteIn c s = siteAt (sitesOf c) s
 
--- what RUN decides at a site x, an arm each: `act` by its codes
-abbrev pub inputAct : Network → ℕ → Site → (ℕ → Input) → ℕ → Act
-inputAct n s x far i = ownTurn (setBoth x i) (netInput n s i (inAt x i) (x .outputs) (ready (joined n s) far (x .outputs)))
-
-abbrev pub localAct : ℕ → Site → Act
-localAct D x = ownTurn (λ o iq. setOut (withInQueue x iq) 0 o) (localOutput D (outAt x 0) (x .incoming))
-
-abbrev pub channelAct : Network → ℕ → Site → (ℕ → Input) → ℕ → Act
-channelAct n s x far j = passTurn x (suc j) (channelOutput (joined n s (suc j)) (outAt x (suc j)) (far (suc j)))
-
-abbrev pub queueAct : Site → Act
-queueAct x = ownTurn (λ oq y. setIn (withOutQueue x oq) 0 y) (outQueue (x .outgoing) (inAt x 0))
-
-abbrev pub operatorAct : ℕ → ℕ → Site → Act
-operatorAct D s x = workDone x (operator D s (x .incoming) (x .outgoing))
-
-abbrev pub timeoutAct : Site → Act
-timeoutAct x = ownTurn (setBoth x (outAt x 0 .input)) (timeout (x .incoming) (x .outputs) (inAt x (outAt x 0 .input)))
-
 -- what RUN in place at site s asks of the network and the words: what a valid network and a state in range give
-pub record Runnable (n : Network) (c : List ℕ) (s : ℕ) : Type 0 where
+pub record RunAsks (n : Network) (c : List ℕ) (s : ℕ) : Type 0 where
   pub site : s < n .sites
   pub few : n .sites ≤ sitesMost
   pub words : length c ≡ wordCount
-  pub channels : length (n .channels) ≡ portCount * sitesMost
+  pub channels : length (n .channels) ≡ endCount
   pub routes : length (n .routes) ≡ sitesMost * sitesMost
-  pub feeder : outAt (siteIn c s) 0 .input < 5
-  pub ends : (j : ℕ) → j < 4 → joined n s (suc j) ≡ true → channel n s (suc j) < 64
-  pub sought : (i : ℕ) → i < 5 → stateNumber (inAt (siteIn c s) i .phase) ≡ 1 → targets (n .sites) (inAt (siteIn c s) i .set) ≡ true
+  pub feeder : outAt (siteIn c s) 0 .input < inputCount
+  pub ends : (j : ℕ) → j < portCount → joined n s (suc j) ≡ true → channel n s (suc j) < endCount
+  pub sought : (i : ℕ) → i < inputCount → stateNumber (inAt (siteIn c s) i .phase) ≡ 1 → targets (n .sites) (inAt (siteIn c s) i .set) ≡ true
 
 -- the answer r and the words d after the act a at site s
 pub record Did (n : Network) (c d : List ℕ) (s : ℕ) (r : Ran) (a : Act) : Type 0 where
@@ -91,22 +72,7 @@ pub record Took (c d : List ℕ) (r : Sent) (w : AfterSend) : Type 0 where
 
 -- what SEND leaves, nothing but its own refusals tested: of a network its sites S and its depth D alone are looked at
 unfoldable pub tried : ℕ → ℕ → State → ℕ → ℕ → AfterSend
-tried S D st s X = trySend (networkOf S D 0 [] []) st s X
-
--- a net-input that no rule moves, all its connected outputs being ready or not, output 0 being ready or not
-abbrev pub stands : Phase → Bool → Bool → Bool
-stands Free every own = true
-stands Seek every own = false
-stands (Open c) every own = every
-stands (Wait c) every own = not every
-stands (Done c r) every own = false
-stands (Last c r) every own = not every
-stands (Aborted c) every own = true
-stands (FinAbort c r) every own = not own
-
--- a net-output that has nothing to pass on: empty, or its head taken and its terminator not come
-abbrev pub atRest : Output → Bool
-atRest o = not (o .used) || stalled o
+tried S D st s X = trySend (networkBy S D 0 [] []) st s X
 
 -- the input at the end of a channel with the byte b; a free one where there is no channel
 abbrev pub endOf : List Site → ℕ → Input
@@ -137,7 +103,7 @@ workBack r = cond (r .changed) (cond (r .serviced) (Service (r .incoming) (r .ou
 -- whether output j + 1 of site s is ready, by the channels' bytes l
 abbrev pub readyAt : List ℕ → List Site → ℕ → ℕ → Bool
 readyAt l xs s j =
-    let b = getD l (4 * s + j) 0 in
+    let b = getD l (portCount * s + j) 0 in
     outAt (siteAt xs s) (j + 1) .used && outAt (siteAt xs s) (j + 1) .head && (isChannel b && listening (endOf xs b .phase))
 
 -- which outputs of site s are ready
@@ -151,12 +117,8 @@ readyFlags l xs s =
     ∷ []
 
 -- the channels of site s end within the sites
-abbrev pub EndsWithin : List ℕ → ℕ → Type 0
-EndsWithin l s = (j : ℕ) → j < 4 → isChannel (getD l (4 * s + j) 0) ≡ true → getD l (4 * s + j) 0 < 64
-
--- a net-input that no rule moves
-abbrev pub waits : Input → (ℕ → Bool) → Bool
-waits y isReady = stands (y .phase) (allReady isReady (y .outputs)) (isReady 0)
+abbrev pub BytesWithin : List ℕ → ℕ → Type 0
+BytesWithin l s = (j : ℕ) → j < portCount → isChannel (getD l (portCount * s + j) 0) ≡ true → getD l (portCount * s + j) 0 < endCount
 
 -- what the router's answer makes of net-input i of site x
 abbrev pub sought : List ℕ → ℕ → ℕ → Site → ℕ → ℕ → Turn Input (List Output)
@@ -181,8 +143,8 @@ DidInput l c d s r i = (n : Network) → n .channels ≡ l → Did n c d s r (in
 
 abbrev pub DidSought : List ℕ → ℕ → ℕ → List ℕ → List ℕ → ℕ → Ran → ℕ → Type 0
 DidSought m S T c d s r i =
-    (D : ℕ) (l : List ℕ) → Did (networkOf S D T l m) c d s r (inputAct (networkOf S D T l m) s (siteIn c s) (ends (networkOf S D T l m) (sitesOf c) s) i)
+    (D : ℕ) (l : List ℕ) → Did (networkBy S D T l m) c d s r (inputAct (networkBy S D T l m) s (siteIn c s) (ends (networkBy S D T l m) (sitesOf c) s) i)
 
 abbrev pub DidAsked : List ℕ → List ℕ → ℕ → ℕ → List ℕ → List ℕ → ℕ → Ran → ℕ → Type 0
 DidAsked l m S T c d s r i =
-    (D : ℕ) → Did (networkOf S D T l m) c d s r (inputAct (networkOf S D T l m) s (siteIn c s) (ends (networkOf S D T l m) (sitesOf c) s) i)
+    (D : ℕ) → Did (networkBy S D T l m) c d s r (inputAct (networkBy S D T l m) s (siteIn c s) (ends (networkBy S D T l m) (sitesOf c) s) i)

@@ -4,7 +4,7 @@ use mathlib.Core.Path.{_≡_}
 use mathlib.Core.List.{List}
 use mathlib.Core.Bool.{false}
 use lib.ListN.{length}
-use Rattle.base.specs.Sizes.{sitesMost, portCount, queueRoom, sendsMost, setBits}
+use Rattle.base.specs.Sizes.{sitesMost, queueRoom, sendsMost, setBits}
 use Rattle.draws.specs.Draws.{eventOf}
 use Rattle.types.specs.declared.Network.{Network}
 use Rattle.types.specs.declared.StoredSend.{StoredSend}
@@ -17,9 +17,9 @@ use Rattle.machine.specs.Clock.{advanced}
 use Rattle.machine.specs.Progress.{Progress, due, answered, entriesBy, bookBy, turned, progress}
 use Rattle.machine.specs.Play.{Playable}
 use Rattle.words.specs.declared.player.Tally.{Tally}
-use Rattle.words.specs.Layout.{wordCount}
-use Rattle.words.specs.Words.{stateOf, noWords}
-use Rattle.words.specs.Events.{Runnable, tried}
+use Rattle.layout.specs.Layout.{wordCount, endCount}
+use Rattle.layout.specs.Words.{stateOf, noWords}
+use Rattle.words.specs.Events.{RunAsks, tried}
 
 -- where a run stands, its state the words c, its book the bytes b
 abbrev pub standing : Tally → List ℕ → List ℕ → Progress
@@ -44,7 +44,7 @@ pub record Turnable (n : Network) (c : List ℕ) (t : Tally) : Type 0 where
   pub next : t .next ≤ sendsMost
   pub accepted : t .accepted ≤ sendsMost
   pub pairs : t .pairs ≤ sendsMost * setBits
-  pub runs-at : (s : ℕ) → s < n .sites → Runnable n c s
+  pub runs-at : (s : ℕ) → s < n .sites → RunAsks n c s
 
 -- the send o was tried: the words d, the counts r; its answer decides
 abbrev pub triedSend : ℕ → ℕ → List ℕ → StoredSend → AfterSend
@@ -77,7 +77,7 @@ pub record Turned (n : Network) (count : ℕ) (c d b q : List ℕ) (o : StoredSe
 -- a run that can be played from these words: it is valid with room for its book, its network's arrays are whole, the words are zero
 pub record Startable (R : Run) (c : List ℕ) (room : ℕ) : Type 0 where
   pub run : Playable R room
-  pub channels : length (R .network .channels) ≡ portCount * sitesMost
+  pub channels : length (R .network .channels) ≡ endCount
   pub routes : length (R .network .routes) ≡ sitesMost * sitesMost
   pub words : c ≡ noWords
 

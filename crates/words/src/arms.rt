@@ -3,12 +3,15 @@ ghost use mathlib.Core.Path.{_≡_};
 ghost use mathlib.Core.Bool.{true};
 ghost use Prim.Native.Nat.{suc, _<_};
 ghost use lib.ListN.{length};
+ghost use Rattle.base.specs.Sizes.{sitesMost, inputCount, outputCount, portCount};
 ghost use Rattle.model.specs.Types.{outAt};
 ghost use Rattle.model.specs.Places.{channelOutput};
 ghost use Rattle.model.specs.Network.{isChannel};
 ghost use Rattle.model.specs.Steps.{farEnd};
-ghost use Rattle.words.specs.Layout.{wordCount};
-ghost use Rattle.words.specs.Words.{sitesOf};
+ghost use Rattle.layout.specs.Layout.{wordCount, endCount};
+ghost use Rattle.layout.specs.Words.{sitesOf};
+ghost use Rattle.layout.specs.Idle.{atRest};
+ghost use Rattle.rules.specs.Acts.{localAct, operatorAct, queueAct, timeoutAct};
 ghost use Rattle.words.specs.Events as spec;
 ghost use Rattle.words.specs.Events.{DidOwn, siteIn};
 use crate::load::feeder_of;
@@ -31,8 +34,8 @@ use types::Ran;
 
 // Whether net-output j has nothing to pass on: it is empty, or its head is taken and its terminator has not come.
 fn is_at_rest(words: &[u64], s: usize, j: usize) -> bool
-    requires { ⌜ (s < 16) × (j < 5) × (length (now words) ≡ wordCount) ⌝ }
-    ensures { λ r. ⌜ r ≡ spec.atRest (outAt (siteIn (now (words .entry)) s) j) ⌝ }
+    requires { ⌜ (s < sitesMost) × (j < outputCount) × (length (now words) ≡ wordCount) ⌝ }
+    ensures { λ r. ⌜ r ≡ atRest (outAt (siteIn (now (words .entry)) s) j) ⌝ }
 {
     let used = is_used(words, s, j);
     let stalled = is_stalled(words, s, j);
@@ -41,8 +44,8 @@ fn is_at_rest(words: &[u64], s: usize, j: usize) -> bool
 
 // Code 5: net-output 0.
 pub(crate) fn local_in_place(depth: usize, words: &mut [u64], s: usize) -> Ran
-    requires { ⌜ (s < 16) × (length (now words) ≡ wordCount) ⌝ }
-    ensures { λ r. ⌜ DidOwn (now (words .entry)) (now (words .exit)) s r (spec.localAct depth (siteIn (now (words .entry)) s)) ⌝ }
+    requires { ⌜ (s < sitesMost) × (length (now words) ≡ wordCount) ⌝ }
+    ensures { λ r. ⌜ DidOwn (now (words .entry)) (now (words .exit)) s r (localAct depth (siteIn (now (words .entry)) s)) ⌝ }
 {
     if is_at_rest(words, s, 0) {
         return Ran::Nothing;
@@ -53,7 +56,7 @@ pub(crate) fn local_in_place(depth: usize, words: &mut [u64], s: usize) -> Ran
 
 // Codes 6 to 9: net-output j + 1; the byte of its channel is at hand.
 pub(crate) fn channel_in_place(words: &mut [u64], s: usize, j: usize, byte: u8) -> Ran
-    requires { ⌜ (s < 16) × (j < 4) × (length (now words) ≡ wordCount) × (isChannel byte ≡ true → byte < 64) ⌝ }
+    requires { ⌜ (s < sitesMost) × (j < portCount) × (length (now words) ≡ wordCount) × (isChannel byte ≡ true → byte < endCount) ⌝ }
     ensures { λ r. ⌜
         spec.DidPass (now (words .entry)) (now (words .exit)) s r j byte
         (channelOutput (isChannel byte) (outAt (siteIn (now (words .entry)) s) (suc j))
@@ -72,8 +75,8 @@ pub(crate) fn channel_in_place(words: &mut [u64], s: usize, j: usize, byte: u8) 
 
 // Code 10: the out-queue.
 pub(crate) fn queue_in_place(words: &mut [u64], s: usize) -> Ran
-    requires { ⌜ (s < 16) × (length (now words) ≡ wordCount) ⌝ }
-    ensures { λ r. ⌜ DidOwn (now (words .entry)) (now (words .exit)) s r (spec.queueAct (siteIn (now (words .entry)) s)) ⌝ }
+    requires { ⌜ (s < sitesMost) × (length (now words) ≡ wordCount) ⌝ }
+    ensures { λ r. ⌜ DidOwn (now (words .entry)) (now (words .exit)) s r (queueAct (siteIn (now (words .entry)) s)) ⌝ }
 {
     if out_count(words, s) == 0 {
         return Ran::Nothing;
@@ -84,8 +87,8 @@ pub(crate) fn queue_in_place(words: &mut [u64], s: usize) -> Ran
 
 // Code 11: the operator.
 pub(crate) fn operator_in_place(depth: usize, words: &mut [u64], s: usize) -> Ran
-    requires { ⌜ (s < 16) × (length (now words) ≡ wordCount) ⌝ }
-    ensures { λ r. ⌜ DidOwn (now (words .entry)) (now (words .exit)) s r (spec.operatorAct depth s (siteIn (now (words .entry)) s)) ⌝ }
+    requires { ⌜ (s < sitesMost) × (length (now words) ≡ wordCount) ⌝ }
+    ensures { λ r. ⌜ DidOwn (now (words .entry)) (now (words .exit)) s r (operatorAct depth s (siteIn (now (words .entry)) s)) ⌝ }
 {
     let n = in_count(words, s);
     let lacks = front_lacks(words, s);
@@ -98,8 +101,8 @@ pub(crate) fn operator_in_place(depth: usize, words: &mut [u64], s: usize) -> Ra
 
 // Code 12: the timeout.
 pub(crate) fn timeout_in_place(words: &mut [u64], s: usize) -> Ran
-    requires { ⌜ (s < 16) × (length (now words) ≡ wordCount) × (outAt (siteIn (now words) s) 0 .input < 5) ⌝ }
-    ensures { λ r. ⌜ DidOwn (now (words .entry)) (now (words .exit)) s r (spec.timeoutAct (siteIn (now (words .entry)) s)) ⌝ }
+    requires { ⌜ (s < sitesMost) × (length (now words) ≡ wordCount) × (outAt (siteIn (now words) s) 0 .input < inputCount) ⌝ }
+    ensures { λ r. ⌜ DidOwn (now (words .entry)) (now (words .exit)) s r (timeoutAct (siteIn (now (words .entry)) s)) ⌝ }
 {
     if is_stalled(words, s, 0) {
         let i = feeder_of(words, s);

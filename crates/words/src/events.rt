@@ -2,9 +2,9 @@
 ghost use mathlib.Core.Path.{_≡_};
 ghost use Prim.Native.Nat.{_<_};
 ghost use Rattle.model.specs.Steps.{act, ends};
-ghost use Rattle.words.specs.Words.{sitesOf};
+ghost use Rattle.layout.specs.Words.{sitesOf};
 ghost use Rattle.words.specs.Events.{Did, siteIn};
-ghost use Rattle.words.specs.Public as spec;
+ghost use Rattle.layout.specs.Public as spec;
 use crate::refusals::shared_refusal;
 use crate::runs::run_in_place;
 use crate::sends::send_in_place;

@@ -3,16 +3,10 @@ ghost use mathlib.Core.Path.{_≡_};
 ghost use Prim.Native.Nat.{_<_};
 ghost use lib.Dec.{eqb};
 ghost use lib.ListN.{length};
+ghost use Rattle.base.specs.Sizes.{sitesMost};
 ghost use Rattle.base.specs.All.{all};
-ghost use Rattle.words.specs.Layout.{sitePlaces, wordCount};
-ghost use Rattle.words.specs.Words as spec;
-use crate::layout::ARRIVED_FROM;
-use crate::layout::COUNTER_AT;
-use crate::layout::COUNTS_PLACE;
-use crate::layout::LEAVING_FROM;
-use crate::layout::OUTPUTS_FROM;
-use crate::layout::SITE_PLACES;
-use crate::layout::WORDS;
+ghost use Rattle.layout.specs.Layout.{sitePlaces, wordCount};
+ghost use Rattle.layout.specs.Words as spec;
 use crate::load::fields_at;
 use crate::load::set_at;
 use crate::pack::in_entry_from;
@@ -23,6 +17,13 @@ use crate::pack::out_entry_from;
 use crate::pack::out_entry_word;
 use crate::pack::output_from;
 use crate::pack::output_word;
+use layout::ARRIVED_FROM;
+use layout::COUNTER_AT;
+use layout::COUNTS_PLACE;
+use layout::LEAVING_FROM;
+use layout::OUTPUTS_FROM;
+use layout::SITE_PLACES;
+use layout::WORDS;
 
 // The packed word of the place k that a set and a packed word stand for.
 fn repacked(k: usize, set: u64, w: u64) -> u64
@@ -45,7 +46,7 @@ fn repacked(k: usize, set: u64, w: u64) -> u64
 
 // Whether packing what place k of site s stands for gives its words again. No field set is the usual case.
 fn place_same(words: &[u64], s: usize, k: usize) -> bool
-    requires { ⌜ (s < 16) × (k < 27) × (length (now words) ≡ wordCount) ⌝ }
+    requires { ⌜ (s < sitesMost) × (k < sitePlaces) × (length (now words) ≡ wordCount) ⌝ }
     ensures { λ r. ⌜ r ≡ spec.placeSame (now (words .entry)) s k ⌝ }
 {
     let w = fields_at(words, s, k);
@@ -56,7 +57,7 @@ fn place_same(words: &[u64], s: usize, k: usize) -> bool
 }
 
 fn site_same(words: &[u64], s: usize) -> bool
-    requires { ⌜ (s < 16) × (length (now words) ≡ wordCount) ⌝ }
+    requires { ⌜ (s < sitesMost) × (length (now words) ≡ wordCount) ⌝ }
     ensures { λ r. ⌜ r ≡ all (spec.placeSame (now (words .entry)) s) sitePlaces ⌝ }
 {
     let mut ok = true;

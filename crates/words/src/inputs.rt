@@ -3,13 +3,15 @@ ghost use mathlib.Core.Path.{_≡_};
 ghost use mathlib.Core.Bool.{true, _&&_};
 ghost use Prim.Native.Nat.{_<_};
 ghost use lib.ListN.{length};
+ghost use Rattle.base.specs.Sizes.{sitesMost, inputCount, portCount};
 ghost use Rattle.types.specs.Numbers.{stateNumber};
 ghost use Rattle.types.specs.Phases.{listening};
 ghost use Rattle.model.specs.Types.{inAt, mark};
 ghost use Rattle.model.specs.Network.{isChannel};
 ghost use Rattle.rules.specs.Turns.{ofInputTurn, otherTurn};
-ghost use Rattle.words.specs.Layout.{wordCount};
-ghost use Rattle.words.specs.Words.{sitesOf};
+ghost use Rattle.layout.specs.Layout.{wordCount, endCount};
+ghost use Rattle.layout.specs.Words.{sitesOf};
+ghost use Rattle.layout.specs.Idle.{stands, waits};
 ghost use Rattle.words.specs.Events as spec;
 ghost use Rattle.words.specs.Events.{siteIn, endOf};
 use crate::load::is_taken;
@@ -27,23 +29,26 @@ use types::Ran;
 
 // Whether the input at the end of a channel is open or abort; not where there is no channel.
 fn is_heard(words: &[u64], byte: u8) -> bool
-    requires { ⌜ (length (now words) ≡ wordCount) × (isChannel byte ≡ true → byte < 64) ⌝ }
+    requires { ⌜ (length (now words) ≡ wordCount) × (isChannel byte ≡ true → byte < endCount) ⌝ }
     ensures { λ r. ⌜ r ≡ (isChannel byte && listening (endOf (sitesOf (now (words .entry))) byte .phase)) ⌝ }
 {
     if byte == base::NO_CHANNEL {
         return false;
     }
     let b = base::wide(byte);
-    let number = state_of(words, b / 4, b % 4 + 1);
+    let number = state_of(words, b / base::PORTS, b % base::PORTS + 1);
     (number == 2) | (number == 6)
 }
 
 // Whether output j + 1 is ready.
 fn is_ready(channels: &[u8], words: &[u64], s: usize, j: usize) -> bool
-    requires { ⌜ (s < 16) × (j < 4) × (length (now channels) ≡ 64) × (length (now words) ≡ wordCount) × spec.EndsWithin (now channels) s ⌝ }
+    requires { ⌜
+        (s < sitesMost) × (j < portCount) × (length (now channels) ≡ endCount) × (length (now words) ≡ wordCount) ×
+        spec.BytesWithin (now channels) s
+        ⌝ }
     ensures { λ r. ⌜ r ≡ spec.readyAt (now (channels .entry)) (sitesOf (now (words .entry))) s j ⌝ }
 {
-    let byte = channels[4 * s + j];
+    let byte = channels[base::PORTS * s + j];
     let taken = is_taken(words, s, j + 1);
     let heard = is_heard(words, byte);
     taken & heard
@@ -51,7 +56,7 @@ fn is_ready(channels: &[u8], words: &[u64], s: usize, j: usize) -> bool
 
 // Which outputs of site s are ready.
 fn readies(channels: &[u8], words: &[u64], s: usize) -> [bool; base::OUTPUTS]
-    requires { ⌜ (s < 16) × (length (now channels) ≡ 64) × (length (now words) ≡ wordCount) × spec.EndsWithin (now channels) s ⌝ }
+    requires { ⌜ (s < sitesMost) × (length (now channels) ≡ endCount) × (length (now words) ≡ wordCount) × spec.BytesWithin (now channels) s ⌝ }
     ensures { λ r. ⌜ r ≡ spec.readyFlags (now (channels .entry)) (sitesOf (now (words .entry))) s ⌝ }
 {
     let own = is_taken(words, s, 0);
@@ -66,7 +71,7 @@ fn readies(channels: &[u8], words: &[u64], s: usize) -> [bool; base::OUTPUTS]
 
 // Whether a net-input stays in this state, all its connected outputs being ready or not, output 0 being ready or not.
 fn is_standing(phase: Phase, every: bool, own: bool) -> bool
-    ensures { λ r. ⌜ r ≡ spec.stands phase every own ⌝ }
+    ensures { λ r. ⌜ r ≡ stands phase every own ⌝ }
 {
     match phase {
         Phase::Free => true,
@@ -82,8 +87,8 @@ fn is_standing(phase: Phase, every: bool, own: bool) -> bool
 
 // Whether no rule moves net-input i.
 fn has_to_wait(words: &[u64], s: usize, i: usize, ready: [bool; base::OUTPUTS]) -> bool
-    requires { ⌜ (s < 16) × (i < 5) × (length (now words) ≡ wordCount) ⌝ }
-    ensures { λ r. ⌜ r ≡ spec.waits (inAt (siteIn (now (words .entry)) s) i) (mark ready) ⌝ }
+    requires { ⌜ (s < sitesMost) × (i < inputCount) × (length (now words) ≡ wordCount) ⌝ }
+    ensures { λ r. ⌜ r ≡ waits (inAt (siteIn (now (words .entry)) s) i) (mark ready) ⌝ }
 {
     let input = load_input(words, s, i);
     let phase = input.phase;
@@ -95,7 +100,7 @@ fn has_to_wait(words: &[u64], s: usize, i: usize, ready: [bool; base::OUTPUTS]) 
 
 // What becomes of net-input i in another state than seek.
 fn other_turn(words: &[u64], s: usize, i: usize, ready: [bool; base::OUTPUTS]) -> InputTurn
-    requires { ⌜ (s < 16) × (i < 5) × (length (now words) ≡ wordCount) ⌝ }
+    requires { ⌜ (s < sitesMost) × (i < inputCount) × (length (now words) ≡ wordCount) ⌝ }
     ensures { λ r. ⌜
         r ≡ ofInputTurn (inAt (siteIn (now (words .entry)) s) i) (siteIn (now (words .entry)) s .outputs)
         (otherTurn (inAt (siteIn (now (words .entry)) s) i) (siteIn (now (words .entry)) s .outputs) (mark ready))
@@ -108,7 +113,7 @@ fn other_turn(words: &[u64], s: usize, i: usize, ready: [bool; base::OUTPUTS]) -
 
 // Net-input i in another state than seek; which outputs are ready is known.
 fn ready_in_place(words: &mut [u64], s: usize, i: usize, ready: [bool; base::OUTPUTS]) -> Ran
-    requires { ⌜ (s < 16) × (i < 5) × (length (now words) ≡ wordCount) × (stateNumber (inAt (siteIn (now words) s) i .phase) ≡ 1 → ⊥) ⌝ }
+    requires { ⌜ (s < sitesMost) × (i < inputCount) × (length (now words) ≡ wordCount) × (stateNumber (inAt (siteIn (now words) s) i .phase) ≡ 1 → ⊥) ⌝ }
     ensures { λ r. ⌜ spec.DidReady (now (words .entry)) (now (words .exit)) s r i (mark ready) ⌝ }
 {
     if has_to_wait(words, s, i, ready) {
@@ -121,7 +126,7 @@ fn ready_in_place(words: &mut [u64], s: usize, i: usize, ready: [bool; base::OUT
 // Net-input i in another state than seek.
 fn other_in_place(channels: &[u8], words: &mut [u64], s: usize, i: usize) -> Ran
     requires { ⌜
-        (s < 16) × (i < 5) × (length (now channels) ≡ 64) × (length (now words) ≡ wordCount) × spec.EndsWithin
+        (s < sitesMost) × (i < inputCount) × (length (now channels) ≡ endCount) × (length (now words) ≡ wordCount) × spec.BytesWithin
         (now channels) s × (stateNumber (inAt (siteIn (now words) s) i .phase) ≡ 1 → ⊥)
         ⌝ }
     ensures { λ r. ⌜ spec.DidInput (now (channels .entry)) (now (words .entry)) (now (words .exit)) s r i ⌝ }
@@ -132,7 +137,7 @@ fn other_in_place(channels: &[u8], words: &mut [u64], s: usize, i: usize) -> Ran
 
 // What the router's answer makes of net-input i in seek.
 fn seeking(routes: &[u16], sites: usize, tries: u8, words: &[u64], s: usize, i: usize) -> InputTurn
-    requires { ⌜ (s < 16) × (i < 5) × (length (now words) ≡ wordCount) ⌝ }
+    requires { ⌜ (s < sitesMost) × (i < inputCount) × (length (now words) ≡ wordCount) ⌝ }
     ensures { λ r. ⌜
         r ≡ ofInputTurn (inAt (siteIn (now (words .entry)) s) i) (siteIn (now (words .entry)) s .outputs)
         (spec.sought (now (routes .entry)) sites tries (siteIn (now (words .entry)) s) s i)
@@ -153,7 +158,7 @@ fn seek_in_place(
     s: usize,
     i: usize,
 ) -> Ran
-    requires { ⌜ i < 5 ⌝ ∗ ⌜ spec.Seekable (now routes) sites (now words) s i ⌝ ∗ ⌜ stateNumber (inAt (siteIn (now words) s) i .phase) ≡ 1 ⌝ }
+    requires { ⌜ i < inputCount ⌝ ∗ ⌜ spec.Seekable (now routes) sites (now words) s i ⌝ ∗ ⌜ stateNumber (inAt (siteIn (now words) s) i .phase) ≡ 1 ⌝ }
     ensures { λ r. ⌜ spec.DidSought (now (routes .entry)) sites tries (now (words .entry)) (now (words .exit)) s r i ⌝ }
 {
     let turn = seeking(routes, sites, tries, words, s, i);
@@ -170,7 +175,8 @@ pub(crate) fn input_in_place(
     s: usize,
     i: usize,
 ) -> Ran
-    requires { ⌜ (i < 5) × (length (now channels) ≡ 64) ⌝ ∗ ⌜ spec.EndsWithin (now channels) s ⌝ ∗ ⌜ spec.Seekable (now routes) sites (now words) s i ⌝ }
+    requires { ⌜ (i < inputCount) × (length (now channels) ≡ endCount) ⌝ ∗ ⌜ spec.BytesWithin (now channels) s ⌝ ∗
+        ⌜ spec.Seekable (now routes) sites (now words) s i ⌝ }
     ensures { λ r. ⌜
         spec.DidAsked (now (channels .entry)) (now (routes .entry)) sites tries (now (words .entry))
         (now (words .exit)) s r i

@@ -7,7 +7,6 @@ mod arms;
 mod events;
 mod form;
 mod inputs;
-mod layout;
 mod load;
 mod owing;
 mod pack;

@@ -3,22 +3,23 @@ ghost use mathlib.Core.Path.{_≡_};
 ghost use mathlib.Core.Bool.{_&&_};
 ghost use Prim.Native.Nat.{_<_};
 ghost use lib.ListN.{length};
+ghost use Rattle.base.specs.Sizes.{sitesMost, inputCount, outputCount, queueRoom};
 ghost use Rattle.types.specs.Numbers.{stateNumber};
 ghost use Rattle.types.specs.Phases.{isNone};
 ghost use Rattle.model.specs.Types.{siteAt, inAt, outAt, inEntry};
 ghost use Rattle.model.specs.Places.{stalled};
-ghost use Rattle.words.specs.Layout.{wordCount};
-ghost use Rattle.words.specs.Words as spec;
-use crate::layout::ARRIVED_FROM;
-use crate::layout::COUNTER_AT;
-use crate::layout::COUNTS_PLACE;
-use crate::layout::LEAVING_FROM;
-use crate::layout::OUTPUTS_FROM;
-use crate::layout::SITE_PLACES;
+ghost use Rattle.layout.specs.Layout.{wordCount, sitePlaces};
+ghost use Rattle.layout.specs.Words as spec;
 use crate::pack::in_entry_from;
 use crate::pack::input_from;
 use crate::pack::out_entry_from;
 use crate::pack::output_from;
+use layout::ARRIVED_FROM;
+use layout::COUNTER_AT;
+use layout::COUNTS_PLACE;
+use layout::LEAVING_FROM;
+use layout::OUTPUTS_FROM;
+use layout::SITE_PLACES;
 use types::InEntry;
 use types::InQueue;
 use types::Input;
@@ -29,14 +30,14 @@ use types::Site;
 
 // The two words of place k of site s.
 pub(crate) fn set_at(words: &[u64], s: usize, k: usize) -> u64
-    requires { ⌜ (s < 16) × (k < 27) × (length (now words) ≡ wordCount) ⌝ }
+    requires { ⌜ (s < sitesMost) × (k < sitePlaces) × (length (now words) ≡ wordCount) ⌝ }
     ensures { λ r. ⌜ r ≡ spec.setAt (now (words .entry)) s k ⌝ }
 {
     words[2 * (SITE_PLACES * s + k)]
 }
 
 pub(crate) fn fields_at(words: &[u64], s: usize, k: usize) -> u64
-    requires { ⌜ (s < 16) × (k < 27) × (length (now words) ≡ wordCount) ⌝ }
+    requires { ⌜ (s < sitesMost) × (k < sitePlaces) × (length (now words) ≡ wordCount) ⌝ }
     ensures { λ r. ⌜ r ≡ spec.fieldsAt (now (words .entry)) s k ⌝ }
 {
     words[2 * (SITE_PLACES * s + k) + 1]
@@ -44,7 +45,7 @@ pub(crate) fn fields_at(words: &[u64], s: usize, k: usize) -> u64
 
 // Net-input i of site s.
 pub(crate) fn load_input(words: &[u64], s: usize, i: usize) -> Input
-    requires { ⌜ (s < 16) × (i < 5) × (length (now words) ≡ wordCount) ⌝ }
+    requires { ⌜ (s < sitesMost) × (i < inputCount) × (length (now words) ≡ wordCount) ⌝ }
     ensures { λ r. ⌜ r ≡ inAt (siteAt (spec.sitesOf (now (words .entry))) s) i ⌝ }
 {
     input_from(set_at(words, s, i), fields_at(words, s, i))
@@ -52,7 +53,7 @@ pub(crate) fn load_input(words: &[u64], s: usize, i: usize) -> Input
 
 // Net-output j of site s.
 pub(crate) fn load_output(words: &[u64], s: usize, j: usize) -> Output
-    requires { ⌜ (s < 16) × (j < 5) × (length (now words) ≡ wordCount) ⌝ }
+    requires { ⌜ (s < sitesMost) × (j < outputCount) × (length (now words) ≡ wordCount) ⌝ }
     ensures { λ r. ⌜ r ≡ outAt (siteAt (spec.sitesOf (now (words .entry))) s) j ⌝ }
 {
     output_from(
@@ -62,7 +63,7 @@ pub(crate) fn load_output(words: &[u64], s: usize, j: usize) -> Output
 }
 
 pub(crate) fn load_outputs(words: &[u64], s: usize) -> [Output; base::OUTPUTS]
-    requires { ⌜ (s < 16) × (length (now words) ≡ wordCount) ⌝ }
+    requires { ⌜ (s < sitesMost) × (length (now words) ≡ wordCount) ⌝ }
     ensures { λ r. ⌜ r ≡ siteAt (spec.sitesOf (now (words .entry))) s .outputs ⌝ }
 {
     [
@@ -75,7 +76,7 @@ pub(crate) fn load_outputs(words: &[u64], s: usize) -> [Output; base::OUTPUTS]
 }
 
 pub(crate) fn load_inputs(words: &[u64], s: usize) -> [Input; base::INPUTS]
-    requires { ⌜ (s < 16) × (length (now words) ≡ wordCount) ⌝ }
+    requires { ⌜ (s < sitesMost) × (length (now words) ≡ wordCount) ⌝ }
     ensures { λ r. ⌜ r ≡ siteAt (spec.sitesOf (now (words .entry))) s .inputs ⌝ }
 {
     [
@@ -89,7 +90,7 @@ pub(crate) fn load_inputs(words: &[u64], s: usize) -> [Input; base::INPUTS]
 
 // Entry m of site s's out-queue.
 pub(crate) fn load_out_entry(words: &[u64], s: usize, m: usize) -> OutEntry
-    requires { ⌜ (s < 16) × (m < 8) × (length (now words) ≡ wordCount) ⌝ }
+    requires { ⌜ (s < sitesMost) × (m < queueRoom) × (length (now words) ≡ wordCount) ⌝ }
     ensures { λ r. ⌜ r ≡ spec.leavingAt (now (words .entry)) s m ⌝ }
 {
     out_entry_from(
@@ -100,7 +101,7 @@ pub(crate) fn load_out_entry(words: &[u64], s: usize, m: usize) -> OutEntry
 
 // Entry m of site s's in-queue.
 pub(crate) fn load_in_entry(words: &[u64], s: usize, m: usize) -> InEntry
-    requires { ⌜ (s < 16) × (m < 8) × (length (now words) ≡ wordCount) ⌝ }
+    requires { ⌜ (s < sitesMost) × (m < queueRoom) × (length (now words) ≡ wordCount) ⌝ }
     ensures { λ r. ⌜ r ≡ spec.arrivedAt (now (words .entry)) s m ⌝ }
 {
     in_entry_from(
@@ -110,21 +111,21 @@ pub(crate) fn load_in_entry(words: &[u64], s: usize, m: usize) -> InEntry
 }
 
 pub(crate) fn out_count(words: &[u64], s: usize) -> usize
-    requires { ⌜ (s < 16) × (length (now words) ≡ wordCount) ⌝ }
+    requires { ⌜ (s < sitesMost) × (length (now words) ≡ wordCount) ⌝ }
     ensures { λ r. ⌜ r ≡ siteAt (spec.sitesOf (now (words .entry))) s .outgoing .count ⌝ }
 {
     set_at(words, s, COUNTS_PLACE) as usize
 }
 
 pub(crate) fn in_count(words: &[u64], s: usize) -> usize
-    requires { ⌜ (s < 16) × (length (now words) ≡ wordCount) ⌝ }
+    requires { ⌜ (s < sitesMost) × (length (now words) ≡ wordCount) ⌝ }
     ensures { λ r. ⌜ r ≡ siteAt (spec.sitesOf (now (words .entry))) s .incoming .count ⌝ }
 {
     fields_at(words, s, COUNTS_PLACE) as usize
 }
 
 pub(crate) fn load_out_queue(words: &[u64], s: usize) -> OutQueue
-    requires { ⌜ (s < 16) × (length (now words) ≡ wordCount) ⌝ }
+    requires { ⌜ (s < sitesMost) × (length (now words) ≡ wordCount) ⌝ }
     ensures { λ r. ⌜ r ≡ siteAt (spec.sitesOf (now (words .entry))) s .outgoing ⌝ }
 {
     OutQueue {
@@ -143,7 +144,7 @@ pub(crate) fn load_out_queue(words: &[u64], s: usize) -> OutQueue
 }
 
 pub(crate) fn load_in_queue(words: &[u64], s: usize) -> InQueue
-    requires { ⌜ (s < 16) × (length (now words) ≡ wordCount) ⌝ }
+    requires { ⌜ (s < sitesMost) × (length (now words) ≡ wordCount) ⌝ }
     ensures { λ r. ⌜ r ≡ siteAt (spec.sitesOf (now (words .entry))) s .incoming ⌝ }
 {
     InQueue {
@@ -162,7 +163,7 @@ pub(crate) fn load_in_queue(words: &[u64], s: usize) -> InQueue
 }
 
 pub(crate) fn load_site(words: &[u64], s: usize) -> Site
-    requires { ⌜ (s < 16) × (length (now words) ≡ wordCount) ⌝ }
+    requires { ⌜ (s < sitesMost) × (length (now words) ≡ wordCount) ⌝ }
     ensures { λ r. ⌜ r ≡ siteAt (spec.sitesOf (now (words .entry))) s ⌝ }
 {
     let inputs = load_inputs(words, s);
@@ -189,7 +190,7 @@ pub(crate) fn load_counter(words: &[u64]) -> u8
 
 // The state number of net-input i.
 pub(crate) fn state_of(words: &[u64], s: usize, i: usize) -> u64
-    requires { ⌜ (s < 16) × (i < 5) × (length (now words) ≡ wordCount) ⌝ }
+    requires { ⌜ (s < sitesMost) × (i < inputCount) × (length (now words) ≡ wordCount) ⌝ }
     ensures { λ r. ⌜ r ≡ stateNumber (inAt (siteAt (spec.sitesOf (now (words .entry))) s) i .phase) ⌝ }
 {
     fields_at(words, s, i) % 8
@@ -197,7 +198,7 @@ pub(crate) fn state_of(words: &[u64], s: usize, i: usize) -> u64
 
 // Whether net-output j is in use with its head taken.
 pub(crate) fn is_taken(words: &[u64], s: usize, j: usize) -> bool
-    requires { ⌜ (s < 16) × (j < 5) × (length (now words) ≡ wordCount) ⌝ }
+    requires { ⌜ (s < sitesMost) × (j < outputCount) × (length (now words) ≡ wordCount) ⌝ }
     ensures { λ r. ⌜
         r ≡
         (outAt (siteAt (spec.sitesOf (now (words .entry))) s) j .used && outAt
@@ -209,7 +210,7 @@ pub(crate) fn is_taken(words: &[u64], s: usize, j: usize) -> bool
 
 // Whether net-output j is stalled: in use, its head taken, no terminator.
 pub(crate) fn is_stalled(words: &[u64], s: usize, j: usize) -> bool
-    requires { ⌜ (s < 16) × (j < 5) × (length (now words) ≡ wordCount) ⌝ }
+    requires { ⌜ (s < sitesMost) × (j < outputCount) × (length (now words) ≡ wordCount) ⌝ }
     ensures { λ r. ⌜ r ≡ stalled (outAt (siteAt (spec.sitesOf (now (words .entry))) s) j) ⌝ }
 {
     fields_at(words, s, OUTPUTS_FROM + j) % 16 == 3
@@ -217,7 +218,7 @@ pub(crate) fn is_stalled(words: &[u64], s: usize, j: usize) -> bool
 
 // Whether net-output j is in use.
 pub(crate) fn is_used(words: &[u64], s: usize, j: usize) -> bool
-    requires { ⌜ (s < 16) × (j < 5) × (length (now words) ≡ wordCount) ⌝ }
+    requires { ⌜ (s < sitesMost) × (j < outputCount) × (length (now words) ≡ wordCount) ⌝ }
     ensures { λ r. ⌜ r ≡ outAt (siteAt (spec.sitesOf (now (words .entry))) s) j .used ⌝ }
 {
     fields_at(words, s, OUTPUTS_FROM + j) % 2 == 1
@@ -225,7 +226,7 @@ pub(crate) fn is_used(words: &[u64], s: usize, j: usize) -> bool
 
 // The net-input that feeds net-output 0.
 pub(crate) fn feeder_of(words: &[u64], s: usize) -> usize
-    requires { ⌜ (s < 16) × (length (now words) ≡ wordCount) ⌝ }
+    requires { ⌜ (s < sitesMost) × (length (now words) ≡ wordCount) ⌝ }
     ensures { λ r. ⌜ r ≡ outAt (siteAt (spec.sitesOf (now (words .entry))) s) 0 .input ⌝ }
 {
     (fields_at(words, s, OUTPUTS_FROM) / 256 % 256) as usize
@@ -233,7 +234,7 @@ pub(crate) fn feeder_of(words: &[u64], s: usize) -> usize
 
 // Whether the in-queue's front entry lacks a terminator.
 pub(crate) fn front_lacks(words: &[u64], s: usize) -> bool
-    requires { ⌜ (s < 16) × (length (now words) ≡ wordCount) ⌝ }
+    requires { ⌜ (s < sitesMost) × (length (now words) ≡ wordCount) ⌝ }
     ensures { λ r. ⌜ r ≡ isNone (inEntry (siteAt (spec.sitesOf (now (words .entry))) s .incoming) 0 .terminator) ⌝ }
 {
     fields_at(words, s, ARRIVED_FROM) % 4 == 0

@@ -2,9 +2,9 @@
 ghost use mathlib.Core.Path.{_≡_};
 ghost use lib.ListN.{length};
 ghost use Rattle.model.specs.Owing.{owedPairs};
-ghost use Rattle.words.specs.Layout.{wordCount};
-ghost use Rattle.words.specs.Words.{sitesOf};
-ghost use Rattle.words.specs.Public.{owedWords};
+ghost use Rattle.layout.specs.Layout.{wordCount};
+ghost use Rattle.layout.specs.Words.{sitesOf};
+ghost use Rattle.words.specs.Owing.{owedWords};
 use crate::form::is_state;
 use crate::load::load_site;
 
@@ -19,7 +19,7 @@ pub(crate) fn owed_in_place(words: &[u64]) -> usize
     ensures { λ r. ⌜ r ≡ owedPairs (sitesOf (now (words .entry))) ⌝ }
 {
     let mut n = 0usize;
-    for s in 0usize..16 {
+    for s in 0usize..base::SITES {
         let site = load_site(words, s);
         n += machine::site_pairs(s, site);
     }

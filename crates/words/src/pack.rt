@@ -4,7 +4,7 @@ ghost use Prim.Native.Nat.{_<_, _≤_};
 ghost use lib.ListN.{length};
 ghost use Rattle.base.specs.Bools.{count};
 ghost use Rattle.types.specs.Numbers.{connectionOf};
-ghost use Rattle.words.specs.Packed as spec;
+ghost use Rattle.layout.specs.Packed as spec;
 use types::Connection;
 use types::InEntry;
 use types::Input;

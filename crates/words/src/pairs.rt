@@ -2,11 +2,12 @@
 ghost use mathlib.Core.Path.{_≡_};
 ghost use Prim.Native.Nat.{suc, _<_};
 ghost use lib.ListN.{length};
+ghost use Rattle.base.specs.Sizes.{sitesMost, inputCount, portCount};
 ghost use Rattle.model.specs.Types.{setSite, setIn, setOut, withInQueue, withOutQueue};
 ghost use Rattle.model.specs.Steps.{setBoth, setFar};
-ghost use Rattle.words.specs.Layout.{wordCount};
-ghost use Rattle.words.specs.Words.{sitesOf};
-ghost use Rattle.words.specs.Stored.{Stored};
+ghost use Rattle.layout.specs.Layout.{wordCount, endCount};
+ghost use Rattle.layout.specs.Words.{sitesOf};
+ghost use Rattle.layout.specs.Stored.{Stored};
 ghost use Rattle.words.specs.Events.{siteIn};
 use crate::store::store_in_queue;
 use crate::store::store_input;
@@ -20,7 +21,7 @@ use types::Output;
 
 // The in-queue and output 0.
 pub(crate) fn store_local(words: &mut [u64], s: usize, queue: InQueue, output: Output)
-    requires { ⌜ (s < 16) × (length (now words) ≡ wordCount) ⌝ }
+    requires { ⌜ (s < sitesMost) × (length (now words) ≡ wordCount) ⌝ }
     ensures { λ _. ⌜
         Stored (now (words .entry)) (now (words .exit))
         (setSite (sitesOf (now (words .entry))) s
@@ -40,7 +41,7 @@ pub(crate) fn store_passed(
     byte: u8,
     input: Input,
 )
-    requires { ⌜ (s < 16) × (j < 4) × (length (now words) ≡ wordCount) × (byte < 64) ⌝ }
+    requires { ⌜ (s < sitesMost) × (j < portCount) × (length (now words) ≡ wordCount) × (byte < endCount) ⌝ }
     ensures { λ _. ⌜
         Stored (now (words .entry)) (now (words .exit))
         (setFar (setSite (sitesOf (now (words .entry))) s (setOut (siteIn (now (words .entry)) s) (suc j) output))
@@ -49,12 +50,12 @@ pub(crate) fn store_passed(
 {
     let b = base::wide(byte);
     store_output(words, s, j + 1, output);
-    store_input(words, b / 4, b % 4 + 1, input);
+    store_input(words, b / base::PORTS, b % base::PORTS + 1, input);
 }
 
 // The out-queue and net-input 0.
 pub(crate) fn store_leaving(words: &mut [u64], s: usize, queue: OutQueue, input: Input)
-    requires { ⌜ (s < 16) × (length (now words) ≡ wordCount) ⌝ }
+    requires { ⌜ (s < sitesMost) × (length (now words) ≡ wordCount) ⌝ }
     ensures { λ _. ⌜
         Stored (now (words .entry)) (now (words .exit))
         (setSite (sitesOf (now (words .entry))) s
@@ -67,7 +68,7 @@ pub(crate) fn store_leaving(words: &mut [u64], s: usize, queue: OutQueue, input:
 
 // The two queues.
 pub(crate) fn store_queues(words: &mut [u64], s: usize, incoming: InQueue, outgoing: OutQueue)
-    requires { ⌜ (s < 16) × (length (now words) ≡ wordCount) ⌝ }
+    requires { ⌜ (s < sitesMost) × (length (now words) ≡ wordCount) ⌝ }
     ensures { λ _. ⌜
         Stored (now (words .entry)) (now (words .exit))
         (setSite (sitesOf (now (words .entry))) s
@@ -86,7 +87,7 @@ pub(crate) fn store_both(
     outputs: [Output; base::OUTPUTS],
     input: Input,
 )
-    requires { ⌜ (s < 16) × (i < 5) × (length (now words) ≡ wordCount) ⌝ }
+    requires { ⌜ (s < sitesMost) × (i < inputCount) × (length (now words) ≡ wordCount) ⌝ }
     ensures { λ _. ⌜
         Stored (now (words .entry)) (now (words .exit))
         (setSite (sitesOf (now (words .entry))) s (setBoth (siteIn (now (words .entry)) s) i input outputs))

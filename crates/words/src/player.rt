@@ -6,13 +6,13 @@ ghost use lib.ListN.{length};
 ghost use Rattle.base.specs.Sizes.{sitesMost, queueRoom, sendsMost, setBits};
 ghost use Rattle.model.specs.Runs.{playedRun, countsOf};
 ghost use Rattle.machine.specs.Play.{playAnswer, playBook, bookIn, runWith, Playable};
-ghost use Rattle.words.specs.Layout.{wordCount};
-ghost use Rattle.words.specs.Events.{networkOf};
+ghost use Rattle.layout.specs.Layout.{wordCount};
+ghost use Rattle.words.specs.Events.{networkBy};
 ghost use Rattle.words.specs.Turned.{Tried, Drew, Turned, Turnable, Startable, Stands};
-use crate::layout::WORDS;
 use crate::owing::owed_in_place;
 use crate::runs::run_in_place;
 use crate::sends::send_in_place;
+use layout::WORDS;
 use machine::Clock;
 use machine::PlayAnswer;
 use machine::capped;
@@ -76,9 +76,9 @@ fn draw_turn(
     book: &mut [u8],
     t: Tally,
 ) -> Tally
-    requires { ⌜ Turnable (networkOf sites depth tries (now channels) (now routes)) (now words) t ⌝ }
+    requires { ⌜ Turnable (networkBy sites depth tries (now channels) (now routes)) (now words) t ⌝ }
     ensures { λ r. ⌜
-        Drew (networkOf sites depth tries (now (channels .entry)) (now (routes .entry))) (now (words .entry))
+        Drew (networkBy sites depth tries (now (channels .entry)) (now (routes .entry))) (now (words .entry))
         (now (words .exit)) (now (book .entry)) (now (book .exit)) t r
         ⌝ }
 {
@@ -118,9 +118,9 @@ fn take_turn(
     book: &mut [u8],
     t: Tally,
 ) -> Tally
-    requires { ⌜ Turnable (networkOf sites depth tries (now channels) (now routes)) (now words) t ⌝ }
+    requires { ⌜ Turnable (networkBy sites depth tries (now channels) (now routes)) (now words) t ⌝ }
     ensures { λ r. ⌜
-        Turned (networkOf sites depth tries (now (channels .entry)) (now (routes .entry))) count (now (words .entry))
+        Turned (networkBy sites depth tries (now (channels .entry)) (now (routes .entry))) count (now (words .entry))
         (now (words .exit)) (now (book .entry)) (now (book .exit)) order t r
         ⌝ }
 {
@@ -146,12 +146,12 @@ fn play_turns(
     book: &mut [u8],
 ) -> Tally
     requires { ⌜
-        Startable (runWith (networkOf sites depth tries (now channels) (now routes)) sends count seed draws)
+        Startable (runWith (networkBy sites depth tries (now channels) (now routes)) sends count seed draws)
         (now words) (length (now book))
         ⌝ }
     ensures { λ r. ⌜
         Stands
-        (runWith (networkOf sites depth tries (now (channels .entry)) (now (routes .entry))) sends count seed draws)
+        (runWith (networkBy sites depth tries (now (channels .entry)) (now (routes .entry))) sends count seed draws)
         (now (words .exit)) (now (book .entry)) (now (book .exit)) r
         ⌝ }
 {

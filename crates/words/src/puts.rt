@@ -2,10 +2,11 @@
 ghost use mathlib.Core.Path.{_≡_};
 ghost use Prim.Native.Nat.{suc, _<_};
 ghost use lib.ListN.{length};
+ghost use Rattle.base.specs.Sizes.{sitesMost, inputCount, portCount};
 ghost use Rattle.model.specs.Types.{setIn, setOut, withInQueue, withOutQueue};
 ghost use Rattle.model.specs.Steps.{ownTurn, passTurn, workDone, setBoth};
 ghost use Rattle.model.specs.Network.{channel};
-ghost use Rattle.words.specs.Layout.{wordCount};
+ghost use Rattle.layout.specs.Layout.{wordCount, endCount};
 ghost use Rattle.words.specs.Events as spec;
 ghost use Rattle.words.specs.Events.{Did, DidOwn, siteIn};
 use crate::pairs::store_both;
@@ -21,7 +22,7 @@ use rules::QueueTurn;
 use types::Ran;
 
 pub(crate) fn put_local(words: &mut [u64], s: usize, turn: LocalTurn) -> Ran
-    requires { ⌜ (s < 16) × (length (now words) ≡ wordCount) ⌝ }
+    requires { ⌜ (s < sitesMost) × (length (now words) ≡ wordCount) ⌝ }
     ensures { λ r. ⌜
         DidOwn (now (words .entry)) (now (words .exit)) s r
         (ownTurn (λ o iq. setOut (withInQueue (siteIn (now (words .entry)) s) iq) 0 o) (spec.localBack turn))
@@ -37,7 +38,7 @@ pub(crate) fn put_local(words: &mut [u64], s: usize, turn: LocalTurn) -> Ran
 }
 
 pub(crate) fn put_channel(words: &mut [u64], s: usize, j: usize, byte: u8, turn: ChannelTurn) -> Ran
-    requires { ⌜ (s < 16) × (j < 4) × (length (now words) ≡ wordCount) × (byte < 64) ⌝ }
+    requires { ⌜ (s < sitesMost) × (j < portCount) × (length (now words) ≡ wordCount) × (byte < endCount) ⌝ }
     ensures { λ r. ⌜ spec.DidPass (now (words .entry)) (now (words .exit)) s r j byte (spec.channelBack turn) ⌝ }
 {
     let output = turn.output;
@@ -50,7 +51,7 @@ pub(crate) fn put_channel(words: &mut [u64], s: usize, j: usize, byte: u8, turn:
 }
 
 pub(crate) fn put_queue(words: &mut [u64], s: usize, turn: QueueTurn) -> Ran
-    requires { ⌜ (s < 16) × (length (now words) ≡ wordCount) ⌝ }
+    requires { ⌜ (s < sitesMost) × (length (now words) ≡ wordCount) ⌝ }
     ensures { λ r. ⌜
         DidOwn (now (words .entry)) (now (words .exit)) s r
         (ownTurn (λ oq y. setIn (withOutQueue (siteIn (now (words .entry)) s) oq) 0 y) (spec.queueBack turn))
@@ -66,7 +67,7 @@ pub(crate) fn put_queue(words: &mut [u64], s: usize, turn: QueueTurn) -> Ran
 }
 
 pub(crate) fn put_work(words: &mut [u64], s: usize, turn: OperatorTurn) -> Ran
-    requires { ⌜ (s < 16) × (length (now words) ≡ wordCount) ⌝ }
+    requires { ⌜ (s < sitesMost) × (length (now words) ≡ wordCount) ⌝ }
     ensures { λ r. ⌜ DidOwn (now (words .entry)) (now (words .exit)) s r (workDone (siteIn (now (words .entry)) s) (spec.workBack turn)) ⌝ }
 {
     let incoming = turn.incoming;
@@ -84,7 +85,7 @@ pub(crate) fn put_work(words: &mut [u64], s: usize, turn: OperatorTurn) -> Ran
 
 // The outputs and net-input i.
 pub(crate) fn put_input(words: &mut [u64], s: usize, i: usize, turn: InputTurn) -> Ran
-    requires { ⌜ (s < 16) × (i < 5) × (length (now words) ≡ wordCount) ⌝ }
+    requires { ⌜ (s < sitesMost) × (i < inputCount) × (length (now words) ≡ wordCount) ⌝ }
     ensures { λ r. ⌜
         DidOwn (now (words .entry)) (now (words .exit)) s r
         (ownTurn (setBoth (siteIn (now (words .entry)) s) i) (spec.inputBack turn))

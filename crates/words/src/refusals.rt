@@ -5,10 +5,10 @@ ghost use mathlib.Core.List.{[]};
 ghost use mathlib.Core.Bool.{_&&_};
 ghost use lib.ListN.{length};
 ghost use Rattle.model.specs.Range.{inRange};
-ghost use Rattle.words.specs.Layout.{wordCount};
-ghost use Rattle.words.specs.Words.{stateOf, isState};
-ghost use Rattle.words.specs.Events.{networkOf};
-ghost use Rattle.words.specs.Public.{sharedRefusal};
+ghost use Rattle.layout.specs.Layout.{wordCount};
+ghost use Rattle.layout.specs.Words.{stateOf, isState};
+ghost use Rattle.words.specs.Events.{networkBy};
+ghost use Rattle.layout.specs.Public.{sharedRefusal};
 use crate::form::is_state;
 use crate::load::load_counter;
 use crate::load::load_site;
@@ -17,7 +17,7 @@ use types::Network;
 // Whether the words' state is in range for a network with these sites, tries and depth.
 pub(crate) fn is_in_range(sites: usize, tries: u8, depth: usize, words: &[u64]) -> bool
     requires { ⌜ length (now words) ≡ wordCount ⌝ }
-    ensures { λ r. ⌜ r ≡ inRange (networkOf sites depth tries [] []) (stateOf (now (words .entry))) ⌝ }
+    ensures { λ r. ⌜ r ≡ inRange (networkBy sites depth tries [] []) (stateOf (now (words .entry))) ⌝ }
 {
     let counter = load_counter(words);
     let mut ok = true;
@@ -33,7 +33,7 @@ pub(crate) fn is_in_range(sites: usize, tries: u8, depth: usize, words: &[u64]) 
 
 // Whether these are the words of a state in range.
 fn is_fit(sites: usize, tries: u8, depth: usize, words: &[u64]) -> bool
-    ensures { λ r. ⌜ r ≡ isState (now (words .entry)) && inRange (networkOf sites depth tries [] []) (stateOf (now (words .entry))) ⌝ }
+    ensures { λ r. ⌜ r ≡ isState (now (words .entry)) && inRange (networkBy sites depth tries [] []) (stateOf (now (words .entry))) ⌝ }
 {
     if is_state(words) {
         return is_in_range(sites, tries, depth, words);

@@ -1,8 +1,8 @@
 // RUN in place: by ranges of the code number.
 ghost use Prim.Native.Nat.{_<_};
 ghost use Rattle.model.specs.Steps.{act, ends};
-ghost use Rattle.words.specs.Words.{sitesOf};
-ghost use Rattle.words.specs.Events.{Did, Runnable, networkOf, siteIn};
+ghost use Rattle.layout.specs.Words.{sitesOf};
+ghost use Rattle.words.specs.Events.{Did, RunAsks, networkBy, siteIn};
 use crate::arms::channel_in_place;
 use crate::arms::local_in_place;
 use crate::arms::operator_in_place;
@@ -22,13 +22,13 @@ pub(crate) fn run_in_place(
     s: usize,
     code: usize,
 ) -> Ran
-    requires { ⌜ Runnable (networkOf sites depth tries (now channels) (now routes)) (now words) s ⌝ }
+    requires { ⌜ RunAsks (networkBy sites depth tries (now channels) (now routes)) (now words) s ⌝ }
     ensures { λ r. ⌜
-        Did (networkOf sites depth tries (now (channels .entry)) (now (routes .entry))) (now (words .entry))
+        Did (networkBy sites depth tries (now (channels .entry)) (now (routes .entry))) (now (words .entry))
         (now (words .exit)) s r
-        (act (networkOf sites depth tries (now (channels .entry)) (now (routes .entry))) s
+        (act (networkBy sites depth tries (now (channels .entry)) (now (routes .entry))) s
         (siteIn (now (words .entry)) s)
-        (ends (networkOf sites depth tries (now (channels .entry)) (now (routes .entry)))
+        (ends (networkBy sites depth tries (now (channels .entry)) (now (routes .entry)))
         (sitesOf (now (words .entry))) s)
         code)
         ⌝ }
@@ -36,7 +36,7 @@ pub(crate) fn run_in_place(
     match code {
         0..=4 => input_in_place(channels, routes, sites, tries, words, s, code),
         5 => local_in_place(depth, words, s),
-        6..=9 => channel_in_place(words, s, code - 6, channels[4 * s + (code - 6)]),
+        6..=9 => channel_in_place(words, s, code - 6, channels[base::PORTS * s + (code - 6)]),
         10 => queue_in_place(words, s),
         11 => operator_in_place(depth, words, s),
         12 => timeout_in_place(words, s),

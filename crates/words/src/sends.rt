@@ -2,12 +2,13 @@
 ghost use mathlib.Core.Path.{_≡_};
 ghost use Prim.Native.Nat.{_+_, _<_, _≤_};
 ghost use lib.ListN.{length};
+ghost use Rattle.base.specs.Sizes.{sitesMost, queueRoom};
 ghost use Rattle.model.specs.Types.{setSite, withOutQueue, pushOut};
 ghost use Rattle.model.specs.Steps.{enqueue};
 ghost use Rattle.model.specs.Events.{sendFaultBy, sends};
-ghost use Rattle.words.specs.Layout.{wordCount};
-ghost use Rattle.words.specs.Words.{sitesOf, stateOf};
-ghost use Rattle.words.specs.Stored.{Stored, Counted, leavingSet, leavingCount};
+ghost use Rattle.layout.specs.Layout.{wordCount};
+ghost use Rattle.layout.specs.Words.{sitesOf, stateOf};
+ghost use Rattle.layout.specs.Stored.{Stored, Counted, leavingSet, leavingCount};
 ghost use Rattle.words.specs.Events as spec;
 ghost use Rattle.words.specs.Events.{Took, siteIn};
 use crate::load::load_counter;
@@ -44,7 +45,7 @@ fn own_refusal(sites: usize, depth: usize, words: &[u64], s: usize, set: u64) ->
 
 // An entry at place m of site s's out-queue, and the count after it.
 fn store_entry(words: &mut [u64], s: usize, m: usize, entry: OutEntry)
-    requires { ⌜ (s < 16) × (m < 8) × (length (now words) ≡ wordCount) ⌝ }
+    requires { ⌜ (s < sitesMost) × (m < queueRoom) × (length (now words) ≡ wordCount) ⌝ }
     ensures { λ _. ⌜
         Stored (now (words .entry)) (now (words .exit))
         (setSite (sitesOf (now (words .entry))) s
@@ -57,7 +58,7 @@ fn store_entry(words: &mut [u64], s: usize, m: usize, entry: OutEntry)
 
 // An entry at the back of site s's out-queue.
 fn push_entry(words: &mut [u64], s: usize, entry: OutEntry)
-    requires { ⌜ (s < 16) × (length (now words) ≡ wordCount) × (siteIn (now words) s .outgoing .count < 8) ⌝ }
+    requires { ⌜ (s < sitesMost) × (length (now words) ≡ wordCount) × (siteIn (now words) s .outgoing .count < 8) ⌝ }
     ensures { λ _. ⌜
         Stored (now (words .entry)) (now (words .exit))
         (setSite (sitesOf (now (words .entry))) s
@@ -70,7 +71,7 @@ fn push_entry(words: &mut [u64], s: usize, entry: OutEntry)
 
 // The packet at the back of site s's out-queue, not started, and the counter after it.
 fn store_packet(words: &mut [u64], s: usize, packet: u8, set: u64)
-    requires { ⌜ (s < 16) × (length (now words) ≡ wordCount) × (siteIn (now words) s .outgoing .count < 8) × (packet < 255) ⌝ }
+    requires { ⌜ (s < sitesMost) × (length (now words) ≡ wordCount) × (siteIn (now words) s .outgoing .count < 8) × (packet < 255) ⌝ }
     ensures { λ _. ⌜ Counted (now (words .entry)) (now (words .exit)) (enqueue (sitesOf (now (words .entry))) s packet set) (packet + 1) ⌝ }
 {
     let entry = OutEntry {
@@ -85,7 +86,7 @@ fn store_packet(words: &mut [u64], s: usize, packet: u8, set: u64)
 // SEND (s, set) that nothing refuses.
 fn accept(words: &mut [u64], s: usize, set: u64) -> Sent
     requires { ⌜
-        (s < 16) × (length (now words) ≡ wordCount) × (siteIn (now words) s .outgoing .count < 8) ×
+        (s < sitesMost) × (length (now words) ≡ wordCount) × (siteIn (now words) s .outgoing .count < 8) ×
         (stateOf (now words) .counter < 255)
         ⌝ }
     ensures { λ r. ⌜ Took (now (words .entry)) (now (words .exit)) r (sends (stateOf (now (words .entry))) s set) ⌝ }
@@ -103,7 +104,7 @@ pub(crate) fn send_in_place(
     s: usize,
     set: u64,
 ) -> Sent
-    requires { ⌜ (sites ≤ 16) × (depth ≤ 8) × (length (now words) ≡ wordCount) ⌝ }
+    requires { ⌜ (sites ≤ sitesMost) × (depth ≤ queueRoom) × (length (now words) ≡ wordCount) ⌝ }
     ensures { λ r. ⌜ Took (now (words .entry)) (now (words .exit)) r (spec.tried sites depth (stateOf (now (words .entry))) s set) ⌝ }
 {
     let refusal = own_refusal(sites, depth, words, s, set);

@@ -2,20 +2,21 @@
 ghost use mathlib.Core.Path.{_≡_};
 ghost use Prim.Native.Nat.{_<_};
 ghost use lib.ListN.{length};
+ghost use Rattle.base.specs.Sizes.{sitesMost, inputCount, outputCount, queueRoom};
 ghost use Rattle.model.specs.Types.{siteAt, setSite, setIn, withOutputs, setOut, withOutQueue, withInQueue};
-ghost use Rattle.words.specs.Layout.{wordCount};
-ghost use Rattle.words.specs.Words.{sitesOf};
-ghost use Rattle.words.specs.Stored.{Stored, Counted, leavingSet, leavingAll, leavingCount, arrivedSet, arrivedAll, arrivedCount};
-use crate::layout::ARRIVED_FROM;
-use crate::layout::COUNTER_AT;
-use crate::layout::COUNTS_PLACE;
-use crate::layout::LEAVING_FROM;
-use crate::layout::OUTPUTS_FROM;
-use crate::layout::SITE_PLACES;
+ghost use Rattle.layout.specs.Layout.{wordCount, sitePlaces};
+ghost use Rattle.layout.specs.Words.{sitesOf};
+ghost use Rattle.layout.specs.Stored.{placed, Stored, Counted, leavingSet, leavingAll, leavingCount, arrivedSet, arrivedAll, arrivedCount};
 use crate::pack::in_entry_word;
 use crate::pack::input_word;
 use crate::pack::out_entry_word;
 use crate::pack::output_word;
+use layout::ARRIVED_FROM;
+use layout::COUNTER_AT;
+use layout::COUNTS_PLACE;
+use layout::LEAVING_FROM;
+use layout::OUTPUTS_FROM;
+use layout::SITE_PLACES;
 use types::InEntry;
 use types::InQueue;
 use types::Input;
@@ -23,8 +24,17 @@ use types::OutEntry;
 use types::OutQueue;
 use types::Output;
 
+// Both words of place k of site s.
+fn store_place(words: &mut [u64], s: usize, k: usize, set: u64, w: u64)
+    requires { ⌜ (s < sitesMost) × (k < sitePlaces) × (length (now words) ≡ wordCount) ⌝ }
+    ensures { λ _. ⌜ now (words .exit) ≡ placed (now (words .entry)) s k set w ⌝ }
+{
+    words[2 * (SITE_PLACES * s + k)] = set;
+    words[2 * (SITE_PLACES * s + k) + 1] = w;
+}
+
 pub(crate) fn store_input(words: &mut [u64], s: usize, i: usize, input: Input)
-    requires { ⌜ (s < 16) × (i < 5) × (length (now words) ≡ wordCount) ⌝ }
+    requires { ⌜ (s < sitesMost) × (i < inputCount) × (length (now words) ≡ wordCount) ⌝ }
     ensures { λ _. ⌜
         Stored (now (words .entry)) (now (words .exit))
         (setSite (sitesOf (now (words .entry))) s (setIn (siteAt (sitesOf (now (words .entry))) s) i input))
@@ -32,12 +42,11 @@ pub(crate) fn store_input(words: &mut [u64], s: usize, i: usize, input: Input)
 {
     let set = input.set;
     let w = input_word(input);
-    words[2 * (SITE_PLACES * s + i)] = set;
-    words[2 * (SITE_PLACES * s + i) + 1] = w;
+    store_place(words, s, i, set, w);
 }
 
 pub(crate) fn store_output(words: &mut [u64], s: usize, j: usize, output: Output)
-    requires { ⌜ (s < 16) × (j < 5) × (length (now words) ≡ wordCount) ⌝ }
+    requires { ⌜ (s < sitesMost) × (j < outputCount) × (length (now words) ≡ wordCount) ⌝ }
     ensures { λ _. ⌜
         Stored (now (words .entry)) (now (words .exit))
         (setSite (sitesOf (now (words .entry))) s (setOut (siteAt (sitesOf (now (words .entry))) s) j output))
@@ -45,13 +54,12 @@ pub(crate) fn store_output(words: &mut [u64], s: usize, j: usize, output: Output
 {
     let set = output.set;
     let w = output_word(output);
-    words[2 * (SITE_PLACES * s + (OUTPUTS_FROM + j))] = set;
-    words[2 * (SITE_PLACES * s + (OUTPUTS_FROM + j)) + 1] = w;
+    store_place(words, s, OUTPUTS_FROM + j, set, w);
 }
 
 // The five outputs of site s.
 pub(crate) fn store_outputs(words: &mut [u64], s: usize, outputs: [Output; base::OUTPUTS])
-    requires { ⌜ (s < 16) × (length (now words) ≡ wordCount) ⌝ }
+    requires { ⌜ (s < sitesMost) × (length (now words) ≡ wordCount) ⌝ }
     ensures { λ _. ⌜
         Stored (now (words .entry)) (now (words .exit))
         (setSite (sitesOf (now (words .entry))) s (withOutputs (siteAt (sitesOf (now (words .entry))) s) outputs))
@@ -67,7 +75,7 @@ pub(crate) fn store_outputs(words: &mut [u64], s: usize, outputs: [Output; base:
 
 // Entry m of site s's out-queue, the count as it was.
 pub(crate) fn store_out_entry(words: &mut [u64], s: usize, m: usize, entry: OutEntry)
-    requires { ⌜ (s < 16) × (m < 8) × (length (now words) ≡ wordCount) ⌝ }
+    requires { ⌜ (s < sitesMost) × (m < queueRoom) × (length (now words) ≡ wordCount) ⌝ }
     ensures { λ _. ⌜
         Stored (now (words .entry)) (now (words .exit))
         (setSite (sitesOf (now (words .entry))) s (leavingSet (siteAt (sitesOf (now (words .entry))) s) m entry))
@@ -75,13 +83,12 @@ pub(crate) fn store_out_entry(words: &mut [u64], s: usize, m: usize, entry: OutE
 {
     let set = entry.set;
     let w = out_entry_word(entry);
-    words[2 * (SITE_PLACES * s + (LEAVING_FROM + m))] = set;
-    words[2 * (SITE_PLACES * s + (LEAVING_FROM + m)) + 1] = w;
+    store_place(words, s, LEAVING_FROM + m, set, w);
 }
 
 // Entry m of site s's in-queue, the count as it was.
 pub(crate) fn store_in_entry(words: &mut [u64], s: usize, m: usize, entry: InEntry)
-    requires { ⌜ (s < 16) × (m < 8) × (length (now words) ≡ wordCount) ⌝ }
+    requires { ⌜ (s < sitesMost) × (m < queueRoom) × (length (now words) ≡ wordCount) ⌝ }
     ensures { λ _. ⌜
         Stored (now (words .entry)) (now (words .exit))
         (setSite (sitesOf (now (words .entry))) s (arrivedSet (siteAt (sitesOf (now (words .entry))) s) m entry))
@@ -89,13 +96,12 @@ pub(crate) fn store_in_entry(words: &mut [u64], s: usize, m: usize, entry: InEnt
 {
     let set = entry.set;
     let w = in_entry_word(entry);
-    words[2 * (SITE_PLACES * s + (ARRIVED_FROM + m))] = set;
-    words[2 * (SITE_PLACES * s + (ARRIVED_FROM + m)) + 1] = w;
+    store_place(words, s, ARRIVED_FROM + m, set, w);
 }
 
 // The entries of site s's out-queue, the count as it was.
 fn store_out_entries(words: &mut [u64], s: usize, entries: [OutEntry; base::QUEUE])
-    requires { ⌜ (s < 16) × (length (now words) ≡ wordCount) ⌝ }
+    requires { ⌜ (s < sitesMost) × (length (now words) ≡ wordCount) ⌝ }
     ensures { λ _. ⌜
         Stored (now (words .entry)) (now (words .exit))
         (setSite (sitesOf (now (words .entry))) s (leavingAll (siteAt (sitesOf (now (words .entry))) s) entries))
@@ -111,7 +117,7 @@ fn store_out_entries(words: &mut [u64], s: usize, entries: [OutEntry; base::QUEU
 
 // The entries of site s's in-queue, the count as it was.
 fn store_in_entries(words: &mut [u64], s: usize, entries: [InEntry; base::QUEUE])
-    requires { ⌜ (s < 16) × (length (now words) ≡ wordCount) ⌝ }
+    requires { ⌜ (s < sitesMost) × (length (now words) ≡ wordCount) ⌝ }
     ensures { λ _. ⌜
         Stored (now (words .entry)) (now (words .exit))
         (setSite (sitesOf (now (words .entry))) s (arrivedAll (siteAt (sitesOf (now (words .entry))) s) entries))
@@ -127,7 +133,7 @@ fn store_in_entries(words: &mut [u64], s: usize, entries: [InEntry; base::QUEUE]
 
 // The counts of site s's queues.
 pub(crate) fn store_out_count(words: &mut [u64], s: usize, count: usize)
-    requires { ⌜ (s < 16) × (length (now words) ≡ wordCount) ⌝ }
+    requires { ⌜ (s < sitesMost) × (length (now words) ≡ wordCount) ⌝ }
     ensures { λ _. ⌜
         Stored (now (words .entry)) (now (words .exit))
         (setSite (sitesOf (now (words .entry))) s (leavingCount (siteAt (sitesOf (now (words .entry))) s) count))
@@ -137,7 +143,7 @@ pub(crate) fn store_out_count(words: &mut [u64], s: usize, count: usize)
 }
 
 pub(crate) fn store_in_count(words: &mut [u64], s: usize, count: usize)
-    requires { ⌜ (s < 16) × (length (now words) ≡ wordCount) ⌝ }
+    requires { ⌜ (s < sitesMost) × (length (now words) ≡ wordCount) ⌝ }
     ensures { λ _. ⌜
         Stored (now (words .entry)) (now (words .exit))
         (setSite (sitesOf (now (words .entry))) s (arrivedCount (siteAt (sitesOf (now (words .entry))) s) count))
@@ -147,7 +153,7 @@ pub(crate) fn store_in_count(words: &mut [u64], s: usize, count: usize)
 }
 
 pub(crate) fn store_out_queue(words: &mut [u64], s: usize, queue: OutQueue)
-    requires { ⌜ (s < 16) × (length (now words) ≡ wordCount) ⌝ }
+    requires { ⌜ (s < sitesMost) × (length (now words) ≡ wordCount) ⌝ }
     ensures { λ _. ⌜
         Stored (now (words .entry)) (now (words .exit))
         (setSite (sitesOf (now (words .entry))) s (withOutQueue (siteAt (sitesOf (now (words .entry))) s) queue))
@@ -160,7 +166,7 @@ pub(crate) fn store_out_queue(words: &mut [u64], s: usize, queue: OutQueue)
 }
 
 pub(crate) fn store_in_queue(words: &mut [u64], s: usize, queue: InQueue)
-    requires { ⌜ (s < 16) × (length (now words) ≡ wordCount) ⌝ }
+    requires { ⌜ (s < sitesMost) × (length (now words) ≡ wordCount) ⌝ }
     ensures { λ _. ⌜
         Stored (now (words .entry)) (now (words .exit))
         (setSite (sitesOf (now (words .entry))) s (withInQueue (siteAt (sitesOf (now (words .entry))) s) queue))

@@ -3,12 +3,13 @@ ghost use mathlib.Core.Path.{_≡_};
 ghost use mathlib.Core.Bool.{true};
 ghost use Prim.Native.Nat.{suc, _<_};
 ghost use lib.ListN.{length};
+ghost use Rattle.base.specs.Sizes.{sitesMost, inputCount, portCount};
 ghost use Rattle.model.specs.Types.{inAt, outAt};
 ghost use Rattle.model.specs.Places as places;
 ghost use Rattle.model.specs.Steps.{farEnd};
 ghost use Rattle.rules.specs.Turns.{ofLocalTurn, ofChannelTurn, ofQueueTurn, ofWork, ofInputTurn};
-ghost use Rattle.words.specs.Layout.{wordCount};
-ghost use Rattle.words.specs.Words.{sitesOf};
+ghost use Rattle.layout.specs.Layout.{wordCount, endCount};
+ghost use Rattle.layout.specs.Words.{sitesOf};
 ghost use Rattle.words.specs.Events.{siteIn};
 use crate::load::load_in_queue;
 use crate::load::load_input;
@@ -27,7 +28,7 @@ use rules::out_queue;
 use rules::time_out;
 
 pub(crate) fn local_turn(depth: usize, words: &[u64], s: usize) -> LocalTurn
-    requires { ⌜ (s < 16) × (length (now words) ≡ wordCount) ⌝ }
+    requires { ⌜ (s < sitesMost) × (length (now words) ≡ wordCount) ⌝ }
     ensures { λ r. ⌜
         r ≡ ofLocalTurn (outAt (siteIn (now (words .entry)) s) 0) (siteIn (now (words .entry)) s .incoming)
         (places.localOutput depth (outAt (siteIn (now (words .entry)) s) 0) (siteIn (now (words .entry)) s .incoming))
@@ -40,7 +41,7 @@ pub(crate) fn local_turn(depth: usize, words: &[u64], s: usize) -> LocalTurn
 
 // Output j + 1, and the input at the end of its channel with this byte.
 pub(crate) fn channel_turn(words: &[u64], s: usize, j: usize, byte: u8) -> ChannelTurn
-    requires { ⌜ (s < 16) × (j < 4) × (length (now words) ≡ wordCount) × (byte < 64) ⌝ }
+    requires { ⌜ (s < sitesMost) × (j < portCount) × (length (now words) ≡ wordCount) × (byte < endCount) ⌝ }
     ensures { λ r. ⌜
         r ≡ ofChannelTurn (outAt (siteIn (now (words .entry)) s) (suc j)) (farEnd (sitesOf (now (words .entry))) byte)
         (places.channelOutput true (outAt (siteIn (now (words .entry)) s) (suc j))
@@ -49,12 +50,12 @@ pub(crate) fn channel_turn(words: &[u64], s: usize, j: usize, byte: u8) -> Chann
 {
     let b = base::wide(byte);
     let output = load_output(words, s, j + 1);
-    let input = load_input(words, b / 4, b % 4 + 1);
+    let input = load_input(words, b / base::PORTS, b % base::PORTS + 1);
     channel_output(true, output, input)
 }
 
 pub(crate) fn queue_turn(words: &[u64], s: usize) -> QueueTurn
-    requires { ⌜ (s < 16) × (length (now words) ≡ wordCount) ⌝ }
+    requires { ⌜ (s < sitesMost) × (length (now words) ≡ wordCount) ⌝ }
     ensures { λ r. ⌜
         r ≡ ofQueueTurn (siteIn (now (words .entry)) s .outgoing) (inAt (siteIn (now (words .entry)) s) 0)
         (places.outQueue (siteIn (now (words .entry)) s .outgoing) (inAt (siteIn (now (words .entry)) s) 0))
@@ -66,7 +67,7 @@ pub(crate) fn queue_turn(words: &[u64], s: usize) -> QueueTurn
 }
 
 pub(crate) fn operator_turn(depth: usize, words: &[u64], s: usize) -> OperatorTurn
-    requires { ⌜ (s < 16) × (length (now words) ≡ wordCount) ⌝ }
+    requires { ⌜ (s < sitesMost) × (length (now words) ≡ wordCount) ⌝ }
     ensures { λ r. ⌜
         r ≡ ofWork (siteIn (now (words .entry)) s .incoming) (siteIn (now (words .entry)) s .outgoing)
         (places.operator depth s (siteIn (now (words .entry)) s .incoming) (siteIn (now (words .entry)) s .outgoing))
@@ -79,7 +80,7 @@ pub(crate) fn operator_turn(depth: usize, words: &[u64], s: usize) -> OperatorTu
 
 // The timeout, where net-input i feeds output 0.
 pub(crate) fn timeout_turn(words: &[u64], s: usize, i: usize) -> InputTurn
-    requires { ⌜ (s < 16) × (i < 5) × (length (now words) ≡ wordCount) ⌝ }
+    requires { ⌜ (s < sitesMost) × (i < inputCount) × (length (now words) ≡ wordCount) ⌝ }
     ensures { λ r. ⌜
         r ≡ ofInputTurn (inAt (siteIn (now (words .entry)) s) i) (siteIn (now (words .entry)) s .outputs)
         (places.timeout (siteIn (now (words .entry)) s .incoming) (siteIn (now (words .entry)) s .outputs)

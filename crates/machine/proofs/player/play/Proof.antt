@@ -1,3 +1,4 @@
+use mathlib.Core.Path.{_∙_}
 use denote.Ref.{now}
 use Rattle.machine.proofs.PlayerAnswers.{play-refused, play-done}
 use borrow.Author.Needs.{needs}
@@ -6,16 +7,21 @@ use Rattle.machine.proofs.player.play.Tie as tie
 use Rattle.machine.proofs.player.play.Reads as reads
 use Rattle.machine.proofs.player.play.Lts as lts
 use Rattle.machine.proofs.player.play_run.Reads as play-run-reads
+use Rattle.machine.proofs.player.refused.Reads as refused-reads
 use Rattle.machine.proofs.player.start.Reads as start-reads
 
 start-requires : tie.Need-start-requires
 start-requires c κs = search needs
 
+refused-requires : tie.Need-refused-requires
+refused-requires c κs = search needs
+
 returns : tie.Need-returns
 returns c =
-    let k = c .before .before .before .before in
+    let k = c .before .before .before .before .before in
     let a = k .before .before .before .args in
-    play-refused (now (a .bytes)) (now (a .book)) (k .start .ensures .0) (c .if1 .taken)
+    let w = play-refused (now (a .bytes)) (now (a .book)) (k .start .ensures .0) (c .before .if1 .taken) in
+    (c .refused .ensures ∙ w .0, w .1)
 
 play-run-requires : tie.Need-play-run-requires
 play-run-requires c κs = c .before .before .before .before .before .start .ensures .1 (c .before .if1 .left)
@@ -32,4 +38,4 @@ returns-2 c =
     (p .play-run .ensures .1)
 
 pub play-spec : {M : Type 1} → statement M
-play-spec = tie.close (tie.spec start-requires returns play-run-requires same-length returns-2)
+play-spec = tie.close (tie.spec start-requires refused-requires returns play-run-requires same-length returns-2)

@@ -7,8 +7,7 @@ use Rattle.machine.specs.Progress.{capped-below}
 use Rattle.machine.proofs.ProgressLaws.{stored-sends}
 use Rattle.machine.proofs.PlayerTurns.{Playing, begun, known, total-most, set-most, next-most, accepted-most, pairs-most, network-valid}
 use Rattle.machine.proofs.PlayerTurns.{network-ok, state-in-range, named-below, sent-on, drawn-on, ended}
-use native.Mathlib.Omega.{arith}
-use borrow.Author.Needs.{needs}
+use Rattle.machine.proofs.Single.{change-storable, run-done}
 use Rattle.machine.proofs.player.play_run.Statement.{statement}
 use Rattle.machine.proofs.player.play_run.Tie as tie
 use Rattle.machine.proofs.player.play_run.Reads as reads
@@ -17,9 +16,11 @@ use Rattle.base.proofs.wide.Reads as wide-reads
 use Rattle.draws.proofs.event_of.Reads as event-of-reads
 use Rattle.machine.proofs.clock.ticked.Reads as ticked-reads
 use Rattle.machine.proofs.events.empty_state.Reads as empty-state-reads
-use Rattle.machine.proofs.events.run_checked.Reads as run-checked-reads
+use Rattle.machine.proofs.events.change_of.Reads as change-of-reads
 use Rattle.machine.proofs.events.try_send.Reads as try-send-reads
 use Rattle.machine.proofs.owing.owed_pairs.Reads as owed-pairs-reads
+use Rattle.machine.proofs.store.answer_to.Reads as answer-to-reads
+use Rattle.machine.proofs.store.store_change.Reads as store-change-reads
 use Rattle.machine.proofs.turns.capped.Reads as capped-reads
 use Rattle.machine.proofs.turns.enter_answer.Reads as enter-answer-reads
 use Rattle.machine.proofs.turns.is_due.Reads as is-due-reads
@@ -128,11 +129,27 @@ ticked-requires c κs = search needs
 event-of-requires : tie.Need-event-of-requires Inv-loop μ-loop
 event-of-requires c κs = search needs
 
-run-checked-requires : tie.Need-run-checked-requires Inv-loop μ-loop
-run-checked-requires c κs =
+change-of-requires : tie.Need-change-of-requires Inv-loop μ-loop
+change-of-requires c κs =
     let k = c .before .before in
     let at = k .before .before .before .before .before .loop .inv in
     (network-ok at, state-in-range at, named-below at (c .before .ticked .result .value) (c .event-of .ensures))
+
+store-change-requires : tie.Need-store-change-requires Inv-loop μ-loop
+store-change-requires c κs =
+    let k = c .before .before .before in
+    let l = k .before .before .before .before .before in
+    let n = l .before .before .before .args .network in
+    let e = c .before .event-of in
+    change-storable n (network-ok (l .loop .inv)) (l .loop .state .sites) (e .result .site) (e .result .code)
+    (named-below (l .loop .inv) (c .before .before .ticked .result .value) (e .ensures)) (c .change-of .ensures)
+
+answer-to-requires : tie.Need-answer-to-requires Inv-loop μ-loop
+answer-to-requires c κs =
+    let k = c .before .before .before .before in
+    let at = k .before .before .before .before .before .loop .inv in
+    let e = c .before .before .event-of in
+    omega (arith, named-below at (c .before .before .before .ticked .result .value) (e .ensures), network-valid at .few)
 
 enter-answer-requires : tie.Need-enter-answer-requires Inv-loop μ-loop
 enter-answer-requires c κs = search needs
@@ -143,11 +160,15 @@ loop-less-3 c = omega arith
 loop-again-3 : tie.Need-loop-again-3 Inv-loop μ-loop
 loop-again-3 c =
     let e = c .before .before in
-    let k = e .before .before .before .before .before .before in
-    let at = k .before .before .before .before .before .loop .inv in
-    drawn-on at (k .before .before .before .before .loop-test .taken) (k .before .before .before .capped .ensures)
-    (k .before .is-due .ensures) (k .if1 .left) (e .before .before .before .before .before .ticked .ensures)
-    (e .before .before .before .before .event-of .ensures) (e .before .before .before .run-checked .ensures)
+    let m = e .before .before .before .before in
+    let k = m .before .before .before in
+    let l = k .before .before .before .before .before in
+    let n = l .before .before .before .args .network in
+    let named = m .before .event-of in
+    let ran = run-done n (l .loop .state) (named .result .site) (named .result .code) (m .change-of .ensures) (e .before .before .answer-to .ensures)
+    (e .before .before .before .store-change .ensures) in
+    drawn-on (l .loop .inv) (k .before .before .before .before .loop-test .taken) (k .before .before .before .capped .ensures)
+    (k .before .is-due .ensures) (k .if1 .left) (m .before .before .ticked .ensures) (named .ensures) ran
     (e .enter-answer .ensures .0) (e .enter-answer .ensures .1)
 
 owed-pairs-requires : tie.Need-owed-pairs-requires Inv-loop μ-loop
@@ -187,7 +208,9 @@ play-run-spec =
     loop-again-2
     ticked-requires
     event-of-requires
-    run-checked-requires
+    change-of-requires
+    store-change-requires
+    answer-to-requires
     enter-answer-requires
     loop-less-3
     loop-again-3

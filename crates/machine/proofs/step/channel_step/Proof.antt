@@ -1,4 +1,4 @@
-use mathlib.Core.Path.{refl, _∙_}
+use mathlib.Core.Path.{_∙_}
 use Prim.Native.Nat.{suc}
 use native.Mathlib.Numerals.{add-one}
 use Rattle.model.specs.Types.{outAt}
@@ -11,9 +11,10 @@ use Rattle.machine.proofs.step.channel_step.Statement.{statement}
 use Rattle.machine.proofs.step.channel_step.Tie as tie
 use Rattle.machine.proofs.step.channel_step.Reads as reads
 use Rattle.machine.proofs.step.channel_step.Lts as lts
-use Rattle.rules.proofs.channel_output.Reads as channel-output-reads
+use Rattle.machine.proofs.heard.channel_byte.Reads as channel-byte-reads
 use Rattle.machine.proofs.heard.is_channel.Reads as is-channel-reads
 use Rattle.machine.proofs.step.stays.Reads as stays-reads
+use Rattle.rules.proofs.channel_output.Reads as channel-output-reads
 
 add-output : tie.Need-add-output
 add-output c = search needs
@@ -30,14 +31,8 @@ mul-input c = search needs
 array-copy-out-input : tie.Need-array-copy-out-input
 array-copy-out-input c = search needs
 
-mul-byte : tie.Need-mul-byte
-mul-byte c = search needs
-
-add-byte : tie.Need-add-byte
-add-byte c = search needs
-
-element-copy-out-byte : tie.Need-element-copy-out-byte
-element-copy-out-byte c = search needs
+channel-byte-requires : tie.Need-channel-byte-requires
+channel-byte-requires c κs = search needs
 
 is-channel-requires : tie.Need-is-channel-requires
 is-channel-requires c κs = search needs
@@ -57,12 +52,13 @@ element-set-from-now c = search needs
 returns : tie.Need-returns
 returns c =
     let k = c .before .before .before in
+    let byte = k .before .before .channel-byte .ensures in
     let a = k .before .before .before .before .before .args in
     let o = outAt (a .t3) (suc (a .j)) in
     let y = farAt (a .t4) (suc (a .j)) in
-    let t = channelOutput (joined (a .t1) (a .s) (suc (a .j))) o y in
-    let e = rw (k .before .is-channel .ensures, add-one (a .j)) at (k .channel-output .ensures) in
-    rw (add-one (a .j)) (rw (c .if1 .taken) at (channel-took (a .t1) (a .s) (a .t3) (suc (a .j)) o y t e))
+    let t = channelOutput (joined (a .network) (a .s) (suc (a .j))) o y in
+    let e = rw (k .before .is-channel .ensures, byte, add-one (a .j)) at (k .channel-output .ensures) in
+    rw (byte, add-one (a .j)) (rw (c .if1 .taken) at (channel-took (a .network) (a .s) (a .t3) (suc (a .j)) o y t e))
 
 stays-requires : tie.Need-stays-requires
 stays-requires c κs = search needs
@@ -70,12 +66,13 @@ stays-requires c κs = search needs
 returns-2 : tie.Need-returns-2
 returns-2 c =
     let k = c .before .before .before .before in
+    let byte = k .before .before .channel-byte .ensures in
     let a = k .before .before .before .before .before .args in
     let o = outAt (a .t3) (suc (a .j)) in
     let y = farAt (a .t4) (suc (a .j)) in
-    let t = channelOutput (joined (a .t1) (a .s) (suc (a .j))) o y in
-    let e = rw (k .before .is-channel .ensures, add-one (a .j)) at (k .channel-output .ensures) in
-    c .stays .ensures ∙ (rw (c .before .if1 .left) at (channel-took (a .t1) (a .s) (a .t3) (suc (a .j)) o y t e))
+    let t = channelOutput (joined (a .network) (a .s) (suc (a .j))) o y in
+    let e = rw (k .before .is-channel .ensures, byte, add-one (a .j)) at (k .channel-output .ensures) in
+    c .stays .ensures ∙ (rw (c .before .if1 .left) at (channel-took (a .network) (a .s) (a .t3) (suc (a .j)) o y t e))
 
 pub channel-step-spec : {M : Type 1} → statement M
 channel-step-spec =
@@ -86,9 +83,7 @@ channel-step-spec =
     element-copy-out-output
     mul-input
     array-copy-out-input
-    mul-byte
-    add-byte
-    element-copy-out-byte
+    channel-byte-requires
     is-channel-requires
     channel-output-requires
     add-now

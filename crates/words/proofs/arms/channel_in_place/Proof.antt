@@ -1,6 +1,7 @@
 use Rattle.words.proofs.Acts.{pass-rests, pass-never}
 use Rattle.words.proofs.Acts.{channel-done, did-nothing}
-use Rattle.words.proofs.Rests.{channel-rests, pass-none}
+use Rattle.layout.proofs.Rests.{channel-rests}
+use Rattle.words.proofs.Acts.{pass-none}
 use mathlib.Core.Path.{sym, ap, _∙_}
 use mathlib.Core.Bool.{not}
 use native.Mathlib.Numerals.{add-one}

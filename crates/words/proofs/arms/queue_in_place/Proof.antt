@@ -1,6 +1,6 @@
 use Rattle.words.proofs.Acts.{queue-none}
 use Rattle.words.proofs.Acts.{queue-done, did-nothing}
-use Rattle.words.proofs.Rests.{queue-idle}
+use Rattle.words.proofs.Acts.{queue-idle}
 use mathlib.Core.Path.{sym, _∙_}
 use borrow.Author.Tests.{eq-eqb}
 use borrow.Author.Needs.{needs}

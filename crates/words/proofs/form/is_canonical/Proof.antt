@@ -4,9 +4,10 @@ use Prim.Native.Nat.{_≤_, _-_}
 use lib.Dec.{ltb}
 use lib.ListN.{getD}
 use native.Mathlib.Omega.{arith}
+use Rattle.base.specs.Sizes.{sitesMost}
 use Rattle.base.specs.All.{all, all-none, all-next, all-end}
-use Rattle.words.specs.Layout.{sitePlaces, counterAt}
-use Rattle.words.specs.Words.{placeSame, canonical}
+use Rattle.layout.specs.Layout.{sitePlaces, counterAt}
+use Rattle.layout.specs.Words.{placeSame, canonical}
 use native.Mathlib.Omega.{arith}
 use borrow.Author.Needs.{needs}
 use Rattle.words.proofs.form.is_canonical.Statement.{statement}
@@ -16,7 +17,7 @@ use Rattle.words.proofs.form.is_canonical.Lts as lts
 use Rattle.words.proofs.form.site_same.Reads as site-same-reads
 
 abbrev Inv-loop : tie.InvT-loop
-Inv-loop words ok₀ s₀ ok s = (s ≤ 16) × (ok ≡ all (λ t. all (placeSame words t) sitePlaces) s)
+Inv-loop words ok₀ s₀ ok s = (s ≤ sitesMost) × (ok ≡ all (λ t. all (placeSame words t) sitePlaces) s)
 
 abbrev μ-loop : tie.MeasureT-loop
 μ-loop words ok₀ s₀ ok s = 16 - s

@@ -1,4 +1,4 @@
-use Rattle.words.proofs.Canonical.{zero-same, packed-same}
+use Rattle.layout.proofs.Canonical.{zero-same, packed-same}
 use borrow.Author.Needs.{needs}
 use Rattle.words.proofs.form.place_same.Statement.{statement}
 use Rattle.words.proofs.form.place_same.Tie as tie

@@ -1,6 +1,6 @@
 use mathlib.Core.Path.{refl}
 use borrow.Author.Tests.{lt-ltb, le-ltb}
-use Rattle.words.specs.Words.{repacked}
+use Rattle.layout.specs.Words.{repacked}
 use borrow.Author.Needs.{needs}
 use Rattle.words.proofs.form.repacked.Statement.{statement}
 use Rattle.words.proofs.form.repacked.Tie as tie

@@ -2,7 +2,7 @@ use mathlib.Core.Path.{_≡_, sym}
 use Prim.Native.Nat.{_≤_, _-_}
 use native.Mathlib.Omega.{arith}
 use Rattle.base.specs.All.{all, all-none, all-next, all-end}
-use Rattle.words.specs.Words.{placeSame}
+use Rattle.layout.specs.Words.{placeSame}
 use native.Mathlib.Omega.{arith}
 use borrow.Author.Needs.{needs}
 use Rattle.words.proofs.form.site_same.Statement.{statement}
@@ -10,9 +10,10 @@ use Rattle.words.proofs.form.site_same.Tie as tie
 use Rattle.words.proofs.form.site_same.Reads as reads
 use Rattle.words.proofs.form.site_same.Lts as lts
 use Rattle.words.proofs.form.place_same.Reads as place-same-reads
+use Rattle.layout.specs.Layout.{sitePlaces}
 
 abbrev Inv-loop : tie.InvT-loop
-Inv-loop words s ok₀ k₀ ok k = (k ≤ 27) × (ok ≡ all (placeSame words s) k)
+Inv-loop words s ok₀ k₀ ok k = (k ≤ sitePlaces) × (ok ≡ all (placeSame words s) k)
 
 abbrev μ-loop : tie.MeasureT-loop
 μ-loop words s ok₀ k₀ ok k = 27 - k

@@ -1,6 +1,6 @@
 use mathlib.Core.Path.{refl, sym}
 use borrow.Author.Tests.{eq-eqb, ne-eqb}
-use Rattle.words.specs.Words.{emptied}
+use Rattle.layout.specs.Words.{emptied}
 use borrow.Author.Needs.{needs}
 use Rattle.words.proofs.form.write_empty.Statement.{statement}
 use Rattle.words.proofs.form.write_empty.Tie as tie

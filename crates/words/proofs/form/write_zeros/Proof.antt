@@ -3,8 +3,8 @@ use Prim.Native.Nat.{_≤_, _-_}
 use lib.ListN.{length, length-set}
 use native.Mathlib.Omega.{arith}
 use Rattle.base.specs.Over.{over, over-none, over-step}
-use Rattle.words.specs.Layout.{wordCount}
-use Rattle.words.proofs.Empty.{all-zeros}
+use Rattle.layout.specs.Layout.{wordCount}
+use Rattle.layout.proofs.Empty.{all-zeros}
 use native.Mathlib.Omega.{arith}
 use borrow.Author.Needs.{needs}
 use Rattle.words.proofs.form.write_zeros.Statement.{statement}

@@ -2,7 +2,7 @@ use mathlib.Core.Path.{ap}
 use mathlib.Core.Bool.{not}
 use borrow.Author.Tests.{eq-eqb, ne-eqb}
 use native.Mathlib.Omega.{arith}
-use Rattle.words.specs.Words.{sitesOf}
+use Rattle.layout.specs.Words.{sitesOf}
 use Rattle.words.proofs.InputArm.{heard-by}
 use native.Mathlib.Omega.{arith}
 use borrow.Author.Needs.{needs}

@@ -1,5 +1,5 @@
 use native.Mathlib.Omega.{arith}
-use Rattle.words.proofs.Peeked.{feeder-peeked}
+use Rattle.layout.proofs.Peeked.{feeder-peeked}
 use native.Mathlib.Omega.{arith}
 use borrow.Author.Needs.{needs}
 use Rattle.words.proofs.load.feeder_of.Statement.{statement}

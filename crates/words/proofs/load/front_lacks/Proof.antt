@@ -1,5 +1,5 @@
 use native.Mathlib.Omega.{arith}
-use Rattle.words.proofs.Peeked.{lacks-peeked}
+use Rattle.layout.proofs.Peeked.{lacks-peeked}
 use native.Mathlib.Omega.{arith}
 use borrow.Author.Needs.{needs}
 use Rattle.words.proofs.load.front_lacks.Statement.{statement}

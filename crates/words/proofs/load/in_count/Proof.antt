@@ -1,4 +1,4 @@
-use Rattle.words.proofs.Decoded.{in-count-loaded}
+use Rattle.layout.proofs.Decoded.{in-count-loaded}
 use borrow.Author.Needs.{needs}
 use Rattle.words.proofs.load.in_count.Statement.{statement}
 use Rattle.words.proofs.load.in_count.Tie as tie

@@ -1,4 +1,4 @@
-use Rattle.words.proofs.Peeked.{stalled-peeked}
+use Rattle.layout.proofs.Peeked.{stalled-peeked}
 use borrow.Author.Needs.{needs}
 use Rattle.words.proofs.load.is_stalled.Statement.{statement}
 use Rattle.words.proofs.load.is_stalled.Tie as tie

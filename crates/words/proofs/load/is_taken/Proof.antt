@@ -1,4 +1,4 @@
-use Rattle.words.proofs.Peeked.{taken-peeked}
+use Rattle.layout.proofs.Peeked.{taken-peeked}
 use borrow.Author.Needs.{needs}
 use Rattle.words.proofs.load.is_taken.Statement.{statement}
 use Rattle.words.proofs.load.is_taken.Tie as tie

@@ -1,4 +1,4 @@
-use Rattle.words.proofs.Peeked.{used-peeked}
+use Rattle.layout.proofs.Peeked.{used-peeked}
 use borrow.Author.Needs.{needs}
 use Rattle.words.proofs.load.is_used.Statement.{statement}
 use Rattle.words.proofs.load.is_used.Tie as tie

@@ -1,6 +1,6 @@
 use mathlib.Core.Path.{ap₂, _∙_}
-use Rattle.words.specs.Packed.{inEntryFrom}
-use Rattle.words.specs.Words.{arrivedAt}
+use Rattle.layout.specs.Packed.{inEntryFrom}
+use Rattle.layout.specs.Words.{arrivedAt}
 use borrow.Author.Needs.{needs}
 use Rattle.words.proofs.load.load_in_entry.Statement.{statement}
 use Rattle.words.proofs.load.load_in_entry.Tie as tie

@@ -1,6 +1,6 @@
-use Rattle.words.specs.Words.{arrivedAt}
-use Rattle.words.proofs.Rows.{eight-rows}
-use Rattle.words.proofs.Decoded.{in-queue-loaded}
+use Rattle.layout.specs.Words.{arrivedAt}
+use Rattle.layout.proofs.Rows.{eight-rows}
+use Rattle.layout.proofs.Decoded.{in-queue-loaded}
 use borrow.Author.Needs.{needs}
 use Rattle.words.proofs.load.load_in_queue.Statement.{statement}
 use Rattle.words.proofs.load.load_in_queue.Tie as tie

@@ -1,4 +1,4 @@
-use Rattle.words.proofs.Decoded.{input-loaded}
+use Rattle.layout.proofs.Decoded.{input-loaded}
 use borrow.Author.Needs.{needs}
 use Rattle.words.proofs.load.load_input.Statement.{statement}
 use Rattle.words.proofs.load.load_input.Tie as tie

@@ -1,7 +1,7 @@
 use Rattle.model.specs.Types.{siteAt, inAt}
-use Rattle.words.specs.Words.{sitesOf}
-use Rattle.words.proofs.Rows.{five-rows}
-use Rattle.words.proofs.Decoded.{inputs-loaded}
+use Rattle.layout.specs.Words.{sitesOf}
+use Rattle.layout.proofs.Rows.{five-rows}
+use Rattle.layout.proofs.Decoded.{inputs-loaded}
 use borrow.Author.Needs.{needs}
 use Rattle.words.proofs.load.load_inputs.Statement.{statement}
 use Rattle.words.proofs.load.load_inputs.Tie as tie

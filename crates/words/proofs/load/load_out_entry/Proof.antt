@@ -1,6 +1,6 @@
 use mathlib.Core.Path.{ap₂, _∙_}
-use Rattle.words.specs.Packed.{outEntryFrom}
-use Rattle.words.specs.Words.{leavingAt}
+use Rattle.layout.specs.Packed.{outEntryFrom}
+use Rattle.layout.specs.Words.{leavingAt}
 use borrow.Author.Needs.{needs}
 use Rattle.words.proofs.load.load_out_entry.Statement.{statement}
 use Rattle.words.proofs.load.load_out_entry.Tie as tie

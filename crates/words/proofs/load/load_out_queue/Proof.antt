@@ -1,6 +1,6 @@
-use Rattle.words.specs.Words.{leavingAt}
-use Rattle.words.proofs.Rows.{eight-rows}
-use Rattle.words.proofs.Decoded.{out-queue-loaded}
+use Rattle.layout.specs.Words.{leavingAt}
+use Rattle.layout.proofs.Rows.{eight-rows}
+use Rattle.layout.proofs.Decoded.{out-queue-loaded}
 use borrow.Author.Needs.{needs}
 use Rattle.words.proofs.load.load_out_queue.Statement.{statement}
 use Rattle.words.proofs.load.load_out_queue.Tie as tie

@@ -1,4 +1,4 @@
-use Rattle.words.proofs.Decoded.{output-loaded}
+use Rattle.layout.proofs.Decoded.{output-loaded}
 use borrow.Author.Needs.{needs}
 use Rattle.words.proofs.load.load_output.Statement.{statement}
 use Rattle.words.proofs.load.load_output.Tie as tie

@@ -1,4 +1,4 @@
-use Rattle.words.proofs.Decoded.{out-count-loaded}
+use Rattle.layout.proofs.Decoded.{out-count-loaded}
 use borrow.Author.Needs.{needs}
 use Rattle.words.proofs.load.out_count.Statement.{statement}
 use Rattle.words.proofs.load.out_count.Tie as tie

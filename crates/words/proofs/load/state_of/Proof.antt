@@ -1,4 +1,4 @@
-use Rattle.words.proofs.Peeked.{state-peeked}
+use Rattle.layout.proofs.Peeked.{state-peeked}
 use borrow.Author.Needs.{needs}
 use Rattle.words.proofs.load.state_of.Statement.{statement}
 use Rattle.words.proofs.load.state_of.Tie as tie

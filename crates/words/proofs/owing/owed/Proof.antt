@@ -1,6 +1,6 @@
 use Rattle.words.proofs.Publics.{sized}
 use mathlib.Core.Path.{refl, sym, _∙_}
-use Rattle.words.specs.Public.{owedWords}
+use Rattle.words.specs.Owing.{owedWords}
 use borrow.Author.Needs.{needs}
 use Rattle.words.proofs.owing.owed.Statement.{statement}
 use Rattle.words.proofs.owing.owed.Tie as tie

@@ -4,11 +4,12 @@ use Prim.Native.Nat.{_*_, _-_, _≤_}
 use lib.ListN.{length, take}
 use lib.Seq.{take-all}
 use borrow.Author.Needs.{needs}
+use Rattle.base.specs.Sizes.{sitesMost}
 use Rattle.base.specs.Sums.{isum, isum-next}
 use Rattle.model.specs.Types.{siteD}
 use Rattle.model.specs.Owing.{pairsSite, owedPairs}
-use Rattle.words.specs.Words.{sitesOf}
-use Rattle.words.proofs.Decoded.{sixteen}
+use Rattle.layout.specs.Words.{sitesOf}
+use Rattle.layout.proofs.Decoded.{sixteen}
 use native.Mathlib.Omega.{arith}
 use borrow.Author.Needs.{needs}
 use Rattle.words.proofs.owing.owed_in_place.Statement.{statement}
@@ -19,7 +20,7 @@ use Rattle.machine.proofs.site_pairs.Reads as site-pairs-reads
 use Rattle.words.proofs.load.load_site.Reads as load-site-reads
 
 abbrev Inv-loop : tie.InvT-loop
-Inv-loop words n₀ s₀ n s = (s ≤ 16) × (n ≤ 1664 * s) × (n ≡ isum pairsSite 0 (take s (sitesOf words)))
+Inv-loop words n₀ s₀ n s = (s ≤ sitesMost) × (n ≤ 1664 * s) × (n ≡ isum pairsSite 0 (take s (sitesOf words)))
 
 abbrev μ-loop : tie.MeasureT-loop
 μ-loop words n₀ s₀ n s = 16 - s

@@ -1,5 +1,5 @@
 use mathlib.Core.Path.{refl}
-use Rattle.words.specs.Packed.{inEntryFrom}
+use Rattle.layout.specs.Packed.{inEntryFrom}
 use borrow.Author.Needs.{needs}
 use Rattle.words.proofs.pack.in_entry_from.Statement.{statement}
 use Rattle.words.proofs.pack.in_entry_from.Tie as tie

@@ -1,6 +1,6 @@
 use mathlib.Core.Path.{refl}
 use native.Mathlib.Omega.{arith}
-use Rattle.words.specs.Packed.{inEntryWord}
+use Rattle.layout.specs.Packed.{inEntryWord}
 use native.Mathlib.Omega.{arith}
 use borrow.Author.Needs.{needs}
 use Rattle.words.proofs.pack.in_entry_word.Statement.{statement}

@@ -1,5 +1,5 @@
 use mathlib.Core.Path.{refl}
-use Rattle.words.specs.Packed.{inputFrom}
+use Rattle.layout.specs.Packed.{inputFrom}
 use borrow.Author.Needs.{needs}
 use Rattle.words.proofs.pack.input_from.Statement.{statement}
 use Rattle.words.proofs.pack.input_from.Tie as tie

@@ -1,5 +1,5 @@
 use mathlib.Core.Path.{refl}
-use Rattle.words.specs.Packed.{outEntryFrom}
+use Rattle.layout.specs.Packed.{outEntryFrom}
 use borrow.Author.Needs.{needs}
 use Rattle.words.proofs.pack.out_entry_from.Statement.{statement}
 use Rattle.words.proofs.pack.out_entry_from.Tie as tie

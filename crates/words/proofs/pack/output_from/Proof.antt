@@ -1,5 +1,5 @@
 use mathlib.Core.Path.{refl}
-use Rattle.words.specs.Packed.{outputFrom}
+use Rattle.layout.specs.Packed.{outputFrom}
 use borrow.Author.Needs.{needs}
 use Rattle.words.proofs.pack.output_from.Statement.{statement}
 use Rattle.words.proofs.pack.output_from.Tie as tie

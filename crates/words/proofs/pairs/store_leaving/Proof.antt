@@ -1,4 +1,4 @@
-use Rattle.words.proofs.Chains.{then-input}
+use Rattle.layout.proofs.Chains.{then-input}
 use borrow.Author.Needs.{needs}
 use Rattle.words.proofs.pairs.store_leaving.Statement.{statement}
 use Rattle.words.proofs.pairs.store_leaving.Tie as tie

@@ -1,4 +1,4 @@
-use Rattle.words.proofs.Chains.{then-output}
+use Rattle.layout.proofs.Chains.{then-output}
 use borrow.Author.Needs.{needs}
 use Rattle.words.proofs.pairs.store_local.Statement.{statement}
 use Rattle.words.proofs.pairs.store_local.Tie as tie

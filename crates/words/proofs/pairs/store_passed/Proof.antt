@@ -1,4 +1,4 @@
-use Rattle.words.proofs.Chains.{passed-by}
+use Rattle.layout.proofs.Chains.{passed-by}
 use borrow.Author.Needs.{needs}
 use Rattle.words.proofs.pairs.store_passed.Statement.{statement}
 use Rattle.words.proofs.pairs.store_passed.Tie as tie

@@ -1,4 +1,4 @@
-use Rattle.words.proofs.Chains.{then-out-queue}
+use Rattle.layout.proofs.Chains.{then-out-queue}
 use borrow.Author.Needs.{needs}
 use Rattle.words.proofs.pairs.store_queues.Statement.{statement}
 use Rattle.words.proofs.pairs.store_queues.Tie as tie

@@ -1,6 +1,6 @@
 use mathlib.Core.Path.{refl}
 use native.Mathlib.Omega.{arith}
-use Rattle.words.specs.Words.{noWords}
+use Rattle.layout.specs.Words.{noWords}
 use Rattle.words.proofs.PlayLaws.{played-words}
 use native.Mathlib.Omega.{arith}
 use borrow.Author.Needs.{needs}

@@ -7,8 +7,8 @@ use Rattle.machine.specs.Play.{runWith}
 use Rattle.machine.specs.Progress.{capped-below}
 use Rattle.machine.proofs.ProgressLaws.{stored-sends}
 use Rattle.machine.proofs.PlayerTurns.{known, total-most}
-use Rattle.words.specs.Events.{networkOf}
-use Rattle.words.proofs.Empty.{length-none}
+use Rattle.words.specs.Events.{networkBy}
+use Rattle.layout.proofs.Empty.{length-none}
 use Rattle.words.proofs.PlayLaws.{Going, going, turnable, goes-on, gone}
 use native.Mathlib.Omega.{arith}
 use borrow.Author.Needs.{needs}
@@ -21,7 +21,7 @@ use Rattle.words.proofs.player.take_turn.Reads as take-turn-reads
 
 abbrev Inv-loop : tie.InvT-loop
 Inv-loop channels routes sites depth tries count seed draws words₀ book₀ sends total t₀ k₀ words book t k =
-    Going (runWith (networkOf sites depth tries channels routes) sends count seed draws) book₀ total k words book t
+    Going (runWith (networkBy sites depth tries channels routes) sends count seed draws) book₀ total k words book t
 
 abbrev μ-loop : tie.MeasureT-loop
 μ-loop channels routes sites depth tries count seed draws words₀ book₀ sends total t₀ k₀ words book t k =

@@ -2,10 +2,11 @@ use mathlib.Core.Path.{_≡_, sym}
 use Prim.Native.Nat.{_≤_, _-_}
 use native.Mathlib.Omega.{arith}
 use borrow.Author.Needs.{needs}
+use Rattle.base.specs.Sizes.{sitesMost}
 use Rattle.base.specs.All.{all, all-none, all-next}
 use Rattle.model.specs.Types.{siteAt}
 use Rattle.model.specs.Range.{placeOk}
-use Rattle.words.specs.Words.{sitesOf}
+use Rattle.layout.specs.Words.{sitesOf}
 use Rattle.words.proofs.Publics.{range-found}
 use native.Mathlib.Omega.{arith}
 use borrow.Author.Needs.{needs}
@@ -18,7 +19,7 @@ use Rattle.words.proofs.load.load_counter.Reads as load-counter-reads
 use Rattle.words.proofs.load.load_site.Reads as load-site-reads
 
 abbrev Inv-loop : tie.InvT-loop
-Inv-loop sites tries depth words counter ok₀ s₀ ok s = (s ≤ 16) × (ok ≡ all (λ t. placeOk sites tries depth counter t (siteAt (sitesOf words) t)) s)
+Inv-loop sites tries depth words counter ok₀ s₀ ok s = (s ≤ sitesMost) × (ok ≡ all (λ t. placeOk sites tries depth counter t (siteAt (sitesOf words) t)) s)
 
 abbrev μ-loop : tie.MeasureT-loop
 μ-loop sites tries depth words counter ok₀ s₀ ok s = 16 - s

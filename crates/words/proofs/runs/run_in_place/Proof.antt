@@ -1,7 +1,7 @@
-use Prim.Native.Nat.{_-_, _<_}
+use Prim.Native.Nat.{ℕ, _-_, _<_}
 use native.Mathlib.Omega.{arith}
+use Rattle.base.specs.Sizes.{portCount}
 use Rattle.words.proofs.Codes.{by-input, by-local, by-channel, by-queue, by-operator, by-timeout, by-none, seekable}
-use native.Mathlib.Omega.{arith}
 use borrow.Author.Needs.{needs}
 use Rattle.words.proofs.runs.run_in_place.Statement.{statement}
 use Rattle.words.proofs.runs.run_in_place.Tie as tie
@@ -65,13 +65,17 @@ add-channel-in-place c = search needs
 shared-slice-read-channel-in-place : tie.Need-shared-slice-read-channel-in-place
 shared-slice-read-channel-in-place c = search needs
 
+port-below : (code : ℕ) → code < 10 → code - 6 < portCount
+port-below code h = omega arith
+
 -- src/runs.rt:31:18
 channel-in-place-requires : tie.Need-channel-in-place-requires
 channel-in-place-requires c κs =
-    let here = c .before .before .before .before .before .before .before .before in
+    let tested = c .before .before in
+    let here = tested .before .before .before .before .before .before in
     let a = here .args in
     let p = here .pre in
-    let j : a .code - 6 < 4 = omega arith in
+    let j = port-below (a .code) (tested .if2 .taken) in
     (omega (arith, p .site, p .few), j, p .words, λ e. p .ends (a .code - 6) j e)
 
 -- src/runs.rt:15:1

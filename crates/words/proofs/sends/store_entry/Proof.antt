@@ -1,4 +1,4 @@
-use Rattle.words.proofs.Chains.{then-out-count}
+use Rattle.layout.proofs.Chains.{then-out-count}
 use borrow.Author.Needs.{needs}
 use Rattle.words.proofs.sends.store_entry.Statement.{statement}
 use Rattle.words.proofs.sends.store_entry.Tie as tie

@@ -1,4 +1,4 @@
-use Rattle.words.proofs.Storing.{stored-in-count}
+use Rattle.layout.proofs.Storing.{stored-in-count}
 use borrow.Author.Needs.{needs}
 use Rattle.words.proofs.store.store_in_count.Statement.{statement}
 use Rattle.words.proofs.store.store_in_count.Tie as tie

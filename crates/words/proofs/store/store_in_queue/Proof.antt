@@ -1,5 +1,5 @@
-use Rattle.words.specs.Stored.{arrivedCount}
-use Rattle.words.proofs.Chained.{then-own}
+use Rattle.layout.specs.Stored.{arrivedCount}
+use Rattle.layout.proofs.Chained.{then-own}
 use borrow.Author.Needs.{needs}
 use Rattle.words.proofs.store.store_in_queue.Statement.{statement}
 use Rattle.words.proofs.store.store_in_queue.Tie as tie

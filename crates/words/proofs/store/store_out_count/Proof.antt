@@ -1,4 +1,4 @@
-use Rattle.words.proofs.Storing.{stored-out-count}
+use Rattle.layout.proofs.Storing.{stored-out-count}
 use borrow.Author.Needs.{needs}
 use Rattle.words.proofs.store.store_out_count.Statement.{statement}
 use Rattle.words.proofs.store.store_out_count.Tie as tie

@@ -2,7 +2,8 @@ use mathlib.Core.Path.{_≡_, sym, _∙_}
 use Prim.Native.Nat.{_≤_, _-_}
 use lib.ListN.{length}
 use native.Mathlib.Omega.{arith}
-use Rattle.words.proofs.Chained.{leavingPart, Filled, none-filled, one-filled, all-filled}
+use Rattle.base.specs.Sizes.{queueRoom}
+use Rattle.layout.proofs.Chained.{leavingPart, Filled, none-filled, one-filled, all-filled}
 use native.Mathlib.Omega.{arith}
 use borrow.Author.Needs.{needs}
 use Rattle.words.proofs.store.store_out_entries.Statement.{statement}
@@ -12,7 +13,7 @@ use Rattle.words.proofs.store.store_out_entries.Lts as lts
 use Rattle.words.proofs.store.store_out_entry.Reads as store-out-entry-reads
 
 abbrev Inv-loop : tie.InvT-loop
-Inv-loop words₀ s entries m₀ words m = (m ≤ 8) × Filled leavingPart words₀ words s entries m
+Inv-loop words₀ s entries m₀ words m = (m ≤ queueRoom) × Filled leavingPart words₀ words s entries m
 
 abbrev μ-loop : tie.MeasureT-loop
 μ-loop words₀ s entries m₀ words m = 8 - m

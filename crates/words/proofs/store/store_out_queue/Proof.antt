@@ -1,5 +1,5 @@
-use Rattle.words.specs.Stored.{leavingCount}
-use Rattle.words.proofs.Chained.{then-own}
+use Rattle.layout.specs.Stored.{leavingCount}
+use Rattle.layout.proofs.Chained.{then-own}
 use borrow.Author.Needs.{needs}
 use Rattle.words.proofs.store.store_out_queue.Statement.{statement}
 use Rattle.words.proofs.store.store_out_queue.Tie as tie

@@ -2,7 +2,8 @@ use mathlib.Core.Path.{_≡_, sym, _∙_}
 use Prim.Native.Nat.{_≤_, _-_}
 use lib.ListN.{length}
 use native.Mathlib.Omega.{arith}
-use Rattle.words.proofs.Chained.{outputsPart, Filled, none-filled, one-filled, all-filled}
+use Rattle.base.specs.Sizes.{outputCount}
+use Rattle.layout.proofs.Chained.{outputsPart, Filled, none-filled, one-filled, all-filled}
 use native.Mathlib.Omega.{arith}
 use borrow.Author.Needs.{needs}
 use Rattle.words.proofs.store.store_outputs.Statement.{statement}
@@ -12,7 +13,7 @@ use Rattle.words.proofs.store.store_outputs.Lts as lts
 use Rattle.words.proofs.store.store_output.Reads as store-output-reads
 
 abbrev Inv-loop : tie.InvT-loop
-Inv-loop words₀ s outputs j₀ words j = (j ≤ 5) × Filled outputsPart words₀ words s outputs j
+Inv-loop words₀ s outputs j₀ words j = (j ≤ outputCount) × Filled outputsPart words₀ words s outputs j
 
 abbrev μ-loop : tie.MeasureT-loop
 μ-loop words₀ s outputs j₀ words j = 5 - j

@@ -1,0 +1,141 @@
+-- Stores one after the other, and the stores of all places of a kind one by one.
+use mathlib.Core.Path.{_≡_, refl, sym, ap, _∙_}
+use mathlib.Core.List.{List}
+use Prim.Native.Nat.{ℕ, _+_, _<_}
+use native.Mathlib.Omega.{arith}
+use lib.ListN.{length, getD, set}
+use lib.Seq.{getD-set-same, set-getD, set-set, ext-getD}
+use Rattle.base.specs.Sizes.{sitesMost}
+use Rattle.base.specs.Over.{over, over-none, over-more, over-below, length-over}
+use Rattle.types.specs.declared.Output.{Output}
+use Rattle.types.specs.declared.OutEntry.{OutEntry}
+use Rattle.types.specs.declared.InEntry.{InEntry}
+use Rattle.types.specs.declared.Site.{Site}
+use Rattle.model.specs.Types.{siteD, siteAt, setSite, withOutputs, noOutput, noOutEntry, noInEntry}
+use Rattle.layout.specs.Layout.{wordCount}
+use Rattle.layout.specs.Words.{sitesOf}
+use Rattle.layout.specs.Stored.{Stored, leavingAll, arrivedAll}
+use Rattle.layout.proofs.Decoded.{sixteen, site-at, five-outputs, eight-leaving, eight-arrived}
+
+-- ---- one after the other
+
+-- nothing stored
+pub stays : (c : List ℕ) → length c ≡ wordCount → Stored c c (sitesOf c)
+stays c h = record { size = h; sites = refl; counter = refl; kept = λ ok. ok }
+
+-- the sites that the second store leaves are a function of those that it finds
+pub chained : (c d e : List ℕ) (xs : List Site) (F : List Site → List Site) → Stored c d xs → Stored d e (F (sitesOf d)) → Stored c e (F xs)
+chained c d e xs F p q =
+    record { size = q .size; sites = q .sites ∙ ap F (p .sites); counter = q .counter ∙ p .counter; kept = λ ok. q .kept (p .kept ok) }
+
+-- at any site
+pub then-far : (c d e : List ℕ) (xs : List Site) (u : ℕ) (g : Site → Site) → Stored c d xs → Stored d e (setSite (sitesOf d) u (g (siteAt (sitesOf d) u)))
+    → Stored c e (setSite xs u (g (siteAt xs u)))
+then-far c d e xs u g p q = chained c d e xs (λ l. setSite l u (g (siteAt l u))) p q
+
+-- at the site that was stored last
+pub then-own : (c d e : List ℕ) (s : ℕ) (x : Site) (f : Site → Site) → s < sitesMost → Stored c d (setSite (sitesOf c) s x)
+    → Stored d e (setSite (sitesOf d) s (f (siteAt (sitesOf d) s))) → Stored c e (setSite (sitesOf c) s (f x))
+then-own c d e s x f hs p q =
+    let l = sixteen c in
+    let g = ap f (getD-set-same (sitesOf c) s x siteD (omega arith)) in
+    let r = then-far c d e (setSite (sitesOf c) s x) s f p q in
+    record {
+      size = r .size;
+      sites = r .sites ∙ ap (setSite (setSite (sitesOf c) s x) s) g ∙ set-set (sitesOf c) s x (f x);
+      counter = r .counter;
+      kept = r .kept;
+    }
+
+-- ---- a site's places of one kind
+
+-- d is read past their end, n of them
+pub record Part (A : Type 0) : Type 0 where
+  pub d : A
+  pub n : ℕ
+  pub get : Site → List A
+  pub put : Site → List A → Site
+  pub got : (x : Site) (l : List A) → get (put x l) ≡ l
+  pub last : (x : Site) (k l : List A) → put (put x k) l ≡ put x l
+  pub same : (x : Site) → put x (get x) ≡ x
+  pub room : (c : List ℕ) (s : ℕ) → s < sitesMost → length (get (siteAt (sitesOf c) s)) ≡ n
+
+abbrev pub outputsPart : Part Output
+outputsPart =
+    record {
+      d = noOutput;
+      n = 5;
+      get = λ x. x .outputs;
+      put = withOutputs;
+      got = λ x l. refl;
+      last = λ x k l. refl;
+      same = λ x. refl;
+      room = λ c s h. ap (λ (x : Site). length (x .outputs)) (site-at c s h) ∙ five-outputs c s;
+    }
+
+abbrev pub leavingPart : Part OutEntry
+leavingPart =
+    record {
+      d = noOutEntry;
+      n = 8;
+      get = λ x. x .outgoing .entries;
+      put = leavingAll;
+      got = λ x l. refl;
+      last = λ x k l. refl;
+      same = λ x. refl;
+      room = λ c s h. ap (λ (x : Site). length (x .outgoing .entries)) (site-at c s h) ∙ eight-leaving c s;
+    }
+
+abbrev pub arrivedPart : Part InEntry
+arrivedPart =
+    record {
+      d = noInEntry;
+      n = 8;
+      get = λ x. x .incoming .entries;
+      put = arrivedAll;
+      got = λ x l. refl;
+      last = λ x k l. refl;
+      same = λ x. refl;
+      room = λ c s h. ap (λ (x : Site). length (x .incoming .entries)) (site-at c s h) ∙ eight-arrived c s;
+    }
+
+-- ---- stored one by one
+
+over-all : {A : Type 0} (n : ℕ) (d : A) (l k : List A) → length l ≡ n → length k ≡ n → over (λ i. getD l i d) n k ≡ l
+over-all n d l k hl hk =
+    let z = length-over (λ i. getD l i d) n k in
+    ext-getD d (over (λ i. getD l i d) n k) l (z ∙ hk ∙ sym hl) (λ i h. over-below (λ i. getD l i d) n k i d (omega arith) (omega arith))
+
+-- the site with its first k places stored, from the list l
+module _ {A : Type 0} (P : Part A) where
+  abbrev pub filled : Site → List A → ℕ → Site
+  filled x l k = P .put x (over (λ i. getD l i (P .d)) k (P .get x))
+
+  abbrev pub Filled : List ℕ → List ℕ → ℕ → List A → ℕ → Type 0
+  Filled c e s l k = Stored c e (setSite (sitesOf c) s (filled (siteAt (sitesOf c) s) l k))
+
+  pub none-filled : (c : List ℕ) (s : ℕ) (l : List A) → length c ≡ wordCount → Filled c c s l 0
+  none-filled c s l h =
+      let x = siteAt (sitesOf c) s in
+      let e : filled x l 0 ≡ x = ap (P .put x) (over-none (λ i. getD l i (P .d)) (P .get x)) ∙ P .same x in
+      let f : setSite (sitesOf c) s (filled x l 0) ≡ sitesOf c = ap (setSite (sitesOf c) s) e ∙ set-getD (sitesOf c) s siteD in
+      record { size = h; sites = sym f; counter = refl; kept = λ ok. ok }
+
+  pub one-filled : (c d e : List ℕ) (s : ℕ) (l : List A) (k : ℕ) → s < sitesMost → k < P .n → Filled c d s l k
+      → Stored d e (setSite (sitesOf d) s (P .put (siteAt (sitesOf d) s) (set (P .get (siteAt (sitesOf d) s)) k (getD l k (P .d)))))
+      → Filled c e s l (k + 1)
+  one-filled c d e s l k hs hk p q =
+      let x = siteAt (sitesOf c) s in
+      let v = getD l k (P .d) in
+      let r = P .room c s hs in
+      let m = ap (P .put x) (over-more (λ i. getD l i (P .d)) k (P .get x) (omega arith)) in
+      let g = ap (λ (z : List A). P .put (filled x l k) (set z k v)) (P .got x _) ∙ P .last x _ _ in
+      let t = then-own c d e s (filled x l k) (λ y. P .put y (set (P .get y) k v)) hs p q in
+      record { size = t .size; sites = t .sites ∙ ap (setSite (sitesOf c) s) (g ∙ m); counter = t .counter; kept = t .kept }
+
+  pub all-filled : (c e : List ℕ) (s : ℕ) (l : List A) (k : ℕ) → s < sitesMost → length l ≡ P .n → k ≡ P .n → Filled c e s l k
+      → Stored c e (setSite (sitesOf c) s (P .put (siteAt (sitesOf c) s) l))
+  all-filled c e s l k hs hl hk p =
+      let x = siteAt (sitesOf c) s in
+      let f = ap (P .put x) (ap (λ (m : ℕ). over (λ i. getD l i (P .d)) m (P .get x)) hk ∙ over-all (P .n) (P .d) l (P .get x) hl (P .room c s hs)) in
+      record { size = p .size; sites = p .sites ∙ ap (setSite (sitesOf c) s) f; counter = p .counter; kept = p .kept }

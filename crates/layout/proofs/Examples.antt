@@ -1,0 +1,101 @@
+-- Words typed from the tables of specs/Layout.antt and specs/Packed.antt, each byte counted out.
+use mathlib.Core.Path.{_≡_, refl}
+use mathlib.Core.List.{[], _∷_}
+use mathlib.Core.Bool.{true, false}
+use Prim.Native.Nat.{ℕ}
+use Rattle.types.specs.declared.Connection.the-variants.{AllRemote, SomeLocal}
+use Rattle.types.specs.declared.Received.the-variants.{Abort as gotAbort}
+use Rattle.types.specs.declared.Terminator.the-variants.{None as tNone, Abort as tAbort, KeepLocal as tKeep}
+use Rattle.types.specs.declared.Phase.the-variants.{Open, Done}
+use Rattle.types.specs.declared.Input.{Input}
+use Rattle.types.specs.declared.Output.{Output}
+use Rattle.types.specs.declared.OutEntry.{OutEntry}
+use Rattle.types.specs.declared.InEntry.{InEntry}
+use Rattle.layout.specs.Layout.{counterAt, wordCount, setIndex, fieldsIndex, outputsFrom, leavingFrom, arrivedFrom, countsPlace}
+use Rattle.layout.specs.Packed.{inputFrom, inputWord, outputFrom, outputWord, outEntryFrom, outEntryWord, inEntryFrom, inEntryWord}
+use Rattle.layout.specs.Words.{repacked}
+
+-- ---- a net-input: open, connection 3, marks 0 and 2, packet 7, tries 2: the bytes 02 07 05 1a
+abbrev opened : Input
+opened = record { set = 6; phase = Open AllRemote; outputs = true ∷ false ∷ true ∷ false ∷ false ∷ []; packet = 7; tries = 2 }
+
+opened-word : inputWord opened ≡ 34014490
+unfolding inputWord
+opened-word = refl
+
+opened-back : inputFrom 6 34014490 ≡ opened
+unfolding inputFrom
+opened-back = refl
+
+-- done, connection 4, abort received, mark 4, packet 1, no tries: 00 01 10 a4
+abbrev finished : Input
+finished = record { set = 1; phase = Done SomeLocal gotAbort; outputs = false ∷ false ∷ false ∷ false ∷ true ∷ []; packet = 1; tries = 0 }
+
+finished-word : inputWord finished ≡ 69796
+unfolding inputWord
+finished-word = refl
+
+finished-back : inputFrom 1 69796 ≡ finished
+unfolding inputFrom
+finished-back = refl
+
+-- ---- a net-output: in use, head taken, keep-local, fed by input 4, packet 9: 09 04 0f
+abbrev passed : Output
+passed = record { set = 32768; terminator = tKeep; packet = 9; input = 4; used = true; head = true }
+
+passed-word : outputWord passed ≡ 590863
+unfolding outputWord
+passed-word = refl
+
+passed-back : outputFrom 32768 590863 ≡ passed
+unfolding outputFrom
+passed-back = refl
+
+-- in use, head not taken: 03 02 01
+waiting-back : outputFrom 5 197121 ≡ record { set = 5; terminator = tNone; packet = 3; input = 2; used = true; head = false }
+unfolding outputFrom
+waiting-back = refl
+
+-- ---- entries: started, packet 200: c8 01; abort, packet 5: 05 02
+abbrev leaving : OutEntry
+leaving = record { set = 9; packet = 200; started = true }
+
+leaving-word : outEntryWord leaving ≡ 51201
+unfolding outEntryWord
+leaving-word = refl
+
+leaving-back : outEntryFrom 9 51201 ≡ leaving
+unfolding outEntryFrom
+leaving-back = refl
+
+abbrev arrived : InEntry
+arrived = record { set = 8; terminator = tAbort; packet = 5 }
+
+arrived-word : inEntryWord arrived ≡ 1282
+unfolding inEntryWord
+arrived-word = refl
+
+arrived-back : inEntryFrom 8 1282 ≡ arrived
+unfolding inEntryFrom
+arrived-back = refl
+
+-- ---- words that no place packs to: a connection of a free input, a bit between the marks and the packet, a bit of an out-queue's
+-- entry beside the started one
+stray-connection : repacked 0 0 24 ≡ 0
+unfolding repacked inputWord inputFrom
+stray-connection = refl
+
+stray-input : repacked 4 0 8192 ≡ 0
+unfolding repacked inputWord inputFrom
+stray-input = refl
+
+stray-leaving : repacked 10 0 3 ≡ 1
+unfolding repacked outEntryWord outEntryFrom
+stray-leaving = refl
+
+-- ---- places: 27 of a site, two words each; the counter's word is the last of 865
+places : outputsFrom ∷ leavingFrom ∷ arrivedFrom ∷ countsPlace ∷ [] ≡ 5 ∷ 10 ∷ 18 ∷ 26 ∷ []
+places = refl
+
+indices : setIndex 0 1 ∷ fieldsIndex 0 1 ∷ setIndex 1 0 ∷ fieldsIndex 15 26 ∷ counterAt ∷ wordCount ∷ [] ≡ 2 ∷ 3 ∷ 54 ∷ 863 ∷ 864 ∷ 865 ∷ []
+indices = refl

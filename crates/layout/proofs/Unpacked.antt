@@ -1,0 +1,76 @@
+-- The words of a state stand for that state: for the lengths and the bytes that the types give.
+use mathlib.Core.Path.{_≡_, sym, ap, ap₂, _∙_}
+use mathlib.Core.List.{List}
+use Prim.Native.Nat.{ℕ, _+_, _%_, _<_}
+use native.Mathlib.Omega.{arith}
+use Rattle.base.specs.Rows.{spelled}
+use Rattle.base.specs.Sizes.{sitesMost, inputCount, outputCount, queueRoom}
+use Rattle.types.specs.declared.Site.{Site}
+use Rattle.types.specs.declared.State.{State}
+use Rattle.model.specs.Types.{siteD, inputD, noOutput, noOutEntry, noInEntry, siteAt, inAt, outAt, outEntry, inEntry}
+use Rattle.model.specs.Shapes.{Shaped, SiteShaped}
+use Rattle.layout.specs.Layout.{outputsFrom, leavingFrom, arrivedFrom, countsPlace, sitePlaces}
+use Rattle.layout.specs.Packed.{inputFrom, outputFrom, outEntryFrom, inEntryFrom}
+use Rattle.layout.specs.Words.{setAt, fieldsAt, inputAt, outputAt, leavingAt, arrivedAt, siteOf, sitesOf, stateOf, setOf, fieldsOf, wordsOf}
+use Rattle.layout.specs.Bytes.{Bytes, SiteBytes}
+use Rattle.layout.proofs.Packing.{input-back, output-back, out-entry-back, in-entry-back}
+use Rattle.layout.proofs.Rows.{rows-same}
+use Rattle.layout.proofs.Written.{same-site}
+use Rattle.layout.proofs.PlaceKinds.{set-input, set-output, set-leaving, set-arrived, set-counts}
+use Rattle.layout.proofs.PlaceKinds.{fields-input, fields-output, fields-leaving, fields-arrived, fields-counts}
+use Rattle.layout.proofs.Settled.{set-word, fields-word, counter-word}
+
+-- ---- words c whose places of site s are those of the site x
+
+module _ (c : List ℕ) (s : ℕ) (x : Site) (sets : (k : ℕ) → k < sitePlaces → setAt c s k ≡ setOf x k)
+    (fields : (k : ℕ) → k < sitePlaces → fieldsAt c s k ≡ fieldsOf x k) (h : SiteShaped x) (b : SiteBytes x) where
+  input-found : (i : ℕ) → i < inputCount → inputAt c s i ≡ inAt x i
+  unfolding inputAt
+  input-found i l =
+      ap₂ inputFrom (sets i (omega arith) ∙ set-input x i l) (fields i (omega arith) ∙ fields-input x i l)
+      ∙ input-back (inAt x i) (b .packet i l) (b .tries i l) (h .marks i l)
+
+  output-found : (j : ℕ) → j < outputCount → outputAt c s j ≡ outAt x j
+  unfolding outputAt
+  output-found j l =
+      ap₂ outputFrom (sets (outputsFrom + j) (omega arith) ∙ set-output x j l) (fields (outputsFrom + j) (omega arith) ∙ fields-output x j l)
+      ∙ output-back (outAt x j) (b .passed j l) (b .feeder j l)
+
+  leaving-found : (m : ℕ) → m < queueRoom → leavingAt c s m ≡ outEntry (x .outgoing) m
+  unfolding leavingAt
+  leaving-found m l =
+      ap₂ outEntryFrom (sets (leavingFrom + m) (omega arith) ∙ set-leaving x m l) (fields (leavingFrom + m) (omega arith) ∙ fields-leaving x m l)
+      ∙ out-entry-back (outEntry (x .outgoing) m) (b .leaving m l)
+
+  arrived-found : (m : ℕ) → m < queueRoom → arrivedAt c s m ≡ inEntry (x .incoming) m
+  unfolding arrivedAt
+  arrived-found m l =
+      ap₂ inEntryFrom (sets (arrivedFrom + m) (omega arith) ∙ set-arrived x m l) (fields (arrivedFrom + m) (omega arith) ∙ fields-arrived x m l)
+      ∙ in-entry-back (inEntry (x .incoming) m) (b .arrived m l)
+
+  site-found : siteOf c s ≡ x
+  unfolding siteOf
+  site-found =
+      same-site _ (x .inputs) _ (x .outputs) _ (x .outgoing .entries) _ (x .outgoing .count) _ (x .incoming .entries) _ (x .incoming .count)
+      (rows-same inputCount (inAt x) (inputAt c s) input-found ∙ sym (spelled inputCount inputD (x .inputs) (h .inputs)))
+      (rows-same outputCount (outAt x) (outputAt c s) output-found ∙ sym (spelled outputCount noOutput (x .outputs) (h .outputs)))
+      (rows-same queueRoom (outEntry (x .outgoing)) (leavingAt c s) leaving-found ∙ sym (spelled queueRoom noOutEntry (x .outgoing .entries) (h .outgoing)))
+      (sets countsPlace (omega arith) ∙ set-counts x)
+      (rows-same queueRoom (inEntry (x .incoming)) (arrivedAt c s) arrived-found ∙ sym (spelled queueRoom noInEntry (x .incoming .entries) (h .incoming)))
+      (fields countsPlace (omega arith) ∙ fields-counts x)
+
+-- ---- the words of a state
+
+sites-back : (st : State) → Shaped st → Bytes st → sitesOf (wordsOf st) ≡ st .sites
+unfolding sitesOf
+sites-back st h b =
+    let c = wordsOf st in
+    rows-same sitesMost (siteAt (st .sites)) (siteOf c)
+    (λ s l. site-found c s (siteAt (st .sites) s) (λ k hk. set-word st s k l hk) (λ k hk. fields-word st s k l hk) (h .site s l) (b .site s l))
+    ∙ sym (spelled sitesMost siteD (st .sites) (h .sixteen))
+
+pub unpacked : (st : State) → Shaped st → Bytes st → stateOf (wordsOf st) ≡ st
+unpacked st h b =
+    let l = b .counter in
+    let e : st .counter % 256 ≡ st .counter = omega arith in
+    ap₂ (λ (xs : List Site) (n : ℕ). record { sites = xs; counter = n }) (sites-back st h b) (ap (λ (n : ℕ). n % 256) (counter-word st) ∙ e)

@@ -1,0 +1,54 @@
+-- Where a state's places lie among its words. A place is two words: its set, and its small fields packed (Packed.antt).
+--
+--   place k of site s            words 2 * (sitePlaces * s + k) and the next one
+--     k  0 to  4                 net-inputs 0 to 4
+--     k  5 to  9                 net-outputs 0 to 4
+--     k 10 to 17                 the out-queue's entries, from the front
+--     k 18 to 25                 the in-queue's entries, from the front
+--     k 26                       the two counts: the out-queue's, then the in-queue's
+--   the last word                the counter
+--
+-- src/layout.rt has the same numbers. All words zero are the empty state.
+use Prim.Native.Nat.{ℕ, _+_, _*_, _/_, _%_}
+use Rattle.base.specs.Sizes.{sitesMost, inputCount, outputCount, portCount, queueRoom}
+
+-- the first place of a site's outputs, of its out-queue, of its in-queue; the place of its counts; the places of a site
+abbrev pub outputsFrom : ℕ
+outputsFrom = inputCount
+
+abbrev pub leavingFrom : ℕ
+leavingFrom = outputsFrom + outputCount
+
+abbrev pub arrivedFrom : ℕ
+arrivedFrom = leavingFrom + queueRoom
+
+abbrev pub countsPlace : ℕ
+countsPlace = arrivedFrom + queueRoom
+
+abbrev pub sitePlaces : ℕ
+sitePlaces = countsPlace + 1
+
+-- the counter's word, and how many words there are
+abbrev pub counterAt : ℕ
+counterAt = 2 * (sitePlaces * sitesMost)
+
+abbrev pub wordCount : ℕ
+wordCount = counterAt + 1
+
+-- the two words of place k of site s
+abbrev pub setIndex : ℕ → ℕ → ℕ
+setIndex s k = 2 * (sitePlaces * s + k)
+
+abbrev pub fieldsIndex : ℕ → ℕ → ℕ
+fieldsIndex s k = 2 * (sitePlaces * s + k) + 1
+
+-- the net-inputs that a channel may end at: a channel's byte is below this
+abbrev pub endCount : ℕ
+endCount = portCount * sitesMost
+
+-- where a channel with the byte b ends: the site, and the net-input there
+abbrev pub endSite : ℕ → ℕ
+endSite b = b / portCount
+
+abbrev pub endInput : ℕ → ℕ
+endInput b = b % portCount + 1
