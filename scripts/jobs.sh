@@ -9,45 +9,43 @@ wrong_use() {
     exit 2
 }
 
-# batch WORDS..: takes --jobs N out of the words before the names, and leaves the exit status in `status`.
+# batch WORDS..: takes --jobs N out of the words, and leaves the exit status in `status`.
 batch() {
     jobs=1
     options=
-    named=
+    names=0
+    ended=
     left=$#
     while [ "$left" -gt 0 ]; do
         word=$1
         shift
         left=$((left - 1))
-        if [ -z "$named" ]; then
-            case $word in
-            --jobs)
-                [ "$left" -gt 0 ] || wrong_use "--jobs takes a number"
-                jobs=$1
-                shift
-                left=$((left - 1))
-                continue
-                ;;
-            --jobs=*)
-                jobs=${word#--jobs=}
-                continue
-                ;;
-            --) named=yes ;;
-            -?*) options="$options $word" ;;
-            *) named=yes ;;
-            esac
-        fi
+        case $ended$word in
+        --jobs)
+            [ "$left" -gt 0 ] || wrong_use "--jobs takes a number"
+            jobs=$1
+            shift
+            left=$((left - 1))
+            continue
+            ;;
+        --jobs=*)
+            jobs=${word#--jobs=}
+            continue
+            ;;
+        --help)
+            usage
+            exit 0
+            ;;
+        --) ended=/ ;;
+        -?*) options="$options $word" ;;
+        *) names=$((names + 1)) ;;
+        esac
         set -- "$@" "$word"
     done
     case $jobs in
     '' | *[!0-9]* | 0* | ????*) wrong_use "--jobs takes a number from 1 to 999, not $jobs" ;;
     esac
-    if [ -z "$named" ]; then
-        case "$options " in
-        *" --help "*) jobs=1 ;;
-        *) [ ! -t 0 ] || say "reading names of archives from standard input, one to a line" ;;
-        esac
-    fi
+    [ "$names" -gt 0 ] || [ ! -t 0 ] || say "reading names of archives from standard input, one to a line"
     if [ "$jobs" -eq 1 ]; then
         ask batch "$@"
     else
@@ -55,7 +53,7 @@ batch() {
     fi
 }
 
-# in_jobs WORDS..: the words without --jobs N; `options` has those before the names, `named` says whether there are names.
+# in_jobs WORDS..: the words without --jobs N; `options` has the options among them, `names` says how many are names.
 in_jobs() {
     need batch
     zero=
@@ -66,16 +64,21 @@ in_jobs() {
         -0) zero=-0 ;;
         *) wrong_use "with --jobs there is no option $word" ;;
         esac
-        shift
     done
-    [ -z "$named" ] || { [ $# -gt 0 ] && [ "$1" = -- ] && shift; }
     work=$(mktemp -d) || exit 1
     pids=
     trap 'kill $pids 2>/dev/null; rm -rf "$work"; exit 1' INT TERM HUP
     trap 'rm -rf "$work"' EXIT
-    if [ -n "$named" ]; then
+    if [ "$names" -gt 0 ]; then
         zero=-0
-        for word in "$@"; do printf '%s\0' "$word"; done >"$work/names" || exit 1
+        ended=
+        for word in "$@"; do
+            case $ended$word in
+            --) ended=/ ;;
+            -?*) ;;
+            *) printf '%s\0' "$word" ;;
+            esac
+        done >"$work/names" || exit 1
     else
         cat >"$work/names" || {
             say "standard input cannot be read"
