@@ -23,8 +23,11 @@ clang=$home/on/$machine/toolchain/bin/clang
 [ -x "$clang" ] || end 2 "the kit has no clang for $machine"
 
 # A kit of links to the kit, but for clang: in each folder on the way to it a link to every other entry.
+# The folder is emptied only if it was made here.
+[ ! -e "$out" ] || [ -f "$out/.native" ] || end 2 "$out is there, and was not made by native.sh"
 rm -rf "$out"
 mkdir -p "$out"
+: >"$out/.native"
 out=$(CDPATH= cd -- "$out" && pwd)
 kit=$out/kit
 at=

@@ -1,4 +1,5 @@
-# program.sh: how a script runs a program of target/bin. To be sourced, with the repository's folder in `root`.
+# program.sh: how a script runs a program that `rt` built. To be sourced, with the repository's folder in `root`, or, by the
+# installed front, with the folder of the programs in `programs`.
 # These programs are compiled for x86-64. On another machine they run under the emulator that the Rattle kit has there:
 # what they print is the same, how long they take says nothing. A program from elsewhere is run as it is.
 
@@ -18,7 +19,8 @@ can_run() {
         why="the program is not there: $1"
         return 1
     fi
-    case $1 in "$root"/target/bin/*) ;; *) return 0 ;; esac
+    case $1 in "$root"/target/bin/* | "${programs:-/}"/*) ;; *) return 0 ;; esac
+    [ -z "${FENNQUALO_PROGRAMS:-}" ] || return 0
     machine=$(uname -m)
     [ "$machine" != x86_64 ] || return 0
     why="$1 is compiled for x86-64, this machine is $machine"
