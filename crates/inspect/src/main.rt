@@ -1,29 +1,112 @@
-// Says of each file whether it is an archive, a line each: `inspect [--front NAME] [--] FILE..`. Of one that is not, the
-// reader's number, and in words what is wrong and where: the byte and what stands there. It assumes nothing of the files;
-// of a longer one it sees the first 65,536 bytes.
-mod files;
+// Says of each file whether it is an archive, a line each: `inspect [--front NAME] [--help] [--] FILE..`. Of one that is
+// not, the reader's number, and in words what is wrong and where: the byte and what stands there. It assumes nothing of
+// the files; of a longer one it sees the first 65,536 bytes.
 mod heads;
 mod held;
 mod items;
-mod kind;
 mod text;
-mod words;
 
 use libc::STDERR_FILENO;
 use libc::STDOUT_FILENO;
-use text::add;
-use text::add_name;
 use text::fill;
-use text::print;
-use words::ARGUMENT;
-use words::LINE;
 
-// The status: all are archives; something was refused, could not be read or could not be written; wrong use.
-const DONE: u64 = 0;
+// The longest argument that Linux passes, with the 0 that ends it.
+const ARGUMENT: usize = 131072;
+// Room for a line: such an argument with every byte escaped, and the words around it.
+const LINE: usize = 4 * ARGUMENT + 1024;
 
-const FAILED: u64 = 1;
+fn main() {
+    let mut name = [0u8; front::WHO];
+    let called = front::begin(b"inspect", &mut name);
+    let n = called.count;
+    let status = answer(&name[..n], called.first);
+    let mut line = [0u8; 32];
+    let end = report::add_number(&mut line, 0, status);
+    let whole = report::add_bytes(&mut line, end, b"\n");
+    front::tell(called.fronted, &line[..whole]);
+}
 
-const WRONG: u64 = 2;
+// What is asked from argument `first` on. Answers the status.
+fn answer(who: &[u8], first: usize) -> u64 {
+    let words = front::words_of(who, first);
+    if words.help {
+        if print_usage(STDOUT_FILENO) {
+            return front::DONE;
+        }
+        front::no_output(who);
+        return front::FAILED;
+    }
+    if words.wrong {
+        print_usage(STDERR_FILENO);
+        return front::WRONG;
+    }
+    if words.names == 0 {
+        front::say(who, b"no FILE is named", b"");
+        print_usage(STDERR_FILENO);
+        return front::WRONG;
+    }
+    inspect_all(who, first)
+}
+
+fn print_usage(fd: i32) -> bool {
+    let first = io::write_all(fd, b"usage: inspect [--] FILE..\n");
+    let second = io::write_all(
+        fd,
+        b"Says of each FILE whether it is an archive; if it is not, what is wrong and where.\n",
+    );
+    first & second
+}
+
+// The files that the words name, from argument `first` on. The only option among them is the first `--`.
+fn inspect_all(who: &[u8], first: usize) -> u64 {
+    let mut name = [0u8; ARGUMENT];
+    let mut line = [0u8; LINE];
+    let mut status = front::DONE;
+    let mut ended = false;
+    for i in first..os::arg_count() {
+        let n = os::arg(i, &mut name);
+        if !ended && check::same(&name[..n], b"--") {
+            ended = true;
+            continue;
+        }
+        if inspect(who, &name[..n], &mut line) != front::DONE {
+            status = front::FAILED;
+        }
+    }
+    status
+}
+
+// The line of the file of this name, and its status.
+fn inspect(who: &[u8], name: &[u8], line: &mut [u8]) -> u64 {
+    let named = report::add_name(line, 0, name);
+    let at = report::add_bytes(line, named, b": ");
+    let mut room = io::large_buffer();
+    let seen = front::read_file(who, name, &mut room);
+    if seen.failed {
+        let told = report::add_bytes(line, at, b"cannot be read");
+        return printed(who, line, told, front::FAILED);
+    }
+    let n = seen.count;
+    judge(who, line, at, &room[..n])
+}
+
+// The line of these bytes behind the file's name. Answers the status.
+fn judge(who: &[u8], line: &mut [u8], at: usize, b: &[u8]) -> u64 {
+    let fault = faults::find(b);
+    let refusal = fault.refusal;
+    if refusal == 0 {
+        let good = heads::add_good(line, at, b);
+        return printed(who, line, good, front::DONE);
+    }
+    let number = fill(
+        line,
+        at,
+        b"refused %: ",
+        [base::wide(refusal), 0, 0, 0, 0, 0],
+    );
+    let told = add_fault(line, number, b, refusal, fault.place);
+    printed(who, line, told, front::FAILED)
+}
 
 // In words what is wrong with these bytes, and where.
 fn add_fault(line: &mut [u8], at: usize, b: &[u8], refusal: u8, place: usize) -> usize {
@@ -39,91 +122,11 @@ fn add_fault(line: &mut [u8], at: usize, b: &[u8], refusal: u8, place: usize) ->
     }
 }
 
-// The line of these bytes behind the file's name. Answers whether it is an archive.
-fn judge(who: &[u8], line: &mut [u8], at: usize, b: &[u8]) -> u64 {
-    let fault = faults::find(b);
-    let refusal = fault.refusal;
-    if refusal == 0 {
-        let good = heads::add_good(line, at, b);
-        return printed(who, line, good, DONE);
-    }
-    let number = fill(
-        line,
-        at,
-        b"refused %: ",
-        [base::wide(refusal), 0, 0, 0, 0, 0],
-    );
-    let told = add_fault(line, number, b, refusal, fault.place);
-    printed(who, line, told, FAILED)
-}
-
 // Ends the line and writes it. Answers this status, or that it could not be written.
 fn printed(who: &[u8], line: &mut [u8], at: usize, status: u64) -> u64 {
-    let end = add(line, at, b"\n");
-    if print(STDOUT_FILENO, line, end) {
+    let end = report::add_bytes(line, at, b"\n");
+    if front::print(who, &line[..end]) {
         return status;
     }
-    files::no_output(who);
-    FAILED
-}
-
-// The line of the file of this name, and its status.
-fn inspect(who: &[u8], name: &[u8], line: &mut [u8]) -> u64 {
-    let named = add_name(line, 0, name);
-    let at = add(line, named, b": ");
-    let mut room = io::large_buffer();
-    let seen = files::read_file(who, name, &mut room);
-    if seen.failed {
-        let told = add(line, at, b"cannot be read");
-        return printed(who, line, told, FAILED);
-    }
-    let n = seen.count;
-    judge(who, line, at, &room[..n])
-}
-
-// The files that the words name, from argument `first` on.
-fn inspect_all(who: &[u8], first: usize, name: &mut [u8], line: &mut [u8]) -> u64 {
-    let mut status = DONE;
-    let mut ended = false;
-    for i in first..os::arg_count() {
-        let n = os::arg(i, name);
-        if !ended && words::is_option(&name[..n]) {
-            ended = true;
-            continue;
-        }
-        if inspect(who, &name[..n], line) != DONE {
-            status = FAILED;
-        }
-    }
-    status
-}
-
-// Does what the words ask for.
-fn answer(who: &[u8], first: usize) -> u64 {
-    let mut name = [0u8; ARGUMENT];
-    let mut line = [0u8; LINE];
-    let asked = words::asked_by(who, first, &mut name);
-    if asked.help {
-        if words::print_usage(STDOUT_FILENO, who) {
-            return DONE;
-        }
-        files::no_output(who);
-        return FAILED;
-    }
-    if !asked.wrong && asked.files > 0 {
-        return inspect_all(who, first, &mut name, &mut line);
-    }
-    if !asked.wrong {
-        words::say(who, b"no FILE is named", b"");
-    }
-    words::print_usage(STDERR_FILENO, who);
-    WRONG
-}
-
-fn main() {
-    let mut who = [0u8; words::WHO];
-    let called = words::begin(&mut who);
-    let n = called.count;
-    let status = answer(&who[..n], called.first);
-    words::tell(called.fronted, status);
+    front::FAILED
 }
