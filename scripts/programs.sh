@@ -1,9 +1,10 @@
 #!/bin/sh
-# programs.sh: how `play` and `batch` behave at a desk, beside what they play: the words that they are called with, names
-# of every kind, what cannot be read or written, the line of numbers for the front, one write a line. The expected lines
-# are typed here. Prints a line for each thing that is wrong or could not be tried, and one line at the end. The programs
-# are target/bin/play and target/bin/batch (run as scripts/program.sh says), or those that FENNQUALO_PLAY and
-# FENNQUALO_BATCH name, as seen from the root. Exit: 0 all as expected, 1 something was not, 2 no program.
+# programs.sh: how `play` and `batch` behave at a desk, beside what they play: the words that they are called with,
+# names of every kind, what cannot be read or written, the line of numbers for the front, one write a line. The
+# expected lines are typed here. Prints a line for each thing that is wrong or could not be tried, and one line at the
+# end. The programs are target/bin/play and target/bin/batch (run as scripts/program.sh says), or those that
+# FENNQUALO_PLAY and FENNQUALO_BATCH name, as seen from the root. Exit: 0 all as expected, 1 something was not, 2 no
+# program.
 set -u
 export LC_ALL=C
 root=$(CDPATH= cd -- "$(dirname -- "$0")/.." && pwd) || exit 2
@@ -315,7 +316,8 @@ expect 'an empty slice' '' '' '0 0 0 0 0'
 
 writes='by strace'
 if command -v strace >/dev/null 2>&1 && can_run "$batch" && [ -z "$emulator" ] &&
-    (cd "$root/corpus" && strace -s 9000 -e trace=write -o "$got/strace" "$batch" --services <"$names" >"$got/out" 2>"$got/err")
+    (cd "$root/corpus" && strace -s 9000 -e trace=write -o "$got/strace" "$batch" --services <"$names") \
+        >"$got/out" 2>"$got/err"
 then
     tried=$((tried + 1))
     cmp -s "$root/crates/batch/stdout" "$got/out" || say 'one write a line: another output under strace'

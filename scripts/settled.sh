@@ -16,8 +16,8 @@ unseen="settled timing"
 # Libraries without a function, types, definitions and theorems alone; they are looked at all the same.
 bare="model theorems format"
 
-# Functions without a theorem: what is read and written lies outside the machine in which a contract is stated. In `front`
-# that is all of them: the program's arguments, messages, files and the line of numbers.
+# Functions without a theorem: what is read and written lies outside the machine in which a contract is stated. In
+# `front` that is all of them: the program's arguments, messages, files and the line of numbers.
 exceptions="report::read_seen report::print_services report::print_line"
 exceptions="$exceptions front::begin front::no_words front::word_at front::take_word front::words_of front::tell"
 exceptions="$exceptions front::say front::too_long front::print front::no_output"

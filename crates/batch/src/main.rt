@@ -1,7 +1,7 @@
-// Plays many archives: `batch [--front NAME] [--help] [--services] [-0] [--slice A B] [--unplayed] [--] [NAME..]`, with no
-// name those on standard input, one to a line, or with `-0` each ended by a 0. Prints one line a file, by one write, and
-// a last line with the totals; with `--services` each file's services before its line, as `play` does. A name that cannot
-// be opened or read, whatever its length, costs its line. Assumes nothing of the files.
+// Plays many archives: `batch [--front NAME] [--help] [--services] [-0] [--slice A B] [--unplayed] [--] [NAME..]`,
+// with no name those on standard input, one to a line, or with `-0` each ended by a 0. Prints one line a file, by one
+// write, and a last line with the totals; with `--services` each file's services before its line, as `play` does. A
+// name that cannot be opened or read, whatever its length, costs its line. Assumes nothing of the files.
 mod asked;
 mod names;
 mod one;

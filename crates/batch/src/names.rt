@@ -14,9 +14,9 @@ use libc::STDIN_FILENO;
 // The longest argument that Linux passes, with the 0 that ends it.
 const ARGUMENT: usize = 131072;
 
-// Names met so far: `count` bytes of the present one are at the front of the room, and if it is `long`, more than a path
-// can have, those before them are printed already. `skip` names are left out yet, `left` may be played. It is `over`
-// where no name is to come or nothing can be printed any more.
+// Names met so far: `count` bytes of the present one are at the front of the room, and if it is `long`, more than a
+// path can have, those before them are printed already. `skip` names are left out yet, `left` may be played. It is
+// `over` where no name is to come or nothing can be printed any more.
 struct Names {
     count: usize,
     long: bool,
@@ -37,8 +37,8 @@ fn no_names(asked: Asked) -> Names {
     }
 }
 
-// How names are taken: the byte that ends one, a newline or a 0, which no argument has; whether a carriage return before
-// it is dropped; what is asked for each.
+// How names are taken: the byte that ends one, a newline or a 0, which no argument has; whether a carriage return
+// before it is dropped; what is asked for each.
 struct Manner {
     end: u8,
     line: bool,

@@ -1,5 +1,5 @@
-// One file of a batch: read, played, and told in one line, which goes out by one write. The totals go in by value and come
-// back.
+// One file of a batch: read, played, and told in one line, which goes out by one write. The totals go in by value and
+// come back.
 use std::num::wrapping_add_u64;
 use types::Counts;
 

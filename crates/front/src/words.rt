@@ -1,6 +1,6 @@
-// The words of a program: `PROGRAM [--front NAME] WORDS..`. Behind `--front` messages begin with NAME, and at its end the
-// program writes a line of numbers to descriptor 3, the first of them its status. Of the words behind, `--` ends the
-// options, and a word that begins with `-` before it, if it has a second byte, is one.
+// The words of a program: `PROGRAM [--front NAME] WORDS..`. Behind `--front` messages begin with NAME, and at its end
+// the program writes a line of numbers to descriptor 3, the first of them its status. Of the words behind, `--` ends
+// the options, and a word that begins with `-` before it, if it has a second byte, is one.
 ghost use Rattle.io.specs.Counts.{Counts as Front};
 use crate::message::say;
 
