@@ -1,5 +1,5 @@
-// A line that grows in lent bytes: each function takes the place behind what stands there, adds as much as there is room
-// for, and answers the place behind that. So a line is composed first and goes out by one write.
+// A line that grows in lent bytes: each function takes the place behind what stands there, adds as much as there is
+// room for, and answers the place behind that. So a line is composed first and goes out by one write.
 ghost use Rattle.io.specs.Counts.{Counts as Front};
 
 // Adds a byte.
@@ -40,8 +40,8 @@ struct Filled {
     used: usize,
 }
 
-// Adds words, with the numbers in turn for each `%` in decimal and for each `#` as four hexadecimal digits, and for each
-// `~` an `s`, unless the number before it is 1.
+// Adds words, with the numbers in turn for each `%` in decimal and for each `#` as four hexadecimal digits, and for
+// each `~` an `s`, unless the number before it is 1.
 pub fn fill(text: &mut [u8], at: usize, words: &[u8], numbers: [usize; 6]) -> usize {
     let mut filled = Filled { to: at, used: 0 };
     for i in 0..words.len() {

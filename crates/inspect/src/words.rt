@@ -1,6 +1,6 @@
-// The words of the program: `inspect [--front NAME] [--] FILE..`. Behind `--front` messages begin with NAME, and at its
-// end the program writes a line with its status to descriptor 3. `--` ends the options; a word before it that begins with
-// `-` is one, if it has a second byte.
+// The words of the program: `inspect [--front NAME] [--] FILE..`. Behind `--front` messages begin with NAME, and at
+// its end the program writes a line with its status to descriptor 3. `--` ends the options; a word before it that
+// begins with `-` is one, if it has a second byte.
 ghost use Rattle.io.specs.Counts.{Counts as Front};
 use crate::text::add;
 use crate::text::add_name;
@@ -16,8 +16,8 @@ pub const LINE: usize = 4 * ARGUMENT + 1024;
 // The descriptor of the line with the status.
 const NUMBERS: i32 = 3;
 
-// How the program was called: whether by the front; how many bytes the name takes that messages begin with; the number of
-// the first word of its own.
+// How the program was called: whether by the front; how many bytes the name takes that messages begin with; the number
+// of the first word of its own.
 pub struct Called {
     pub fronted: bool,
     pub count: usize,
@@ -64,8 +64,8 @@ pub fn tell(fronted: bool, status: u64) {
     }
 }
 
-// What the words ask for so far: how many files; whether `--` has come; the usage; or the use is wrong, which is told by
-// then. What comes behind a call for the usage or a wrong word is not looked at.
+// What the words ask for so far: how many files; whether `--` has come; the usage; or the use is wrong, which is told
+// by then. What comes behind a call for the usage or a wrong word is not looked at.
 pub struct Asked {
     pub files: usize,
     pub ended: bool,

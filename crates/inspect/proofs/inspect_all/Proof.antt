@@ -1,3 +1,4 @@
+-- `inspect_all` is safe and ends. Assumes nothing.
 use Prim.Native.Nat.{_-_}
 use mathlib.Core.Path.{_≡_}
 use lib.ListN.{length}
@@ -17,75 +18,57 @@ Inv-loop who first name₀ line₀ status₀ ended₀ i₀ i-end name line statu
 abbrev μ-loop : tie.MeasureT-loop
 μ-loop who first name₀ line₀ status₀ ended₀ i₀ i-end name line status ended i = i-end - i
 
--- src/main.rt:83:21
 arg-count-requires : tie.Need-arg-count-requires Inv-loop μ-loop
 arg-count-requires c κs = search needs
 
--- src/main.rt:83:5
 loop-holds : tie.Need-loop-holds Inv-loop μ-loop
 loop-holds c = search needs
 
--- src/main.rt:84:13
 arg-requires : tie.Need-arg-requires Inv-loop μ-loop
 arg-requires c κs = search needs
 
--- src/main.rt:85:39
 slice-reshare-prefix-is-option : tie.Need-slice-reshare-prefix-is-option Inv-loop μ-loop
 slice-reshare-prefix-is-option c = search needs
 
--- src/main.rt:85:39
 slice-aggregate-is-option : tie.Need-slice-aggregate-is-option Inv-loop μ-loop
 slice-aggregate-is-option c = search needs
 
--- src/main.rt:85:22
 is-option-requires : tie.Need-is-option-requires Inv-loop μ-loop
 is-option-requires c κs = search needs
 
--- src/main.rt:87:13
 add-i : tie.Need-add-i Inv-loop μ-loop
 add-i c = search needs
 
--- src/main.rt:83:5
 loop-less : tie.Need-loop-less Inv-loop μ-loop
 loop-less c = search needs
 
--- src/main.rt:83:5
 loop-again : tie.Need-loop-again Inv-loop μ-loop
 loop-again c = search needs
 
--- src/main.rt:89:25
 slice-reshare-prefix-inspect : tie.Need-slice-reshare-prefix-inspect Inv-loop μ-loop
 slice-reshare-prefix-inspect c = search needs
 
--- src/main.rt:89:25
 slice-aggregate-inspect : tie.Need-slice-aggregate-inspect Inv-loop μ-loop
 slice-aggregate-inspect c = search needs
 
--- src/main.rt:89:12
 inspect-requires : tie.Need-inspect-requires Inv-loop μ-loop
 inspect-requires c κs = search needs
 
--- src/main.rt:83:9
 add-i-2 : tie.Need-add-i-2 Inv-loop μ-loop
 add-i-2 c = search needs
 
--- src/main.rt:83:5
 loop-less-2 : tie.Need-loop-less-2 Inv-loop μ-loop
 loop-less-2 c = search needs
 
--- src/main.rt:83:5
 loop-again-2 : tie.Need-loop-again-2 Inv-loop μ-loop
 loop-again-2 c = search needs
 
--- src/main.rt:80:1
 same-length : tie.Need-same-length Inv-loop μ-loop
 same-length c = search needs
 
--- src/main.rt:80:1
 same-length-2 : tie.Need-same-length-2 Inv-loop μ-loop
 same-length-2 c = search needs
 
--- src/main.rt:80:1
 returns : tie.Need-returns Inv-loop μ-loop
 returns c = search needs
 

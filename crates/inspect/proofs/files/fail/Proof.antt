@@ -1,7 +1,7 @@
+-- `files::fail` is safe and ends. Assumes nothing.
 use native.Mathlib.Omega.{arith}
 use mathlib.Core.Path.{sym}
 use lib.Seq.{length-take-le}
-use native.Mathlib.Omega.{arith}
 use borrow.Author.Needs.{needs}
 use Rattle.inspect.proofs.files.fail.Statement.{statement}
 use Rattle.inspect.proofs.files.fail.Tie as tie
@@ -9,19 +9,15 @@ use Rattle.inspect.proofs.files.fail.Reads as reads
 use Rattle.inspect.proofs.files.fail.Lts as lts
 use Rattle.os.proofs.fail.Reads as fail-reads
 
--- src/files.rt:55:18
 slice-aggregate-fail : tie.Need-slice-aggregate-fail
 slice-aggregate-fail c = sym (length-take-le _ _ (omega arith))
 
--- src/files.rt:55:9
 fail-requires : tie.Need-fail-requires
 fail-requires c κs = search needs
 
--- src/files.rt:53:1
 returns : tie.Need-returns
 returns c = search needs
 
--- src/files.rt:53:1
 returns-2 : tie.Need-returns-2
 returns-2 c = search needs
 

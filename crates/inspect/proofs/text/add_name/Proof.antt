@@ -1,3 +1,4 @@
+-- `text::add_name` is safe and ends. Assumes nothing.
 use Prim.Native.Nat.{_-_}
 use mathlib.Core.Path.{_≡_}
 use lib.ListN.{length}
@@ -14,35 +15,27 @@ Inv-loop text₀ at name to₀ i₀ i-end text to i = length text ≡ length tex
 abbrev μ-loop : tie.MeasureT-loop
 μ-loop text₀ at name to₀ i₀ i-end text to i = i-end - i
 
--- src/text.rt:56:5
 loop-holds : tie.Need-loop-holds Inv-loop μ-loop
 loop-holds c = search needs
 
--- src/text.rt:57:34
 shared-slice-read-add-shown : tie.Need-shared-slice-read-add-shown Inv-loop μ-loop
 shared-slice-read-add-shown c = search needs
 
--- src/text.rt:57:9
 add-shown-requires : tie.Need-add-shown-requires Inv-loop μ-loop
 add-shown-requires c κs = search needs
 
--- src/text.rt:56:9
 add-i : tie.Need-add-i Inv-loop μ-loop
 add-i c = search needs
 
--- src/text.rt:56:5
 loop-less : tie.Need-loop-less Inv-loop μ-loop
 loop-less c = search needs
 
--- src/text.rt:56:5
 loop-again : tie.Need-loop-again Inv-loop μ-loop
 loop-again c = search needs
 
--- src/text.rt:54:1
 same-length : tie.Need-same-length Inv-loop μ-loop
 same-length c = search needs
 
--- src/text.rt:54:1
 returns : tie.Need-returns Inv-loop μ-loop
 returns c = search needs
 

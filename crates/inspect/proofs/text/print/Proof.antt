@@ -1,7 +1,7 @@
+-- `text::print` is safe and ends. Assumes nothing.
 use native.Mathlib.Omega.{arith}
 use mathlib.Core.Path.{sym}
 use lib.Seq.{length-take-le}
-use native.Mathlib.Omega.{arith}
 use borrow.Author.Needs.{needs}
 use Rattle.inspect.proofs.text.print.Statement.{statement}
 use Rattle.inspect.proofs.text.print.Tie as tie
@@ -9,23 +9,18 @@ use Rattle.inspect.proofs.text.print.Reads as reads
 use Rattle.inspect.proofs.text.print.Lts as lts
 use Rattle.io.proofs.write_all.Reads as write-all-reads
 
--- src/text.rt:86:34
 slice-aggregate-write-all : tie.Need-slice-aggregate-write-all
 slice-aggregate-write-all c = sym (length-take-le _ _ (omega arith))
 
--- src/text.rt:86:9
 write-all-requires : tie.Need-write-all-requires
 write-all-requires c κs = search needs
 
--- src/text.rt:86:9
 returns : tie.Need-returns
 returns c = search needs
 
--- src/text.rt:88:5
 write-all-requires-2 : tie.Need-write-all-requires-2
 write-all-requires-2 c κs = search needs
 
--- src/text.rt:84:1
 returns-2 : tie.Need-returns-2
 returns-2 c = search needs
 
