@@ -123,7 +123,8 @@ fn digit(route: usize, i: usize) -> usize {
     route % 16
 }
 
-// The first digit that is no port and not 0; that is a port named before; that is a port without a channel. 4 if none is.
+// The first digit that is no port and not 0; that is a port named before; that is a port without a channel. 4 if none
+// is.
 fn first_stray(route: usize) -> usize {
     first_of(
         4 < digit(route, 0),

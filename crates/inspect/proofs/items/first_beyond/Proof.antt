@@ -1,3 +1,4 @@
+-- `items::first_beyond` is safe and ends. Assumes nothing.
 use Prim.Native.Nat.{_-_, _≤_}
 use borrow.Author.Needs.{needs}
 use Rattle.inspect.proofs.items.first_beyond.Statement.{statement}
@@ -11,31 +12,24 @@ Inv-loop set sites t₀ t = t ≤ 16
 abbrev μ-loop : tie.MeasureT-loop
 μ-loop set sites t₀ t = 16 - t
 
--- src/items.rt:231:5
 loop-holds : tie.Need-loop-holds Inv-loop μ-loop
 loop-holds c = search needs
 
--- src/items.rt:232:27
 shr-if2 : tie.Need-shr-if2 Inv-loop μ-loop
 shr-if2 c = search needs
 
--- src/items.rt:233:13
 returns : tie.Need-returns Inv-loop μ-loop
 returns c = search needs
 
--- src/items.rt:231:9
 add-t : tie.Need-add-t Inv-loop μ-loop
 add-t c = search needs
 
--- src/items.rt:231:5
 loop-less : tie.Need-loop-less Inv-loop μ-loop
 loop-less c = search needs
 
--- src/items.rt:231:5
 loop-again : tie.Need-loop-again Inv-loop μ-loop
 loop-again c = search needs
 
--- src/items.rt:230:1
 returns-2 : tie.Need-returns-2 Inv-loop μ-loop
 returns-2 c = search needs
 

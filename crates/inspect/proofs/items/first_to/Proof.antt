@@ -1,3 +1,4 @@
+-- `items::first_to` is safe and ends. Assumes nothing.
 use Prim.Native.Nat.{_-_, _≤_}
 use borrow.Author.Needs.{needs}
 use Rattle.inspect.proofs.items.first_to.Statement.{statement}
@@ -12,31 +13,24 @@ Inv-loop b byte m₀ m = m ≤ 64
 abbrev μ-loop : tie.MeasureT-loop
 μ-loop b byte m₀ m = 64 - m
 
--- src/items.rt:48:5
 loop-holds : tie.Need-loop-holds Inv-loop μ-loop
 loop-holds c = search needs
 
--- src/items.rt:49:12
 channel-requires : tie.Need-channel-requires Inv-loop μ-loop
 channel-requires c κs = search needs
 
--- src/items.rt:50:13
 returns : tie.Need-returns Inv-loop μ-loop
 returns c = search needs
 
--- src/items.rt:48:9
 add-m : tie.Need-add-m Inv-loop μ-loop
 add-m c = search needs
 
--- src/items.rt:48:5
 loop-less : tie.Need-loop-less Inv-loop μ-loop
 loop-less c = search needs
 
--- src/items.rt:48:5
 loop-again : tie.Need-loop-again Inv-loop μ-loop
 loop-again c = search needs
 
--- src/items.rt:47:1
 returns-2 : tie.Need-returns-2 Inv-loop μ-loop
 returns-2 c = search needs
 

@@ -1,3 +1,4 @@
+-- `text::fill` is safe and ends. Assumes nothing.
 use Prim.Native.Nat.{_-_}
 use mathlib.Core.Path.{_≡_}
 use lib.ListN.{length}
@@ -14,35 +15,27 @@ Inv-loop text₀ at words numbers filled₀ i₀ i-end text filled i = length te
 abbrev μ-loop : tie.MeasureT-loop
 μ-loop text₀ at words numbers filled₀ i₀ i-end text filled i = i-end - i
 
--- src/text.rt:47:5
 loop-holds : tie.Need-loop-holds Inv-loop μ-loop
 loop-holds c = search needs
 
--- src/text.rt:48:34
 shared-slice-read-fill-byte : tie.Need-shared-slice-read-fill-byte Inv-loop μ-loop
 shared-slice-read-fill-byte c = search needs
 
--- src/text.rt:48:9
 fill-byte-requires : tie.Need-fill-byte-requires Inv-loop μ-loop
 fill-byte-requires c κs = search needs
 
--- src/text.rt:47:9
 add-i : tie.Need-add-i Inv-loop μ-loop
 add-i c = search needs
 
--- src/text.rt:47:5
 loop-less : tie.Need-loop-less Inv-loop μ-loop
 loop-less c = search needs
 
--- src/text.rt:47:5
 loop-again : tie.Need-loop-again Inv-loop μ-loop
 loop-again c = search needs
 
--- src/text.rt:45:1
 same-length : tie.Need-same-length Inv-loop μ-loop
 same-length c = search needs
 
--- src/text.rt:45:1
 returns : tie.Need-returns Inv-loop μ-loop
 returns c = search needs
 
