@@ -1,0 +1,118 @@
+// A line that grows in lent bytes: each function takes the place behind what stands there, adds as much as there is room
+// for, and answers the place behind that. So a line is composed first and goes out by one write.
+ghost use Prim.Native.Nat.{_≤_};
+ghost use Rattle.io.specs.Counts.{Counts as Front};
+
+// Room for every line: the longest has some 350 bytes, a split to five outputs in a network of 16 sites.
+pub const ROOM: usize = 512;
+
+fn least(a: usize, b: usize) -> usize
+    ensures { λ r. ⌜ r ≤ b ⌝ }
+{
+    if a < b { a } else { b }
+}
+
+// Adds bytes as they are.
+pub fn add_bytes(text: &mut [u8], at: usize, bytes: &[u8]) -> usize
+    ensures { λ r. ⌜ Front r (now (text .exit)) ⌝ }
+{
+    let mut to = least(at, text.len());
+    let mut k: usize = 0;
+    while k < bytes.len() {
+        if text.len() <= to {
+            break;
+        }
+        text[to] = bytes[k];
+        to += 1;
+        k += 1;
+    }
+    to
+}
+
+// Adds a number in decimal.
+pub fn add_number(text: &mut [u8], at: usize, n: u64) -> usize
+    ensures { λ r. ⌜ Front r (now (text .exit)) ⌝ }
+{
+    let mut digits = [0u8; 20];
+    let k = io::decimal(n, &mut digits);
+    add_bytes(text, at, &digits[..k])
+}
+
+// Adds a word and the number behind it.
+pub fn add_field(text: &mut [u8], at: usize, word: &[u8], n: u64) -> usize
+    ensures { λ r. ⌜ Front r (now (text .exit)) ⌝ }
+{
+    let behind = add_bytes(text, at, word);
+    add_number(text, behind, n)
+}
+
+// Adds a set of sites, as `{0,2,3}`.
+pub fn add_set(text: &mut [u8], at: usize, set: u64) -> usize
+    ensures { λ r. ⌜ Front r (now (text .exit)) ⌝ }
+{
+    let begin = add_bytes(text, at, b"{");
+    let mut to = begin;
+    let mut t: usize = 0;
+    while t < base::SITES {
+        to = add_member(text, to, begin, set, t);
+        t += 1;
+    }
+    add_bytes(text, to, b"}")
+}
+
+// Adds site t of a set that begins at `begin`, if it is in the set.
+fn add_member(text: &mut [u8], at: usize, begin: usize, set: u64, t: usize) -> usize {
+    if !sets::member(set, t) {
+        return at;
+    }
+    if begin < at {
+        let comma = add_bytes(text, at, b",");
+        return add_number(text, comma, t as u64);
+    }
+    add_number(text, at, t as u64)
+}
+
+// Adds a name, its control characters and backslashes escaped, so that it stays within its line.
+pub fn add_name(text: &mut [u8], at: usize, name: &[u8]) -> usize
+    ensures { λ r. ⌜ Front r (now (text .exit)) ⌝ }
+{
+    let mut to = least(at, text.len());
+    let mut k: usize = 0;
+    while k < name.len() {
+        to = add_shown(text, to, name[k]);
+        k += 1;
+    }
+    to
+}
+
+// Adds a byte of a name.
+fn add_shown(text: &mut [u8], at: usize, byte: u8) -> usize
+    ensures { λ r. ⌜ Front r (now (text .exit)) ⌝ }
+{
+    if byte == b'\n' {
+        return add_bytes(text, at, b"\\n");
+    }
+    if byte == b'\r' {
+        return add_bytes(text, at, b"\\r");
+    }
+    if byte == b'\t' {
+        return add_bytes(text, at, b"\\t");
+    }
+    if byte == b'\\' {
+        return add_bytes(text, at, b"\\\\");
+    }
+    if (byte < 32) | (byte == 127) {
+        return add_code(text, at, byte);
+    }
+    add_bytes(text, at, &[byte])
+}
+
+// Adds a byte as `\x` and two hexadecimal digits.
+fn add_code(text: &mut [u8], at: usize, byte: u8) -> usize
+    ensures { λ r. ⌜ Front r (now (text .exit)) ⌝ }
+{
+    let behind = add_bytes(text, at, b"\\x");
+    let mut digits = [0u8; 16];
+    let k = io::hex(byte as u64, 2, &mut digits);
+    add_bytes(text, behind, &digits[..k])
+}

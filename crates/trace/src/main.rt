@@ -1,0 +1,216 @@
+// Tells what happened in a stored run: `trace [--front NAME] [--all] [--] FILE`. docs/TRACE.md has the lines. The run is
+// played by the public single events on lent words, one after the other, each with all its checks. Assumes nothing of the
+// file.
+mod front;
+mod kind;
+mod line;
+mod names;
+mod places;
+mod run;
+mod told;
+
+use libc::STDERR_FILENO;
+use libc::STDOUT_FILENO;
+use types::Counts;
+
+// What the arguments ask for: the number of the argument that names the file, 0 if none does.
+struct Asked {
+    file: usize,
+    all: bool,
+    ended: bool,
+    verdict: u8,
+}
+
+// Verdicts on the arguments: a trace, as far as they are read; help; a word that is no option; a second file.
+const TRACE: u8 = 0;
+
+const HELP: u8 = 1;
+
+const UNKNOWN: u8 = 2;
+
+const SECOND: u8 = 3;
+
+// The arguments from number `first` on, up to the first that settles the verdict.
+fn asked_from(first: usize) -> Asked {
+    let mut asked = Asked {
+        file: 0,
+        all: false,
+        ended: false,
+        verdict: TRACE,
+    };
+    for i in first..os::arg_count() {
+        asked = take_word(i, asked);
+    }
+    asked
+}
+
+// One more argument.
+fn take_word(i: usize, asked: Asked) -> Asked {
+    let mut word = io::buffer();
+    let n = os::arg(i, &mut word);
+    let is_whole = os::errno() == 0;
+    let mut now = asked;
+    if asked.verdict != TRACE {
+        return now;
+    }
+    if asked.ended || word[0] != b'-' || (is_whole && n == 1) {
+        return with_file(i, asked);
+    }
+    now.verdict = UNKNOWN;
+    now.file = i;
+    if !is_whole {
+        return now;
+    }
+    option(&word[..n], asked, now)
+}
+
+// The argument that begins with `-`: what is asked then, or `unknown`.
+fn option(word: &[u8], asked: Asked, unknown: Asked) -> Asked {
+    let mut now = asked;
+    if check::same(word, b"--all") {
+        now.all = true;
+        return now;
+    }
+    if check::same(word, b"--") {
+        now.ended = true;
+        return now;
+    }
+    if check::same(word, b"--help") {
+        now.verdict = HELP;
+        return now;
+    }
+    unknown
+}
+
+fn with_file(i: usize, asked: Asked) -> Asked {
+    let mut now = asked;
+    if asked.file != 0 {
+        now.verdict = SECOND;
+    }
+    now.file = i;
+    now
+}
+
+// The usage, on descriptor fd. Answers whether that was done.
+fn print_usage(fd: i32, who: &[u8]) -> bool {
+    let mut text = io::buffer();
+    let usage = line::add_bytes(&mut text, 0, b"usage: ");
+    let named = line::add_bytes(&mut text, usage, who);
+    let words = line::add_bytes(&mut text, named, b" [--all] [--] FILE\n");
+    let what = line::add_bytes(
+        &mut text,
+        words,
+        b"Tells what happened in the stored run FILE: a line for each send, ",
+    );
+    let send = line::add_bytes(
+        &mut text,
+        what,
+        b"with its packet's number,\nand for each draw that changed ",
+    );
+    let draw = line::add_bytes(
+        &mut text,
+        send,
+        b"something; with --all for the other draws too.\n",
+    );
+    let n = line::add_bytes(&mut text, draw, b"The last line has the counts.\n");
+    io::write_all(fd, &text[..n])
+}
+
+// Wrong use: says why, and the usage.
+fn wrong(who: &[u8], why: &[u8], word: &[u8]) -> u64 {
+    front::say(who, why, word);
+    print_usage(STDERR_FILENO, who);
+    front::WRONG
+}
+
+// Traces the run that the bytes hold. Answers the status.
+fn trace_bytes(who: &[u8], bytes: &[u8], all: bool) -> u64 {
+    let decoded = archive::read(bytes);
+    let refusal = decoded.refusal;
+    if refusal != 0 {
+        if !report::print_line(refusal, no_counts()) {
+            front::no_output(who);
+        }
+        return front::FAILED;
+    }
+    let traced = run::trace(decoded.run, all);
+    if traced.stop == run::REFUSED {
+        front::say(
+            who,
+            b"an event was refused in a run that the reader accepts",
+            b"",
+        );
+        return front::FAILED;
+    }
+    if traced.stop == run::NOT_WRITTEN || !report::print_line(0, traced.counts) {
+        front::no_output(who);
+        return front::FAILED;
+    }
+    front::DONE
+}
+
+// The counts beside a refusal.
+fn no_counts() -> Counts {
+    Counts {
+        accepted: 0,
+        pairs: 0,
+        serviced: 0,
+        owed: 0,
+    }
+}
+
+// Traces the file of this name. Answers the status.
+fn trace_file(who: &[u8], name: &[u8], all: bool) -> u64 {
+    let mut bytes = io::large_buffer();
+    let seen = front::read_file(who, name, &mut bytes);
+    if seen.failed {
+        return front::FAILED;
+    }
+    let n = seen.count;
+    trace_bytes(who, &bytes[..n], all)
+}
+
+// The status of the arguments from number `first` on.
+fn answered(who: &[u8], first: usize) -> u64 {
+    let asked = asked_from(first);
+    let mut word = io::buffer();
+    let n = os::arg(asked.file, &mut word);
+    let is_whole = os::errno() == 0;
+    if asked.verdict == HELP {
+        if print_usage(STDOUT_FILENO, who) {
+            return front::DONE;
+        }
+        front::no_output(who);
+        return front::FAILED;
+    }
+    if asked.verdict == UNKNOWN {
+        return wrong(who, b"unknown option: ", &word[..n]);
+    }
+    if asked.verdict == SECOND {
+        return wrong(who, b"more than one FILE: ", &word[..n]);
+    }
+    if asked.file == 0 {
+        return wrong(who, b"no FILE", b"");
+    }
+    if !is_whole {
+        front::say(who, b"FILE cannot be read: its name is too long", b"");
+        return front::FAILED;
+    }
+    trace_file(who, &word[..n], asked.all)
+}
+
+// The line of the status, for the front.
+fn tell_status(fronted: bool, status: u64) {
+    let mut text = [0u8; 32];
+    let number = line::add_number(&mut text, 0, status);
+    let n = line::add_bytes(&mut text, number, b"\n");
+    front::tell(fronted, &text[..n]);
+}
+
+fn main() {
+    let mut room = [0u8; front::WHO];
+    let called = front::begin(b"trace", &mut room);
+    let n = called.count;
+    let status = answered(&room[..n], called.first);
+    tell_status(called.fronted, status);
+}
