@@ -16,7 +16,7 @@ second=$CARGO_TARGET_DIR/release/trace
 folder=$root/target/trace
 
 end() {
-    echo "trace: $2"
+    printf 'trace: %s\n' "$2"
     exit "$1"
 }
 
@@ -54,21 +54,54 @@ done <"$root/crates/batch/stdin" >"$folder/book"
 grep -v -e ': cannot be read$' -e '^files ' "$root/crates/batch/stdout" >"$folder/book-expected"
 cmp -s "$folder/book-expected" "$folder/book" || end 1 "the traces' book is not crates/batch/stdout: target/trace/book"
 
-# said STATUS TEXT WORDS..: with a front's words before these, the program gives this status on descriptor 3, and its
-# messages begin with the front's name and have the text; without them it gives none
+# said STATUS TEXT WORDS..: behind a front's words the program gives this status on descriptor 3 and, if there is a text, a
+# message that begins with the front's name and has it; without a front no status, and a message under its own name
 said() {
     status=$1
     text=$2
     shift 2
-    timeout 20 sh -c '. "$0"; run "$@"' "$root/scripts/program.sh" "$program" --front 'the desk' "$@" \
+    timeout 20 sh -c '. "$root/scripts/program.sh"; run "$@"' sh "$program" --front 'the desk' "$@" \
         3>"$folder/status" >"$folder/out" 2>"$folder/messages" || end 1 "the program hangs or fails on: $*"
     [ "$(cat "$folder/status")" = "$status" ] || end 1 "status $(cat "$folder/status"), not $status, of: $*"
-    if [ -n "$text" ]; then
-        head -n 1 "$folder/messages" | grep -q -e "^the desk: .*$text" || end 1 "not '$text' in the message of: $*"
-    else
-        [ ! -s "$folder/messages" ] || end 1 "a message where none is due: $*"
-    fi
-    run "$program" "$@" 3>"$folder/status" >/dev/null 2>"$folder/messages"
+    first=$(head -n 1 "$folder/messages")
+    run "$program" "$@" 3>"$folder/status" >"$folder/out" 2>"$folder/messages" || end 1 "the program fails on: $*"
     [ ! -s "$folder/status" ] || end 1 "a status without a front: $*"
-    [ -z "$text" ] || head -n 1 "$folder/messages" | grep -q -e "^trace: .*$text" || end 1 "no message of its own: $*"
+    own=$(head -n 1 "$folder/messages")
+    if [ -z "$text" ]; then
+        [ -z "$first$own" ] || end 1 "a message where none is due: $own"
+    else
+        case $first in "the desk: "*"$text"*) ;; *) end 1 "no message '$text' but '$first' of: $*" ;; esac
+        case $own in "trace: "*"$text"*) ;; *) end 1 "no message '$text' but '$own' of: $*" ;; esac
+    fi
 }
+
+export root
+mkfifo "$folder/fifo" || exit 2
+cp examples/two-sites.bin "$folder/--all" || exit 2
+: >"$folder/empty"
+cd "$folder" || exit 2
+said 0 '' --help
+said 0 '' "$root/examples/two-sites.bin"
+said 0 '' --all -- --all
+said 1 '' empty
+said 1 'missing.bin cannot be read: there is no such file' missing.bin
+said 1 'cannot be read: it is a folder' .
+said 1 'cannot be read: it is not a file' fifo
+said 1 'cannot be read: it is not a file' /dev/zero
+said 1 'a\nb cannot be read' "$(printf 'a\nb')"
+said 1 'cannot be read' "$(printf 'long-%.0s' $(seq 1200))"
+said 2 'unknown option: --al' --al "$root/examples/two-sites.bin"
+said 2 'unknown option: -a' -a
+said 2 'no FILE' --all
+said 2 'more than one FILE: b' a b
+if [ -c /dev/full ]; then
+    run "$program" --front 'the desk' "$root/examples/two-sites.bin" 3>status >/dev/full 2>messages
+    [ "$(cat status)" = 1 ] || end 1 "status $(cat status) with an output that cannot be written"
+    grep -q '^the desk: standard output cannot be written: ' messages || end 1 "no message of a full output"
+fi
+
+# what rt runs is the example, and its expected trace the second model's
+cd "$root" || exit 2
+cmp -s crates/trace/data/two-sites.bin examples/two-sites.bin || end 1 "crates/trace/data has not the example"
+"$second" crates/trace/data/two-sites.bin | cmp -s - crates/trace/stdout || end 1 "crates/trace/stdout is not the second model's"
+end 0 "$files archives with and without --all, $lines lines, 0 differences; the book of each as expected; words and messages"
