@@ -1,6 +1,7 @@
 // A line that grows in lent bytes: each function takes the place behind what stands there, adds as much as there is room
 // for, and answers the place behind that. So a line is composed first and goes out by one write.
 ghost use Prim.Native.Nat.{_≤_};
+ghost use lib.ListN.{length};
 ghost use Rattle.io.specs.Counts.{Counts as Front};
 
 // Room for every line: the longest has some 350 bytes, a split to five outputs in a network of 16 sites.
@@ -44,6 +45,56 @@ pub fn add_field(text: &mut [u8], at: usize, word: &[u8], n: u64) -> usize
 {
     let behind = add_bytes(text, at, word);
     add_number(text, behind, n)
+}
+
+// Adds word k, from 0 on, of words with commas between them; nothing where there is none.
+pub fn add_word(text: &mut [u8], at: usize, words: &[u8], k: usize) -> usize
+    ensures { λ r. ⌜ Front r (now (text .exit)) ⌝ }
+{
+    let from = start_of(words, k);
+    let end = end_of(words, from);
+    add_bytes(text, at, &words[from..end])
+}
+
+// Where word k begins, or the end.
+fn start_of(words: &[u8], k: usize) -> usize
+    ensures { λ r. ⌜ r ≤ length (now (words .entry)) ⌝ }
+{
+    let mut left = k;
+    let mut i: usize = 0;
+    while i < words.len() {
+        if left == 0 {
+            break;
+        }
+        left = without_comma(left, words[i]);
+        i += 1;
+    }
+    i
+}
+
+// One less at a comma.
+fn without_comma(left: usize, byte: u8) -> usize {
+    if byte == b',' {
+        if 0 < left {
+            return left - 1;
+        }
+    }
+    left
+}
+
+// Where the word that begins at `from` ends.
+fn end_of(words: &[u8], from: usize) -> usize
+    requires { ⌜ from ≤ length (now words) ⌝ }
+    ensures { λ r. ⌜ (from ≤ r) × (r ≤ length (now (words .entry))) ⌝ }
+{
+    let mut i = from;
+    while i < words.len() {
+        if words[i] == b',' {
+            break;
+        }
+        i += 1;
+    }
+    i
 }
 
 // Adds a set of sites, as `{0,2,3}`.

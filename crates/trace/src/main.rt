@@ -93,30 +93,35 @@ fn with_file(i: usize, asked: Asked) -> Asked {
 
 // The usage, on descriptor fd. Answers whether that was done.
 fn print_usage(fd: i32, who: &[u8]) -> bool {
-    let mut text = io::buffer();
+    let mut text = [0u8; 128];
     let usage = line::add_bytes(&mut text, 0, b"usage: ");
     let named = line::add_bytes(&mut text, usage, who);
-    let words = line::add_bytes(&mut text, named, b" [--all] [--] FILE\n");
-    let what = line::add_bytes(
-        &mut text,
-        words,
-        b"Tells what happened in the stored run FILE: a line for each send, ",
-    );
-    let send = line::add_bytes(
-        &mut text,
-        what,
-        b"with its packet's number,\nand for each draw that changed ",
-    );
-    let draw = line::add_bytes(
-        &mut text,
-        send,
-        b"something; with --all for the other draws too.\n",
-    );
-    let n = line::add_bytes(&mut text, draw, b"The last line has the counts.\n");
-    io::write_all(fd, &text[..n])
+    let n = line::add_bytes(&mut text, named, b" [--all] [--] FILE\n");
+    io::write_all(fd, &text[..n]) && print_meaning(fd)
 }
 
-// Wrong use: says why, and the usage.
+fn print_meaning(fd: i32) -> bool {
+    let first = io::write_all(
+        fd,
+        b"Tells what happened in the stored run FILE: a line for each send and for each draw\n",
+    );
+    let second = io::write_all(
+        fd,
+        b"that changed something, with --all for every draw; the last line has the counts.\n",
+    );
+    first && second
+}
+
+// Help was asked for. Answers the status.
+fn help(who: &[u8]) -> u64 {
+    if print_usage(STDOUT_FILENO, who) {
+        return front::DONE;
+    }
+    front::no_output(who);
+    front::FAILED
+}
+
+// Wrong use: says why, and the usage. Answers the status.
 fn wrong(who: &[u8], why: &[u8], word: &[u8]) -> u64 {
     front::say(who, why, word);
     print_usage(STDERR_FILENO, who);
@@ -170,33 +175,41 @@ fn trace_file(who: &[u8], name: &[u8], all: bool) -> u64 {
     trace_bytes(who, &bytes[..n], all)
 }
 
+// The file that argument i names. Answers the status.
+fn trace_argument(who: &[u8], i: usize, all: bool) -> u64 {
+    let mut name = io::buffer();
+    let n = os::arg(i, &mut name);
+    if os::errno() != 0 {
+        front::say(who, b"FILE cannot be read: its name is too long", b"");
+        return front::FAILED;
+    }
+    trace_file(who, &name[..n], all)
+}
+
+// Says why argument i is turned down. Answers the status.
+fn wrong_argument(who: &[u8], i: usize, is_option: bool) -> u64 {
+    let mut word = io::buffer();
+    let n = os::arg(i, &mut word);
+    if is_option {
+        return wrong(who, b"unknown option: ", &word[..n]);
+    }
+    wrong(who, b"more than one FILE: ", &word[..n])
+}
+
 // The status of the arguments from number `first` on.
 fn answered(who: &[u8], first: usize) -> u64 {
     let asked = asked_from(first);
-    let mut word = io::buffer();
-    let n = os::arg(asked.file, &mut word);
-    let is_whole = os::errno() == 0;
-    if asked.verdict == HELP {
-        if print_usage(STDOUT_FILENO, who) {
-            return front::DONE;
-        }
-        front::no_output(who);
-        return front::FAILED;
+    let verdict = asked.verdict;
+    if verdict == HELP {
+        return help(who);
     }
-    if asked.verdict == UNKNOWN {
-        return wrong(who, b"unknown option: ", &word[..n]);
-    }
-    if asked.verdict == SECOND {
-        return wrong(who, b"more than one FILE: ", &word[..n]);
+    if verdict != TRACE {
+        return wrong_argument(who, asked.file, verdict == UNKNOWN);
     }
     if asked.file == 0 {
         return wrong(who, b"no FILE", b"");
     }
-    if !is_whole {
-        front::say(who, b"FILE cannot be read: its name is too long", b"");
-        return front::FAILED;
-    }
-    trace_file(who, &word[..n], asked.all)
+    trace_argument(who, asked.file, asked.all)
 }
 
 // The line of the status, for the front.

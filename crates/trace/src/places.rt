@@ -11,6 +11,8 @@ const ARRIVED_FROM: usize = LEAVING_FROM + base::QUEUE;
 const COUNTS_PLACE: usize = ARRIVED_FROM + base::QUEUE;
 
 const SITE_PLACES: usize = COUNTS_PLACE + 1;
+// The words of a state.
+pub const WORDS: usize = words::WORDS;
 
 fn word_at(words: &[u64], i: usize) -> u64 {
     if i < words.len() {
@@ -40,12 +42,12 @@ fn fields_at(words: &[u64], s: usize, k: usize) -> u64 {
 
 // ---- net-input i of site s
 
-pub fn input_state(words: &[u64], s: usize, i: usize) -> u64 {
-    fields_at(words, s, i) % 8
+pub fn input_state(words: &[u64], s: usize, i: usize) -> usize {
+    (fields_at(words, s, i) % 8) as usize
 }
 
-pub fn input_connection(words: &[u64], s: usize, i: usize) -> u64 {
-    fields_at(words, s, i) / 8 % 8
+pub fn input_connection(words: &[u64], s: usize, i: usize) -> usize {
+    (fields_at(words, s, i) / 8 % 8) as usize
 }
 
 // Its connected outputs: bit j is output j.
@@ -82,8 +84,8 @@ pub fn output_head(words: &[u64], s: usize, j: usize) -> bool {
     output_fields(words, s, j) / 2 % 2 == 1
 }
 
-pub fn output_terminator(words: &[u64], s: usize, j: usize) -> u64 {
-    output_fields(words, s, j) / 4 % 4
+pub fn output_terminator(words: &[u64], s: usize, j: usize) -> usize {
+    (output_fields(words, s, j) / 4 % 4) as usize
 }
 
 pub fn output_packet(words: &[u64], s: usize, j: usize) -> u64 {

@@ -7,6 +7,7 @@ use crate::line::add_bytes;
 use crate::line::add_field;
 use crate::line::add_set;
 use crate::names::add_component;
+use crate::places::WORDS;
 use crate::told::add_change;
 use libc::STDOUT_FILENO;
 use machine::Clock;
@@ -94,7 +95,7 @@ fn send_turn(
     let counts = counted_send(t.counts, order, answer);
     Traced {
         next: wrapping_add_usize(t.next, 1),
-        stop: if is_printed { GOES_ON } else { NOT_WRITTEN },
+        stop: stop_unless(is_printed),
         clock,
         counts,
     }
@@ -102,25 +103,100 @@ fn send_turn(
 
 // ---- a draw
 
-// Prints the line of draw d, which named this code at this site. Answers whether that was done.
-fn print_draw(
+// Adds `draw D: site S, WHO: `.
+fn add_draw(text: &mut [u8], d: u16, site: usize, code: usize) -> usize {
+    let draw = add_field(text, 0, b"draw ", d as u64);
+    let at_site = add_field(text, draw, b": site ", site as u64);
+    let comma = add_bytes(text, at_site, b", ");
+    let component = add_component(text, comma, code);
+    add_bytes(text, component, b": ")
+}
+
+// Prints the line of draw d, which changed nothing. Answers whether that was done.
+fn print_idle(d: u16, site: usize, code: usize) -> bool {
+    let mut text = [0u8; ROOM];
+    let begun = add_draw(&mut text, d, site, code);
+    let n = add_bytes(&mut text, begun, b"nothing\n");
+    io::write_all(STDOUT_FILENO, &text[..n])
+}
+
+// Prints the line of draw d, which changed something. Answers whether that was done.
+fn print_change(
+    d: u16,
+    tries: u8,
+    channel: usize,
+    before: &[u64],
+    after: &[u64],
+    site: usize,
+    code: usize,
+    answer: Ran,
+) -> bool {
+    let mut text = [0u8; ROOM];
+    let begun = add_draw(&mut text, d, site, code);
+    let told = add_change(
+        &mut text,
+        begun,
+        tries,
+        channel,
+        before,
+        after,
+        site,
+        code,
+        answer,
+    );
+    let n = add_bytes(&mut text, told, b"\n");
+    io::write_all(STDOUT_FILENO, &text[..n])
+}
+
+// The channel of the net-output that this code names at site s: 4 x site + port - 1 of the input at its end; 0 for
+// another code.
+fn channel_of(channels: [u8; base::PORTS * base::SITES], s: usize, code: usize) -> usize {
+    if 6 <= code {
+        let port = code - 6;
+        if port < base::PORTS {
+            if s < base::SITES {
+                return base::wide(channels[base::PORTS * s + port]);
+            }
+        }
+    }
+    0
+}
+
+// Prints the line that a draw's answer asks for, and keeps the words for the next event. Answers why the trace stops.
+fn tell_draw(
     network: Network,
+    all: bool,
     d: u16,
     site: usize,
     code: usize,
     answer: Ran,
-    before: &[u64],
-    after: &[u64],
-) -> bool {
-    let mut text = [0u8; ROOM];
-    let draw = add_field(&mut text, 0, b"draw ", d as u64);
-    let at_site = add_field(&mut text, draw, b": site ", site as u64);
-    let comma = add_bytes(&mut text, at_site, b", ");
-    let component = add_component(&mut text, comma, code);
-    let colon = add_bytes(&mut text, component, b": ");
-    let told = add_change(&mut text, colon, network, before, after, site, code, answer);
-    let n = add_bytes(&mut text, told, b"\n");
-    io::write_all(STDOUT_FILENO, &text[..n])
+    state: &[u64],
+    before: &mut [u64],
+) -> u8 {
+    if let Ran::Refused(_) = answer {
+        return REFUSED;
+    }
+    if let Ran::Nothing = answer {
+        return stop_unless(!all || print_idle(d, site, code));
+    }
+    let channel = channel_of(network.channels, site, code);
+    let tries = network.tries;
+    let is_printed = print_change(d, tries, channel, before, state, site, code, answer);
+    copy(state, before);
+    stop_unless(is_printed)
+}
+
+fn stop_unless(is_printed: bool) -> u8 {
+    if is_printed { GOES_ON } else { NOT_WRITTEN }
+}
+
+// What is counted after an answer of RUN.
+fn counted_run(counts: Counts, answer: Ran) -> Counts {
+    let mut now = counts;
+    if let Ran::Serviced(_, _) = answer {
+        now.serviced = wrapping_add_usize(counts.serviced, 1);
+    }
+    now
 }
 
 // The draw, and RUN as it names.
@@ -132,32 +208,13 @@ fn draw_turn(
     t: Traced,
 ) -> Traced {
     let clock = t.clock;
-    let d = clock.draw;
     let ticked = machine::ticked(clock);
     let named = draws::event_of(ticked.value, network.sites);
-    let answer = words::run(network, state, named.site, named.code);
-    let mut counts = t.counts;
-    let mut is_told = true;
-    let mut stop = GOES_ON;
-    match answer {
-        Ran::Nothing => {
-            is_told = all;
-        }
-        Ran::Changed => {}
-        Ran::Serviced(_, _) => {
-            counts.serviced = wrapping_add_usize(counts.serviced, 1);
-        }
-        Ran::Refused(_) => {
-            is_told = false;
-            stop = REFUSED;
-        }
-    }
-    if is_told {
-        if !print_draw(network, d, named.site, named.code, answer, before, state) {
-            stop = NOT_WRITTEN;
-        }
-        copy(state, before);
-    }
+    let site = named.site;
+    let code = named.code;
+    let answer = words::run(network, state, site, code);
+    let stop = tell_draw(network, all, clock.draw, site, code, answer, state, before);
+    let counts = counted_run(t.counts, answer);
     Traced {
         next: t.next,
         stop,
@@ -243,8 +300,8 @@ fn turns(run: Run, all: bool, state: &mut [u64], before: &mut [u64]) -> Traced {
 
 // Traces a run from the empty state, the pairs that are owed at its end counted.
 pub fn trace(run: Run, all: bool) -> Traced {
-    let mut state = [0u64; words::WORDS];
-    let mut before = [0u64; words::WORDS];
+    let mut state = [0u64; WORDS];
+    let mut before = [0u64; WORDS];
     let mut t = start(run, all, &mut state, &mut before);
     let left = words::owed(&state);
     if (left.refusal != 0) & (t.stop == GOES_ON) {

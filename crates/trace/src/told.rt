@@ -7,37 +7,49 @@ use crate::names::add_connection;
 use crate::names::add_states;
 use crate::names::add_terminator;
 use crate::places;
-use types::Network;
 use types::Ran;
 
 // The states of a net-input, as the words have them.
-const FREE: u64 = 0;
+const FREE: usize = 0;
 
-const SEEK: u64 = 1;
+const SEEK: usize = 1;
 
-// Adds what the component of this code at site s did.
+// Adds what the component of this code at site s did. `tries` is the network's T; `channel` that of the net-output which a
+// code from 6 to 9 names.
 pub fn add_change(
     text: &mut [u8],
     at: usize,
-    network: Network,
+    tries: u8,
+    channel: usize,
     before: &[u64],
     after: &[u64],
     s: usize,
     code: usize,
     answer: Ran,
 ) -> usize {
-    if let Ran::Nothing = answer {
-        return add_bytes(text, at, b"nothing");
+    if code < base::INPUTS {
+        return add_input(text, at, tries, before, after, s, code);
     }
-    if code < 5 {
-        return add_input(text, at, network.tries, before, after, s, code);
-    }
-    if code == 5 {
+    let j = code - base::INPUTS;
+    if j == 0 {
         return add_local_output(text, at, before, s);
     }
-    if code < 10 {
-        return add_remote_output(text, at, network, before, after, s, code - 5);
+    if j < base::OUTPUTS {
+        return add_remote_output(text, at, channel, before, after, s, j);
     }
+    add_queues(text, at, before, after, s, code, answer)
+}
+
+// The same for the codes from 10 on.
+fn add_queues(
+    text: &mut [u8],
+    at: usize,
+    before: &[u64],
+    after: &[u64],
+    s: usize,
+    code: usize,
+    answer: Ran,
+) -> usize {
     if code == 10 {
         return add_out_queue(text, at, before, after, s);
     }
@@ -60,20 +72,31 @@ fn add_input(
 ) -> usize {
     let from = places::input_state(before, s, i);
     let to = places::input_state(after, s, i);
-    let packet = add_field(text, at, b"packet ", places::input_packet(before, s, i));
-    let comma = add_bytes(text, packet, b", ");
-    if (from == SEEK) & (to == SEEK) {
-        let made = add_field(text, comma, b"seek, try ", places::input_tries(after, s, i));
-        return add_field(text, made, b" of ", base::wide(tries) as u64);
-    }
-    let states = add_states(text, comma, from, to);
+    let packet = add_packet(text, at, places::input_packet(before, s, i));
     if from == SEEK {
+        if to == SEEK {
+            return add_try(text, packet, places::input_tries(after, s, i), tries);
+        }
+        let states = add_states(text, packet, from, to);
         return add_choice(text, states, after, s, i);
     }
+    let states = add_states(text, packet, from, to);
     if to == FREE {
         return add_given(text, states, places::input_marks(before, s, i), after, s);
     }
     states
+}
+
+// Adds `packet P, `.
+fn add_packet(text: &mut [u8], at: usize, packet: u64) -> usize {
+    let named = add_field(text, at, b"packet ", packet);
+    add_bytes(text, named, b", ")
+}
+
+// One more try in vain.
+fn add_try(text: &mut [u8], at: usize, made: u64, tries: u8) -> usize {
+    let number = add_field(text, at, b"seek, try ", made);
+    add_field(text, number, b" of ", base::wide(tries) as u64)
 }
 
 // The connection that the router chose, and what each output got.
@@ -144,36 +167,26 @@ fn add_local_output(text: &mut [u8], at: usize, before: &[u64], s: usize) -> usi
 fn add_remote_output(
     text: &mut [u8],
     at: usize,
-    network: Network,
+    channel: usize,
     before: &[u64],
     after: &[u64],
     s: usize,
     j: usize,
 ) -> usize {
-    let channel = channel_of(network, s, j);
     let site = channel / base::PORTS;
     let input = channel % base::PORTS + 1;
-    let carried = add_carried(text, at, before, s, j);
-    let to_site = add_field(text, carried, b" goes to site ", site as u64);
-    let to_input = add_field(text, to_site, b", net-input ", input as u64);
-    let comma = add_bytes(text, to_input, b", ");
     let from = places::input_state(before, site, input);
     let to = places::input_state(after, site, input);
-    add_states(text, comma, from, to)
+    let carried = add_carried(text, at, before, s, j);
+    let far = add_far(text, carried, site, input);
+    add_states(text, far, from, to)
 }
 
-// The channel of net-output j, 1 to 4, of site s: 4 x site + port - 1 of the input at its end.
-fn channel_of(network: Network, s: usize, j: usize) -> usize {
-    let channels = network.channels;
-    if 0 < j {
-        let port = j - 1;
-        if port < base::PORTS {
-            if s < base::SITES {
-                return base::wide(channels[base::PORTS * s + port]);
-            }
-        }
-    }
-    0
+// Adds ` goes to site U, net-input I, `.
+fn add_far(text: &mut [u8], at: usize, site: usize, input: usize) -> usize {
+    let to_site = add_field(text, at, b" goes to site ", site as u64);
+    let to_input = add_field(text, to_site, b", net-input ", input as u64);
+    add_bytes(text, to_input, b", ")
 }
 
 // ---- codes 10 to 12
@@ -204,9 +217,7 @@ fn add_operator(
     let is_requeued = places::out_count(before, s) < places::out_count(after, s);
     let rest = places::out_last_set(after, s);
     if let Ran::Serviced(packet, site) = answer {
-        let named = add_field(text, at, b"packet ", base::wide(packet) as u64);
-        let serviced = add_field(text, named, b" serviced at site ", base::wide(site) as u64);
-        return add_rest(text, serviced, is_requeued, rest);
+        return add_service(text, at, packet, site, is_requeued, rest);
     }
     let named = add_field(text, at, b"packet ", places::in_front_packet(before, s));
     if is_requeued {
@@ -216,12 +227,21 @@ fn add_operator(
     add_bytes(text, named, b" cleared")
 }
 
-// The rest behind a service.
-fn add_rest(text: &mut [u8], at: usize, is_requeued: bool, rest: u64) -> usize {
+// A service, and the rest if there is one.
+fn add_service(
+    text: &mut [u8],
+    at: usize,
+    packet: u8,
+    site: u8,
+    is_requeued: bool,
+    rest: u64,
+) -> usize {
+    let named = add_field(text, at, b"packet ", base::wide(packet) as u64);
+    let serviced = add_field(text, named, b" serviced at site ", base::wide(site) as u64);
     if !is_requeued {
-        return at;
+        return serviced;
     }
-    let comma = add_bytes(text, at, b", ");
+    let comma = add_bytes(text, serviced, b", ");
     let set = add_set(text, comma, rest);
     add_bytes(text, set, b" requeued")
 }
@@ -230,15 +250,10 @@ fn add_timeout(text: &mut [u8], at: usize, before: &[u64], after: &[u64], s: usi
     let i = places::feeder(before, s);
     let from = places::input_state(before, s, i);
     let to = places::input_state(after, s, i);
-    let input = add_field(text, at, b"net-input ", i as u64);
-    let packet = add_field(
-        text,
-        input,
-        b" cut, packet ",
-        places::input_packet(before, s, i),
-    );
-    let comma = add_bytes(text, packet, b", ");
-    let states = add_states(text, comma, from, to);
     let marks = places::input_marks(before, s, i);
+    let input = add_field(text, at, b"net-input ", i as u64);
+    let cut = add_bytes(text, input, b" cut, ");
+    let packet = add_packet(text, cut, places::input_packet(before, s, i));
+    let states = add_states(text, packet, from, to);
     add_given(text, states, sets::without(marks, 0), after, s)
 }
