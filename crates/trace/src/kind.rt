@@ -1,5 +1,5 @@
-// What a name leads to: asked before a file is opened, since opening a FIFO waits for its other end, and a device may wait
-// or never end. Between the question and the opening another process may put something else there.
+// What a name leads to: asked before a file is opened, since opening a FIFO waits for its other end, and a device may
+// wait or never end. Between the question and the opening another process may put something else there.
 ghost use Rattle.libc.specs.Io.{Ended};
 use libc::PATH_MAX;
 use libc::types::stat;

@@ -1,6 +1,6 @@
-// A line that grows in lent bytes: each function takes the place behind what stands there, adds as much as there is room
-// for, and answers the place behind that. So a line is composed first and goes out by one write.
-ghost use Prim.Native.Nat.{_≤_};
+// A line that grows in lent bytes: each function takes the place behind what stands there, adds as much as there is
+// room for, and answers the place behind that. So a line is composed first and goes out by one write.
+ghost use Prim.Native.Nat.{_≤_, _<_};
 ghost use lib.ListN.{length};
 ghost use Rattle.io.specs.Counts.{Counts as Front};
 
@@ -39,12 +39,56 @@ pub fn add_number(text: &mut [u8], at: usize, n: u64) -> usize
     add_bytes(text, at, &digits[..k])
 }
 
-// Adds a word and the number behind it.
-pub fn add_field(text: &mut [u8], at: usize, word: &[u8], n: u64) -> usize
+// Adds a pattern with its values in order: `#` is the next value as a number, `%` as a set of sites, `$` as a
+// net-input's state, `@` as a connection and `&` as a terminator. Every other byte is itself.
+pub fn add_pattern(text: &mut [u8], at: usize, pattern: &[u8], values: [u64; 4]) -> usize
     ensures { λ r. ⌜ Front r (now (text .exit)) ⌝ }
 {
-    let behind = add_bytes(text, at, word);
-    add_number(text, behind, n)
+    let mut to = least(at, text.len());
+    let mut next: usize = 0;
+    let mut k: usize = 0;
+    while k < pattern.len() {
+        let byte = pattern[k];
+        let value = values[next % 4];
+        to = add_piece(text, to, byte, value);
+        next = next_value(next % 4, byte);
+        k += 1;
+    }
+    to
+}
+
+// Adds what a byte of a pattern stands for.
+fn add_piece(text: &mut [u8], at: usize, byte: u8, value: u64) -> usize
+    ensures { λ r. ⌜ Front r (now (text .exit)) ⌝ }
+{
+    match byte {
+        b'#' => add_number(text, at, value),
+        b'%' => add_set(text, at, value),
+        b'$' => add_word(
+            text,
+            at,
+            b"free,seek,open,wait,done,last,abort,fin-abort",
+            value as usize,
+        ),
+        b'@' => add_word(
+            text,
+            at,
+            b"none,unicast,passthru,all-remote,some-local,handed",
+            value as usize,
+        ),
+        b'&' => add_word(text, at, b"none,end,abort,keep-local", value as usize),
+        _ => add_bytes(text, at, &[byte]),
+    }
+}
+
+// The value behind a byte of a pattern.
+fn next_value(next: usize, byte: u8) -> usize
+    requires { ⌜ next < 4 ⌝ }
+{
+    match byte {
+        b'#' | b'%' | b'$' | b'@' | b'&' => next + 1,
+        _ => next,
+    }
 }
 
 // Adds word k, from 0 on, of words with commas between them; nothing where there is none.

@@ -1,10 +1,9 @@
-// Tells what happened in a stored run: `trace [--front NAME] [--all] [--] FILE`. docs/TRACE.md has the lines. The run is
-// played by the public single events on lent words, one after the other, each with all its checks. Assumes nothing of the
-// file.
+// Tells what happened in a stored run: `trace [--front NAME] [--all] [--] FILE`. docs/TRACE.md has the lines. The run
+// is played by the public single events on lent words, one after the other, each with all its checks. Assumes nothing
+// of the file.
 mod front;
 mod kind;
 mod line;
-mod names;
 mod places;
 mod run;
 mod told;

@@ -1,7 +1,7 @@
 // What is seen of a state's places in its words. All use of the layout (crate words, specs/Layout.antt and Packed.antt)
 // is here. Every function takes any words and any numbers; what is not there reads as 0.
 
-// The first place of a site's outputs, of its out-queue, of its in-queue; the place of its counts; the places of a site.
+// The first place of a site's outputs, of its out-queue, of its in-queue; the place of its counts; a site's places.
 const OUTPUTS_FROM: usize = base::INPUTS;
 
 const LEAVING_FROM: usize = OUTPUTS_FROM + base::OUTPUTS;
@@ -42,12 +42,12 @@ fn fields_at(words: &[u64], s: usize, k: usize) -> u64 {
 
 // ---- net-input i of site s
 
-pub fn input_state(words: &[u64], s: usize, i: usize) -> usize {
-    (fields_at(words, s, i) % 8) as usize
+pub fn input_state(words: &[u64], s: usize, i: usize) -> u64 {
+    fields_at(words, s, i) % 8
 }
 
-pub fn input_connection(words: &[u64], s: usize, i: usize) -> usize {
-    (fields_at(words, s, i) / 8 % 8) as usize
+pub fn input_connection(words: &[u64], s: usize, i: usize) -> u64 {
+    fields_at(words, s, i) / 8 % 8
 }
 
 // Its connected outputs: bit j is output j.
@@ -84,8 +84,8 @@ pub fn output_head(words: &[u64], s: usize, j: usize) -> bool {
     output_fields(words, s, j) / 2 % 2 == 1
 }
 
-pub fn output_terminator(words: &[u64], s: usize, j: usize) -> usize {
-    (output_fields(words, s, j) / 4 % 4) as usize
+pub fn output_terminator(words: &[u64], s: usize, j: usize) -> u64 {
+    output_fields(words, s, j) / 4 % 4
 }
 
 pub fn output_packet(words: &[u64], s: usize, j: usize) -> u64 {

@@ -1,12 +1,12 @@
 // A stored run traced by the public single events on lent words, in the order of document 01: before draw d every send
-// that is marked d, after the last draw those marked with the number of draws. Each event's line goes out before the next
-// event. Assumes nothing of the run.
+// that is marked d, after the last draw those marked with the number of draws. Each event's line goes out before the
+// next event. Assumes nothing of the run.
 ghost use Prim.Native.Nat.{_<_};
+ghost use Rattle.io.specs.Counts.{Counts as Front};
 use crate::line::ROOM;
 use crate::line::add_bytes;
-use crate::line::add_field;
-use crate::line::add_set;
-use crate::names::add_component;
+use crate::line::add_pattern;
+use crate::line::add_word;
 use crate::places::WORDS;
 use crate::told::add_change;
 use libc::STDOUT_FILENO;
@@ -38,34 +38,43 @@ pub struct Traced {
 
 // Adds `send K before draw D: site S to SET: `.
 fn add_order(text: &mut [u8], k: usize, draws: u16, order: StoredSend) -> usize {
-    let send = add_field(text, 0, b"send ", k as u64);
-    let when = add_when(text, send, draws, order.draw);
-    let site = add_field(text, when, b": site ", base::wide(order.site) as u64);
-    let to = add_bytes(text, site, b" to ");
-    let set = add_set(text, to, order.set);
-    add_bytes(text, set, b": ")
-}
-
-fn add_when(text: &mut [u8], at: usize, draws: u16, d: u16) -> usize {
+    let site = base::wide(order.site) as u64;
+    let set = order.set;
+    let d = order.draw;
     if d == draws {
-        return add_bytes(text, at, b" after the last draw");
+        return add_pattern(
+            text,
+            0,
+            b"send # after the last draw: site # to %: ",
+            [k as u64, site, set, 0],
+        );
     }
-    add_field(text, at, b" before draw ", d as u64)
+    add_pattern(
+        text,
+        0,
+        b"send # before draw #: site # to %: ",
+        [k as u64, d as u64, site, set],
+    )
 }
 
-fn add_sent(text: &mut [u8], at: usize, answer: Sent) -> usize {
+fn add_sent(text: &mut [u8], at: usize, answer: Sent) -> usize
+    ensures { λ r. ⌜ Front r (now (text .exit)) ⌝ }
+{
     match answer {
-        Sent::Accepted(packet) => add_field(text, at, b"packet ", base::wide(packet) as u64),
-        Sent::Refused(n) => add_field(text, at, b"passed over, refused ", base::wide(n) as u64),
+        Sent::Accepted(packet) => add_pattern(text, at, b"packet #\n", one(packet)),
+        Sent::Refused(n) => add_pattern(text, at, b"passed over, refused #\n", one(n)),
     }
+}
+
+fn one(value: u8) -> [u64; 4] {
+    [base::wide(value) as u64, 0, 0, 0]
 }
 
 // Prints the line of a send and its answer. Answers whether that was done.
 fn print_send(k: usize, draws: u16, order: StoredSend, answer: Sent) -> bool {
     let mut text = [0u8; ROOM];
     let begun = add_order(&mut text, k, draws, order);
-    let told = add_sent(&mut text, begun, answer);
-    let n = add_bytes(&mut text, told, b"\n");
+    let n = add_sent(&mut text, begun, answer);
     io::write_all(STDOUT_FILENO, &text[..n])
 }
 
@@ -105,11 +114,22 @@ fn send_turn(
 
 // Adds `draw D: site S, WHO: `.
 fn add_draw(text: &mut [u8], d: u16, site: usize, code: usize) -> usize {
-    let draw = add_field(text, 0, b"draw ", d as u64);
-    let at_site = add_field(text, draw, b": site ", site as u64);
-    let comma = add_bytes(text, at_site, b", ");
-    let component = add_component(text, comma, code);
-    add_bytes(text, component, b": ")
+    if code < base::INPUTS {
+        let values = [d as u64, site as u64, code as u64, 0];
+        return add_pattern(text, 0, b"draw #: site #, net-input #: ", values);
+    }
+    let j = code - base::INPUTS;
+    let values = [d as u64, site as u64, j as u64, 0];
+    if j < base::OUTPUTS {
+        return add_pattern(text, 0, b"draw #: site #, net-output #: ", values);
+    }
+    let begun = add_pattern(text, 0, b"draw #: site #, ", values);
+    add_word(
+        text,
+        begun,
+        b"out-queue: ,operator: ,timeout: ",
+        j - base::OUTPUTS,
+    )
 }
 
 // Prints the line of draw d, which changed nothing. Answers whether that was done.

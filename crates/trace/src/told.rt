@@ -1,21 +1,17 @@
-// What a RUN changed, in the words of docs/TRACE.md: each function adds what became of one kind of component to a line, as
-// it is seen in the words before and after the event.
+// What a RUN changed, in the words of docs/TRACE.md: each function adds what became of one kind of component to a line,
+// as it is seen in the words before and after the event. (line.rt has the signs of the patterns.)
 use crate::line::add_bytes;
-use crate::line::add_field;
-use crate::line::add_set;
-use crate::names::add_connection;
-use crate::names::add_states;
-use crate::names::add_terminator;
+use crate::line::add_pattern;
 use crate::places;
 use types::Ran;
 
 // The states of a net-input, as the words have them.
-const FREE: usize = 0;
+const FREE: u64 = 0;
 
-const SEEK: usize = 1;
+const SEEK: u64 = 1;
 
-// Adds what the component of this code at site s did. `tries` is the network's T; `channel` that of the net-output which a
-// code from 6 to 9 names.
+// Adds what the component of this code at site s did. `tries` is the network's T; `channel` is that of the net-output
+// which a code from 6 to 9 names.
 pub fn add_change(
     text: &mut [u8],
     at: usize,
@@ -32,7 +28,8 @@ pub fn add_change(
     }
     let j = code - base::INPUTS;
     if j == 0 {
-        return add_local_output(text, at, before, s);
+        let carried = add_carried(text, at, before, s, 0);
+        return add_bytes(text, carried, b" enters the in-queue");
     }
     if j < base::OUTPUTS {
         return add_remote_output(text, at, channel, before, after, s, j);
@@ -70,81 +67,87 @@ fn add_input(
     s: usize,
     i: usize,
 ) -> usize {
+    let packet = places::input_packet(before, s, i);
     let from = places::input_state(before, s, i);
     let to = places::input_state(after, s, i);
-    let packet = add_packet(text, at, places::input_packet(before, s, i));
     if from == SEEK {
-        if to == SEEK {
-            return add_try(text, packet, places::input_tries(after, s, i), tries);
-        }
-        let states = add_states(text, packet, from, to);
-        return add_choice(text, states, after, s, i);
+        return add_asked(text, at, tries, after, s, i);
     }
-    let states = add_states(text, packet, from, to);
+    let turned = add_pattern(text, at, b"packet #, $ to $", [packet, from, to, 0]);
     if to == FREE {
-        return add_given(text, states, places::input_marks(before, s, i), after, s);
+        return add_outputs(
+            text,
+            turned,
+            places::input_marks(before, s, i),
+            after,
+            s,
+            false,
+        );
     }
-    states
+    turned
 }
 
-// Adds `packet P, `.
-fn add_packet(text: &mut [u8], at: usize, packet: u64) -> usize {
-    let named = add_field(text, at, b"packet ", packet);
-    add_bytes(text, named, b", ")
-}
-
-// One more try in vain.
-fn add_try(text: &mut [u8], at: usize, made: u64, tries: u8) -> usize {
-    let number = add_field(text, at, b"seek, try ", made);
-    add_field(text, number, b" of ", base::wide(tries) as u64)
-}
-
-// The connection that the router chose, and what each output got.
-fn add_choice(text: &mut [u8], at: usize, after: &[u64], s: usize, i: usize) -> usize {
-    let comma = add_bytes(text, at, b", ");
-    let connection = add_connection(text, comma, places::input_connection(after, s, i));
-    let marks = places::input_marks(after, s, i);
-    let mut to = connection;
-    let mut j: usize = 0;
-    while j < base::OUTPUTS {
-        to = add_share(text, to, marks, after, s, j);
-        j += 1;
+// What the router was asked for, and answered.
+fn add_asked(text: &mut [u8], at: usize, tries: u8, after: &[u64], s: usize, i: usize) -> usize {
+    let packet = places::input_packet(after, s, i);
+    let to = places::input_state(after, s, i);
+    if to == SEEK {
+        let made = places::input_tries(after, s, i);
+        let most = base::wide(tries) as u64;
+        return add_pattern(
+            text,
+            at,
+            b"packet #, seek, try # of #",
+            [packet, made, most, 0],
+        );
     }
-    to
+    let connection = places::input_connection(after, s, i);
+    let open = add_pattern(
+        text,
+        at,
+        b"packet #, seek to $, @",
+        [packet, to, connection, 0],
+    );
+    add_outputs(text, open, places::input_marks(after, s, i), after, s, true)
 }
 
-// The set that output j got, if it is marked.
-fn add_share(text: &mut [u8], at: usize, marks: u64, after: &[u64], s: usize, j: usize) -> usize {
-    if !sets::member(marks, j) {
-        return at;
-    }
-    let gets = add_gets(text, at, j);
-    add_set(text, gets, places::output_set(after, s, j))
-}
-
-// The terminators that the marked outputs got.
-fn add_given(text: &mut [u8], at: usize, marks: u64, after: &[u64], s: usize) -> usize {
+// What the marked outputs got: their sets, or their terminators.
+fn add_outputs(
+    text: &mut [u8],
+    at: usize,
+    marks: u64,
+    after: &[u64],
+    s: usize,
+    are_sets: bool,
+) -> usize {
     let mut to = at;
     let mut j: usize = 0;
     while j < base::OUTPUTS {
-        to = add_end(text, to, marks, after, s, j);
+        to = add_output(text, to, marks, after, s, j, are_sets);
         j += 1;
     }
     to
 }
 
-// The terminator that output j got, if it is marked.
-fn add_end(text: &mut [u8], at: usize, marks: u64, after: &[u64], s: usize, j: usize) -> usize {
+// What output j got, if it is marked.
+fn add_output(
+    text: &mut [u8],
+    at: usize,
+    marks: u64,
+    after: &[u64],
+    s: usize,
+    j: usize,
+    are_sets: bool,
+) -> usize {
     if !sets::member(marks, j) {
         return at;
     }
-    let gets = add_gets(text, at, j);
-    add_terminator(text, gets, places::output_terminator(after, s, j))
-}
-
-fn add_gets(text: &mut [u8], at: usize, j: usize) -> usize {
-    let output = add_field(text, at, b", output ", j as u64);
-    add_bytes(text, output, b" gets ")
+    if are_sets {
+        let set = places::output_set(after, s, j);
+        return add_pattern(text, at, b", output # gets %", [j as u64, set, 0, 0]);
+    }
+    let terminator = places::output_terminator(after, s, j);
+    add_pattern(text, at, b", output # gets &", [j as u64, terminator, 0, 0])
 }
 
 // ---- codes 5 to 9
@@ -153,15 +156,10 @@ fn add_gets(text: &mut [u8], at: usize, j: usize) -> usize {
 fn add_carried(text: &mut [u8], at: usize, before: &[u64], s: usize, j: usize) -> usize {
     let packet = places::output_packet(before, s, j);
     if places::output_head(before, s, j) {
-        let kind = add_terminator(text, at, places::output_terminator(before, s, j));
-        return add_field(text, kind, b" of packet ", packet);
+        let terminator = places::output_terminator(before, s, j);
+        return add_pattern(text, at, b"& of packet #", [terminator, packet, 0, 0]);
     }
-    add_field(text, at, b"packet ", packet)
-}
-
-fn add_local_output(text: &mut [u8], at: usize, before: &[u64], s: usize) -> usize {
-    let carried = add_carried(text, at, before, s, 0);
-    add_bytes(text, carried, b" enters the in-queue")
+    add_pattern(text, at, b"packet #", [packet, 0, 0, 0])
 }
 
 fn add_remote_output(
@@ -177,33 +175,27 @@ fn add_remote_output(
     let input = channel % base::PORTS + 1;
     let from = places::input_state(before, site, input);
     let to = places::input_state(after, site, input);
+    let values = [site as u64, input as u64, from, to];
     let carried = add_carried(text, at, before, s, j);
-    let far = add_far(text, carried, site, input);
-    add_states(text, far, from, to)
-}
-
-// Adds ` goes to site U, net-input I, `.
-fn add_far(text: &mut [u8], at: usize, site: usize, input: usize) -> usize {
-    let to_site = add_field(text, at, b" goes to site ", site as u64);
-    let to_input = add_field(text, to_site, b", net-input ", input as u64);
-    add_bytes(text, to_input, b", ")
+    add_pattern(
+        text,
+        carried,
+        b" goes to site #, net-input #, $ to $",
+        values,
+    )
 }
 
 // ---- codes 10 to 12
 
 fn add_out_queue(text: &mut [u8], at: usize, before: &[u64], after: &[u64], s: usize) -> usize {
-    let packet = add_field(text, at, b"packet ", places::out_front_packet(before, s));
-    let step = add_step(text, packet, places::out_front_started(before, s));
+    let packet = places::out_front_packet(before, s);
     let from = places::input_state(before, s, 0);
     let to = places::input_state(after, s, 0);
-    add_states(text, step, from, to)
-}
-
-fn add_step(text: &mut [u8], at: usize, is_started: bool) -> usize {
-    if is_started {
-        return add_bytes(text, at, b" ends, net-input 0 ");
+    let values = [packet, from, to, 0];
+    if places::out_front_started(before, s) {
+        return add_pattern(text, at, b"packet # ends, net-input 0 $ to $", values);
     }
-    add_bytes(text, at, b" starts, net-input 0 ")
+    add_pattern(text, at, b"packet # starts, net-input 0 $ to $", values)
 }
 
 fn add_operator(
@@ -217,43 +209,31 @@ fn add_operator(
     let is_requeued = places::out_count(before, s) < places::out_count(after, s);
     let rest = places::out_last_set(after, s);
     if let Ran::Serviced(packet, site) = answer {
-        return add_service(text, at, packet, site, is_requeued, rest);
+        let values = [base::wide(packet) as u64, base::wide(site) as u64, rest, 0];
+        return add_service(text, at, is_requeued, values);
     }
-    let named = add_field(text, at, b"packet ", places::in_front_packet(before, s));
+    let packet = places::in_front_packet(before, s);
     if is_requeued {
-        let requeued = add_bytes(text, named, b" requeued, ");
-        return add_set(text, requeued, rest);
+        return add_pattern(text, at, b"packet # requeued, %", [packet, rest, 0, 0]);
     }
-    add_bytes(text, named, b" cleared")
+    add_pattern(text, at, b"packet # cleared", [packet, 0, 0, 0])
 }
 
 // A service, and the rest if there is one.
-fn add_service(
-    text: &mut [u8],
-    at: usize,
-    packet: u8,
-    site: u8,
-    is_requeued: bool,
-    rest: u64,
-) -> usize {
-    let named = add_field(text, at, b"packet ", base::wide(packet) as u64);
-    let serviced = add_field(text, named, b" serviced at site ", base::wide(site) as u64);
-    if !is_requeued {
-        return serviced;
+fn add_service(text: &mut [u8], at: usize, is_requeued: bool, values: [u64; 4]) -> usize {
+    if is_requeued {
+        return add_pattern(text, at, b"packet # serviced at site #, % requeued", values);
     }
-    let comma = add_bytes(text, serviced, b", ");
-    let set = add_set(text, comma, rest);
-    add_bytes(text, set, b" requeued")
+    add_pattern(text, at, b"packet # serviced at site #", values)
 }
 
 fn add_timeout(text: &mut [u8], at: usize, before: &[u64], after: &[u64], s: usize) -> usize {
     let i = places::feeder(before, s);
+    let packet = places::input_packet(before, s, i);
     let from = places::input_state(before, s, i);
     let to = places::input_state(after, s, i);
-    let marks = places::input_marks(before, s, i);
-    let input = add_field(text, at, b"net-input ", i as u64);
-    let cut = add_bytes(text, input, b" cut, ");
-    let packet = add_packet(text, cut, places::input_packet(before, s, i));
-    let states = add_states(text, packet, from, to);
-    add_given(text, states, sets::without(marks, 0), after, s)
+    let marks = sets::without(places::input_marks(before, s, i), 0);
+    let values = [i as u64, packet, from, to];
+    let cut = add_pattern(text, at, b"net-input # cut, packet #, $ to $", values);
+    add_outputs(text, cut, marks, after, s, false)
 }
