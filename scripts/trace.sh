@@ -89,11 +89,11 @@ said 1 'cannot be read: it is a folder' .
 said 1 'cannot be read: it is not a file' fifo
 said 1 'cannot be read: it is not a file' /dev/zero
 said 1 'a\nb cannot be read' "$(printf 'a\nb')"
-said 1 'cannot be read' "$(printf 'long-%.0s' $(seq 1200))"
-said 2 'unknown option: --al' --al "$root/examples/two-sites.bin"
-said 2 'unknown option: -a' -a
-said 2 'no FILE' --all
-said 2 'more than one FILE: b' a b
+said 1 'cannot be read: it is too long' "$(printf 'long-%.0s' $(seq 1200))"
+said 2 'there is no option --al' --al "$root/examples/two-sites.bin"
+said 2 'there is no option -a' -a
+said 2 'trace takes one file' --all
+said 2 'trace takes one file' a b
 if [ -c /dev/full ]; then
     run "$program" --front 'the desk' "$root/examples/two-sites.bin" 3>status >/dev/full 2>messages
     [ "$(cat status)" = 1 ] || end 1 "status $(cat status) with an output that cannot be written"

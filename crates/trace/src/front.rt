@@ -75,6 +75,77 @@ pub fn tell(fronted: bool, line: &[u8]) {
     }
 }
 
+// The words so far: how many names, which argument the last of them is, whether `--` has come, whether help is asked
+// for, whether the use is wrong. What comes behind a call for help or a wrong word is not looked at.
+pub struct Words {
+    pub names: usize,
+    pub last: usize,
+    pub ended: bool,
+    pub help: bool,
+    pub wrong: bool,
+}
+
+// No word yet. `--front` without a name is wrong.
+pub fn no_words(who: &[u8], first: usize) -> Words {
+    let wrong = os::arg_count() < first;
+    if wrong {
+        say(who, b"--front wants a name", b"");
+    }
+    Words {
+        names: 0,
+        last: 0,
+        ended: false,
+        help: false,
+        wrong: wrong,
+    }
+}
+
+// Puts argument i at the front of the room, or of one that is too long its first bytes. Answers how many they are.
+pub fn word_at(i: usize, room: &mut [u8]) -> usize
+    ensures { λ r. ⌜ Front r (now (room .exit)) ⌝ }
+{
+    let n = os::arg(i, room);
+    if os::errno() == libc::ENAMETOOLONG {
+        return io::count(isize::MAX, room);
+    }
+    n
+}
+
+// Whether a word that comes behind these is an option.
+fn is_option(words: Words, word: &[u8]) -> bool {
+    if words.ended {
+        return false;
+    }
+    if word.len() < 2 {
+        return false;
+    }
+    word[0] == b'-'
+}
+
+// The words with one more, argument i: a name, `--`, `--help`, or an option that there is not.
+pub fn take_word(who: &[u8], i: usize, word: &[u8], words: Words) -> Words {
+    let mut now = words;
+    if words.help || words.wrong {
+        return now;
+    }
+    if !is_option(words, word) {
+        now.names = std::num::wrapping_add_usize(words.names, 1);
+        now.last = i;
+        return now;
+    }
+    if check::same(word, b"--") {
+        now.ended = true;
+        return now;
+    }
+    if check::same(word, b"--help") {
+        now.help = true;
+        return now;
+    }
+    say(who, b"there is no option ", word);
+    now.wrong = true;
+    now
+}
+
 // ---- messages, each on one line
 
 // `WHO: TEXT`, and behind the text a word, if there is one.
@@ -134,6 +205,15 @@ fn say_system(who: &[u8], name: &[u8], words: &[u8]) {
 // Says that standard output cannot be written, and why: just after a write to it that failed.
 pub fn no_output(who: &[u8]) {
     say_system(who, b"standard output", b" cannot be written");
+}
+
+// Says that a name was too long to be a path.
+pub fn too_long(who: &[u8]) {
+    say(
+        who,
+        b"a name of more than 4,095 bytes cannot be read: it is too long",
+        b"",
+    );
 }
 
 // ---- the file

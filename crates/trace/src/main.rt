@@ -8,86 +8,42 @@ mod places;
 mod run;
 mod told;
 
+use front::Words;
 use libc::STDERR_FILENO;
 use libc::STDOUT_FILENO;
 use types::Counts;
 
-// What the arguments ask for: the number of the argument that names the file, 0 if none does.
+// What the arguments ask for.
 struct Asked {
-    file: usize,
     all: bool,
-    ended: bool,
-    verdict: u8,
+    words: Words,
 }
 
-// Verdicts on the arguments: a trace, as far as they are read; help; a word that is no option; a second file.
-const TRACE: u8 = 0;
-
-const HELP: u8 = 1;
-
-const UNKNOWN: u8 = 2;
-
-const SECOND: u8 = 3;
-
-// The arguments from number `first` on, up to the first that settles the verdict.
-fn asked_from(first: usize) -> Asked {
+// The arguments from number `first` on.
+fn asked_from(who: &[u8], first: usize) -> Asked {
     let mut asked = Asked {
-        file: 0,
         all: false,
-        ended: false,
-        verdict: TRACE,
+        words: front::no_words(who, first),
     };
     for i in first..os::arg_count() {
-        asked = take_word(i, asked);
+        asked = take_argument(who, i, asked);
     }
     asked
 }
 
-// One more argument.
-fn take_word(i: usize, asked: Asked) -> Asked {
-    let mut word = io::buffer();
-    let n = os::arg(i, &mut word);
-    let is_whole = os::errno() == 0;
-    let mut now = asked;
-    if asked.verdict != TRACE {
-        return now;
+// One more argument: `--all`, or what the programs share.
+fn take_argument(who: &[u8], i: usize, asked: Asked) -> Asked {
+    let mut room = io::buffer();
+    let n = front::word_at(i, &mut room);
+    let words = asked.words;
+    if !words.ended && check::same(&room[..n], b"--all") {
+        return Asked { all: true, words };
     }
-    if asked.ended || word[0] != b'-' || (is_whole && n == 1) {
-        return with_file(i, asked);
+    let more = front::take_word(who, i, &room[..n], words);
+    Asked {
+        all: asked.all,
+        words: more,
     }
-    now.verdict = UNKNOWN;
-    now.file = i;
-    if !is_whole {
-        return now;
-    }
-    option(&word[..n], asked, now)
-}
-
-// The argument that begins with `-`: what is asked then, or `unknown`.
-fn option(word: &[u8], asked: Asked, unknown: Asked) -> Asked {
-    let mut now = asked;
-    if check::same(word, b"--all") {
-        now.all = true;
-        return now;
-    }
-    if check::same(word, b"--") {
-        now.ended = true;
-        return now;
-    }
-    if check::same(word, b"--help") {
-        now.verdict = HELP;
-        return now;
-    }
-    unknown
-}
-
-fn with_file(i: usize, asked: Asked) -> Asked {
-    let mut now = asked;
-    if asked.file != 0 {
-        now.verdict = SECOND;
-    }
-    now.file = i;
-    now
 }
 
 // The usage, on descriptor fd. Answers whether that was done.
@@ -118,13 +74,6 @@ fn help(who: &[u8]) -> u64 {
     }
     front::no_output(who);
     front::FAILED
-}
-
-// Wrong use: says why, and the usage. Answers the status.
-fn wrong(who: &[u8], why: &[u8], word: &[u8]) -> u64 {
-    front::say(who, why, word);
-    print_usage(STDERR_FILENO, who);
-    front::WRONG
 }
 
 // Traces the run that the bytes hold. Answers the status.
@@ -179,36 +128,36 @@ fn trace_argument(who: &[u8], i: usize, all: bool) -> u64 {
     let mut name = io::buffer();
     let n = os::arg(i, &mut name);
     if os::errno() != 0 {
-        front::say(who, b"FILE cannot be read: its name is too long", b"");
+        front::too_long(who);
         return front::FAILED;
     }
     trace_file(who, &name[..n], all)
 }
 
-// Says why argument i is turned down. Answers the status.
-fn wrong_argument(who: &[u8], i: usize, is_option: bool) -> u64 {
-    let mut word = io::buffer();
-    let n = os::arg(i, &mut word);
-    if is_option {
-        return wrong(who, b"unknown option: ", &word[..n]);
+// Whether the use is wrong, which is said.
+fn is_wrong(who: &[u8], words: Words) -> bool {
+    if words.wrong {
+        return true;
     }
-    wrong(who, b"more than one FILE: ", &word[..n])
+    if words.names != 1 {
+        front::say(who, b"trace takes one file", b"");
+        return true;
+    }
+    false
 }
 
 // The status of the arguments from number `first` on.
 fn answered(who: &[u8], first: usize) -> u64 {
-    let asked = asked_from(first);
-    let verdict = asked.verdict;
-    if verdict == HELP {
+    let asked = asked_from(who, first);
+    let words = asked.words;
+    if words.help {
         return help(who);
     }
-    if verdict != TRACE {
-        return wrong_argument(who, asked.file, verdict == UNKNOWN);
+    if is_wrong(who, words) {
+        print_usage(STDERR_FILENO, who);
+        return front::WRONG;
     }
-    if asked.file == 0 {
-        return wrong(who, b"no FILE", b"");
-    }
-    trace_argument(who, asked.file, asked.all)
+    trace_argument(who, words.last, asked.all)
 }
 
 // The line of the status, for the front.

@@ -6,13 +6,17 @@ use Rattle.trace.proofs.asked_from.Tie as tie
 use Rattle.trace.proofs.asked_from.Reads as reads
 use Rattle.trace.proofs.asked_from.Lts as lts
 use Rattle.os.proofs.arg_count.Reads as arg-count-reads
-use Rattle.trace.proofs.take_word.Reads as take-word-reads
+use Rattle.trace.proofs.front.no_words.Reads as no-words-reads
+use Rattle.trace.proofs.take_argument.Reads as take-argument-reads
 
 abbrev Inv-loop : tie.InvT-loop
-Inv-loop first asked₀ i₀ i-end asked i = first ≤ i
+Inv-loop who first asked₀ i₀ i-end asked i = first ≤ i
 
 abbrev μ-loop : tie.MeasureT-loop
-μ-loop first asked₀ i₀ i-end asked i = i-end - i
+μ-loop who first asked₀ i₀ i-end asked i = i-end - i
+
+no-words-requires : tie.Need-no-words-requires Inv-loop μ-loop
+no-words-requires c κs = search needs
 
 arg-count-requires : tie.Need-arg-count-requires Inv-loop μ-loop
 arg-count-requires c κs = search needs
@@ -20,8 +24,8 @@ arg-count-requires c κs = search needs
 loop-holds : tie.Need-loop-holds Inv-loop μ-loop
 loop-holds c = search needs
 
-take-word-requires : tie.Need-take-word-requires Inv-loop μ-loop
-take-word-requires c κs = search needs
+take-argument-requires : tie.Need-take-argument-requires Inv-loop μ-loop
+take-argument-requires c κs = search needs
 
 add-i : tie.Need-add-i Inv-loop μ-loop
 add-i c = search needs
@@ -41,9 +45,10 @@ asked-from-spec =
     (tie.spec
     Inv-loop
     μ-loop
+    no-words-requires
     arg-count-requires
     loop-holds
-    take-word-requires
+    take-argument-requires
     add-i
     loop-less
     loop-again
