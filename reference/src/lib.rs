@@ -20,4 +20,5 @@ pub mod single;
 pub mod state;
 pub mod step;
 pub mod text;
+pub mod trace;
 pub mod watch;

@@ -10,4 +10,5 @@ mod readings;
 mod router;
 mod stored;
 mod texts;
+mod traces;
 mod typed;

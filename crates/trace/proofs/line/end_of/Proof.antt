@@ -1,0 +1,49 @@
+-- `line::end_of` is safe and ends. Assumes nothing.
+use borrow.Author.Needs.{needs}
+use Prim.Native.Nat.{_-_, _≤_}
+use lib.ListN.{length}
+use Rattle.trace.proofs.line.end_of.Statement.{statement}
+use Rattle.trace.proofs.line.end_of.Tie as tie
+use Rattle.trace.proofs.line.end_of.Reads as reads
+use Rattle.trace.proofs.line.end_of.Lts as lts
+
+abbrev Inv-loop : tie.InvT-loop
+Inv-loop words from i₀ i = (from ≤ i) × (i ≤ length words)
+
+abbrev μ-loop : tie.MeasureT-loop
+μ-loop words from i₀ i = length words - i
+
+loop-holds : tie.Need-loop-holds Inv-loop μ-loop
+loop-holds c = search needs
+
+shared-slice-read-if1 : tie.Need-shared-slice-read-if1 Inv-loop μ-loop
+shared-slice-read-if1 c = search needs
+
+add-i : tie.Need-add-i Inv-loop μ-loop
+add-i c = search needs
+
+loop-less : tie.Need-loop-less Inv-loop μ-loop
+loop-less c = search needs
+
+loop-again : tie.Need-loop-again Inv-loop μ-loop
+loop-again c = search needs
+
+returns : tie.Need-returns Inv-loop μ-loop
+returns c = search needs
+
+returns-2 : tie.Need-returns-2 Inv-loop μ-loop
+returns-2 c = search needs
+
+pub end-of-spec : {M : Type 1} → statement M
+end-of-spec =
+    tie.close
+    (tie.spec
+    Inv-loop
+    μ-loop
+    loop-holds
+    shared-slice-read-if1
+    add-i
+    loop-less
+    loop-again
+    returns
+    returns-2)

@@ -1,0 +1,51 @@
+-- `told::add_outputs` is safe and ends. Assumes nothing.
+use borrow.Author.Needs.{needs}
+use Prim.Native.Nat.{_-_, _≤_}
+use mathlib.Core.Path.{_≡_}
+use lib.ListN.{length}
+use Rattle.trace.proofs.told.add_outputs.Statement.{statement}
+use Rattle.trace.proofs.told.add_outputs.Tie as tie
+use Rattle.trace.proofs.told.add_outputs.Reads as reads
+use Rattle.trace.proofs.told.add_outputs.Lts as lts
+use Rattle.trace.proofs.told.add_output.Reads as add-output-reads
+
+abbrev Inv-loop : tie.InvT-loop
+Inv-loop text₀ at marks after s are-sets to₀ j₀ text to j = (length text ≡ length text₀) × (j ≤ 5)
+
+abbrev μ-loop : tie.MeasureT-loop
+μ-loop text₀ at marks after s are-sets to₀ j₀ text to j = 5 - j
+
+loop-holds : tie.Need-loop-holds Inv-loop μ-loop
+loop-holds c = search needs
+
+add-output-requires : tie.Need-add-output-requires Inv-loop μ-loop
+add-output-requires c κs = search needs
+
+add-j : tie.Need-add-j Inv-loop μ-loop
+add-j c = search needs
+
+loop-less : tie.Need-loop-less Inv-loop μ-loop
+loop-less c = search needs
+
+loop-again : tie.Need-loop-again Inv-loop μ-loop
+loop-again c = search needs
+
+same-length : tie.Need-same-length Inv-loop μ-loop
+same-length c = search needs
+
+returns : tie.Need-returns Inv-loop μ-loop
+returns c = search needs
+
+pub add-outputs-spec : {M : Type 1} → statement M
+add-outputs-spec =
+    tie.close
+    (tie.spec
+    Inv-loop
+    μ-loop
+    loop-holds
+    add-output-requires
+    add-j
+    loop-less
+    loop-again
+    same-length
+    returns)

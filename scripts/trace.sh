@@ -1,0 +1,107 @@
+#!/bin/sh
+# trace.sh: traces every archive of the corpus and the examples by the proved program target/bin/trace (run as
+# scripts/program.sh says) and by the second model, with and without --all, and compares all lines. Then it sees that the
+# product's traces of the corpus tell the book: their services in order and their last lines are crates/batch/stdout. Then
+# the program's words: what it says of odd names, and the status that a front gets on descriptor 3; and that
+# crates/trace/stdout is the second model's. Prints one line. It needs cargo; nothing is fetched.
+# Exit: 0 no difference, 1 a difference (the lines stay in target/trace/), 2 no program.
+set -u
+export LC_ALL=C
+root=$(CDPATH= cd -- "$(dirname -- "$0")/.." && pwd) || exit 2
+cd "$root" || exit 2
+. "$root/scripts/program.sh"
+program=$(from_root "${FENNQUALO_TRACE:-target/bin/trace}")
+export CARGO_TARGET_DIR="$root/target/reference"
+second=$CARGO_TARGET_DIR/release/trace
+folder=$root/target/trace
+
+end() {
+    printf 'trace: %s\n' "$2"
+    exit "$1"
+}
+
+can_run "$program" || end 2 "$why"
+(cd "$root/reference" && cargo build --release --offline --quiet) || end 2 "the second model is not built"
+rm -rf "$folder"
+mkdir -p "$folder" || exit 2
+
+# the lines of each archive, the plain trace of the corpus kept under its name
+lines=0
+files=0
+for file in "$root"/corpus/*.bin "$root"/examples/*.bin; do
+    name=${file##*/}
+    for word in '' --all; do
+        "$second" $word "$file" >"$folder/expected"
+        run "$program" $word -- "$file" >"$folder/printed" || end 1 "the program failed on $name"
+        cmp -s "$folder/expected" "$folder/printed" ||
+            end 1 "$name $word: $(diff "$folder/expected" "$folder/printed" | grep -c '^[<>]') lines differ in target/trace/"
+        lines=$((lines + $(wc -l <"$folder/printed")))
+        [ -n "$word" ] || case $file in "$root"/corpus/*) cp "$folder/printed" "$folder/$name.txt" ;; esac
+    done
+    files=$((files + 1))
+done
+
+# the book of each trace, in the form of crates/batch/stdout; a name that cannot be read has none
+while IFS= read -r name || [ -n "$name" ]; do
+    [ -f "$root/corpus/$name" ] || continue
+    awk -v name="$name" '
+        $1 == "draw" && $5 == "operator:" && $8 == "serviced" {
+            sub(":", "", $2); sub(",", "", $11); print $2, $7, $11
+        }
+        { last = $0 }
+        END { print name ": " last }' "$folder/${name##*/}.txt"
+done <"$root/crates/batch/stdin" >"$folder/book"
+grep -v -e ': cannot be read$' -e '^files ' "$root/crates/batch/stdout" >"$folder/book-expected"
+cmp -s "$folder/book-expected" "$folder/book" || end 1 "the traces' book is not crates/batch/stdout: target/trace/book"
+
+# said STATUS TEXT WORDS..: behind a front's words the program gives this status on descriptor 3 and, if there is a text, a
+# message that begins with the front's name and has it; without a front no status, and a message under its own name
+said() {
+    status=$1
+    text=$2
+    shift 2
+    timeout 20 sh -c '. "$root/scripts/program.sh"; run "$@"' sh "$program" --front 'the desk' "$@" \
+        3>"$folder/status" >"$folder/out" 2>"$folder/messages" || end 1 "the program hangs or fails on: $*"
+    [ "$(cat "$folder/status")" = "$status" ] || end 1 "status $(cat "$folder/status"), not $status, of: $*"
+    first=$(head -n 1 "$folder/messages")
+    run "$program" "$@" 3>"$folder/status" >"$folder/out" 2>"$folder/messages" || end 1 "the program fails on: $*"
+    [ ! -s "$folder/status" ] || end 1 "a status without a front: $*"
+    own=$(head -n 1 "$folder/messages")
+    if [ -z "$text" ]; then
+        [ -z "$first$own" ] || end 1 "a message where none is due: $own"
+    else
+        case $first in "the desk: "*"$text"*) ;; *) end 1 "no message '$text' but '$first' of: $*" ;; esac
+        case $own in "trace: "*"$text"*) ;; *) end 1 "no message '$text' but '$own' of: $*" ;; esac
+    fi
+}
+
+export root
+mkfifo "$folder/fifo" || exit 2
+cp examples/two-sites.bin "$folder/--all" || exit 2
+: >"$folder/empty"
+cd "$folder" || exit 2
+said 0 '' --help
+said 0 '' "$root/examples/two-sites.bin"
+said 0 '' --all -- --all
+said 1 '' empty
+said 1 'missing.bin cannot be read: there is no such file' missing.bin
+said 1 'cannot be read: it is a folder' .
+said 1 'cannot be read: it is not a file' fifo
+said 1 'cannot be read: it is not a file' /dev/zero
+said 1 'a\nb cannot be read' "$(printf 'a\nb')"
+said 1 'cannot be read: it is too long' "$(printf 'long-%.0s' $(seq 1200))"
+said 2 'there is no option --al' --al "$root/examples/two-sites.bin"
+said 2 'there is no option -a' -a
+said 2 'trace takes one file' --all
+said 2 'trace takes one file' a b
+if [ -c /dev/full ]; then
+    run "$program" --front 'the desk' "$root/examples/two-sites.bin" 3>status >/dev/full 2>messages
+    [ "$(cat status)" = 1 ] || end 1 "status $(cat status) with an output that cannot be written"
+    grep -q '^the desk: standard output cannot be written: ' messages || end 1 "no message of a full output"
+fi
+
+# what rt runs is the example, and its expected trace the second model's
+cd "$root" || exit 2
+cmp -s crates/trace/data/two-sites.bin examples/two-sites.bin || end 1 "crates/trace/data has not the example"
+"$second" crates/trace/data/two-sites.bin | cmp -s - crates/trace/stdout || end 1 "crates/trace/stdout is not the second model's"
+end 0 "$files archives with and without --all, $lines lines, 0 differences; the book of each as expected; words and messages"
