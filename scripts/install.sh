@@ -16,6 +16,14 @@ tell() { echo "install: $1" >&2; }
     exit 2
 }
 
+# ---- whether there is room for it
+for folder in . bin lib include share libexec; do
+    if [ -e "$1/$folder" ] && { [ ! -d "$1/$folder" ] || [ ! -w "$1/$folder" ]; }; then
+        tell "$1/$folder is not a folder that can be written; nothing is installed"
+        exit 1
+    fi
+done
+
 # ---- what is built
 sh "$root/fennqualo" build || exit 1
 sh "$root/scripts/library.sh" "$root/target/library" || exit 1
