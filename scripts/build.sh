@@ -61,7 +61,7 @@ build() {
     command -v rt >/dev/null 2>&1 ||
         die "the Rattle kit is not installed ('rt' is not on the PATH), and without it nothing can be proved or built"
     log=$root/target/build.log
-    { mkdir -p "$root/target" && : >"$log"; } 2>/dev/null ||
+    (mkdir -p "$root/target" && : >"$log") 2>/dev/null ||
         die "target/ or target/build.log cannot be written: nothing is proved, nothing is built"
     say "proving and building $made; from nothing that takes some 8 minutes on two processors, and nothing is said for up"
     say "to 2 minutes while rules, machine or words is proved; the whole log is target/build.log"

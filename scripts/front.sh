@@ -178,7 +178,7 @@ done
 kill -TERM "$building"
 wait "$building" && wrong "a build that was stopped says that all went well"
 sleep 1
-! kill -0 "$(cat "$copy/sleeper")" 2>/dev/null || wrong "a build was stopped, and its prover goes on"
+case $(ps -o stat= -p "$(cat "$copy/sleeper")") in '' | Z*) ;; *) wrong "a build was stopped, and its prover goes on" ;; esac
 seen=$((seen + 1))
 
 # ---- installed

@@ -10,8 +10,10 @@ use libc::STDERR_FILENO;
 use libc::STDOUT_FILENO;
 use text::fill;
 
-// Room for a line: a name of 4,096 bytes with every byte escaped, and the words around it.
-const LINE: usize = 17408;
+// The longest argument that Linux passes, with the 0 that ends it.
+const ARGUMENT: usize = 131072;
+// Room for a line: such an argument with every byte escaped, and the words around it.
+const LINE: usize = 4 * ARGUMENT + 1024;
 
 fn main() {
     let mut name = [0u8; front::WHO];
@@ -43,7 +45,7 @@ fn answer(who: &[u8], first: usize) -> u64 {
         print_usage(STDERR_FILENO);
         return front::WRONG;
     }
-    let mut name = io::buffer();
+    let mut name = [0u8; ARGUMENT];
     let mut line = [0u8; LINE];
     inspect_all(who, first, &mut name, &mut line)
 }
@@ -57,8 +59,7 @@ fn print_usage(fd: i32) -> bool {
     first & second
 }
 
-// The files that the words name, from argument `first` on; of a longer name than a path can have its first bytes are
-// known. The only option among them is the first `--`.
+// The files that the words name, from argument `first` on. The only option among them is the first `--`.
 fn inspect_all(who: &[u8], first: usize, name: &mut [u8], line: &mut [u8]) -> u64 {
     let mut status = front::DONE;
     let mut ended = false;
