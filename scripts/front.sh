@@ -203,8 +203,15 @@ if command -v pkg-config >/dev/null 2>&1 && command -v "${CC:-cc}" >/dev/null 2>
 fi
 
 # an install that fails leaves nothing behind, and what was there as it was
-mkdir "$work/half"
-echo kept >"$work/half/lib"
-expect 1 "an install that fails" ./fennqualo install "$work/half"
-[ "$(ls -A "$work/half")" = lib ] && [ "$(cat "$work/half/lib")" = kept ] || wrong "$what left something behind: $(find "$work/half")"
+mkdir -p "$work/half/share" "$work/half/bin"
+echo kept >"$work/half/share/fennqualo"
+echo old >"$work/half/bin/fennqualo"
+find "$work/half" >"$work/there"
+expect 1 "an install that fails half-way" ./fennqualo install "$work/half"
+find "$work/half" | cmp -s - "$work/there" || wrong "$what left something behind: $(find "$work/half")"
+[ "$(cat "$work/half/bin/fennqualo")" = old ] || wrong "$what replaced what was there"
+rm -r "$work/half/bin"
+echo kept >"$work/half/bin"
+expect 1 "an install without room" ./fennqualo install "$work/half"
+says err 'is not a folder'
 echo "front: $seen calls as expected"

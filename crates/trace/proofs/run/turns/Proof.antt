@@ -12,7 +12,8 @@ use Rattle.trace.proofs.run.place_of.Reads as place-of-reads
 use Rattle.trace.proofs.run.turn.Reads as turn-reads
 
 abbrev Inv-loop : tie.InvT-loop
-Inv-loop all state₀ before₀ network sends draws count t₀ total k₀ state before t k = (length state ≡ length state₀) × (length before ≡ length before₀) × (k ≤ total)
+Inv-loop all state₀ before₀ network sends draws count t₀ total k₀ state before t k =
+    (length state ≡ length state₀) × (length before ≡ length before₀) × (k ≤ total)
 
 abbrev μ-loop : tie.MeasureT-loop
 μ-loop all state₀ before₀ network sends draws count t₀ total k₀ state before t k = total - k
