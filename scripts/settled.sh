@@ -14,7 +14,7 @@ cd "$(dirname "$0")/.."
 unseen="settled timing"
 
 # Libraries without a function, types, definitions and theorems alone; they are looked at all the same.
-bare="model theorems layout format"
+bare="model theorems layout format lines"
 
 # Functions without a theorem: what is read and written lies outside the machine in which a contract is stated. In
 # `front` that is all of them: the program's arguments, messages, files and the line of numbers.

@@ -14,7 +14,7 @@ use Rattle.io.specs.Counts.{Counts}
 use Rattle.io.specs.Digits.{digits, Fewest}
 use Rattle.io.proofs.Counting.{counts}
 use Rattle.report.specs.Put.{Put}
-use Rattle.report.specs.Add.{Added, shownByte, shownTo}
+use Rattle.lines.specs.Add.{Added, shownByte, shownTo}
 
 -- ---- lengths
 

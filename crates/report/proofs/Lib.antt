@@ -1,6 +1,5 @@
--- Examples of the printed text; the laws of numbers in decimal, of bytes put one behind the other or added to a line, of a
+-- The laws of numbers in decimal, of bytes put one behind the other or added to a line, of a
 -- book in parts.
-pub mod Examples
 pub mod Numbers
 pub mod Puts
 pub mod Adds

@@ -9,7 +9,7 @@ use lib.ListN.{length, length-append}
 use borrow.Author.Tests.{lt-ltb, le-ltb}
 use Rattle.base.specs.Bools.{cond-ok}
 use Rattle.io.specs.Digits.{glyph, digits, Fewest}
-use Rattle.report.specs.Text.{places, decimal}
+use Rattle.lines.specs.Text.{places, decimal}
 
 length-digits : (b k n : ℕ) → length (digits b k n) ≡ k
 length-digits b zero n = refl

@@ -8,7 +8,7 @@ use native.Mathlib.Omega.{arith}
 use lib.ListN.{length, getD, take, drop}
 use lib.Seq.{getD-take, getD-drop}
 use Rattle.model.specs.Runs.{Service, bookBytes}
-use Rattle.report.specs.Text.{lineAt, serviceLines, linesOf}
+use Rattle.lines.specs.Text.{lineAt, serviceLines, linesOf}
 
 -- service k behind the first j
 line-behind : (b : List ℕ) (j k : ℕ) → lineAt (drop (4 * j) b) k ≡ lineAt b (j + k)

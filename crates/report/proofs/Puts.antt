@@ -8,10 +8,10 @@ use native.Mathlib.Omega.{arith}
 use lib.ListN.{length, drop, length-append}
 use Rattle.io.specs.Counts.{Counts}
 use Rattle.io.proofs.Counting.{counts}
-use Rattle.report.specs.declared.Lines.{Lines}
+use Rattle.lines.specs.declared.Lines.{Lines}
 use Rattle.base.specs.Answers.{atFront}
 use Rattle.base.specs.Put.{put-none as none, put-front, put-append}
-use Rattle.report.specs.Text.{lineAt, serviceLines, fitting, linesAnswer, linesAfter}
+use Rattle.lines.specs.Text.{lineAt, serviceLines, fitting, linesAnswer, linesAfter}
 use Rattle.report.specs.Put.{Put}
 
 -- nothing is put

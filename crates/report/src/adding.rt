@@ -3,8 +3,8 @@
 ghost use mathlib.Core.List.{_++_};
 ghost use Rattle.io.specs.Counts.{Counts as Front};
 ghost use Rattle.io.specs.Digits.{digits};
-ghost use Rattle.report.specs.Text.{ascii, decimal, answerLine};
-ghost use Rattle.report.specs.Add.{Added, shown, shownByte};
+ghost use Rattle.lines.specs.Text.{ascii, decimal, answerLine};
+ghost use Rattle.lines.specs.Add.{Added, shown, shownByte};
 use crate::ANSWER;
 use crate::answer_line;
 use crate::least;

@@ -13,8 +13,9 @@ ghost use mathlib.Core.Path.{_≡_};
 ghost use lib.ListN.{length};
 ghost use Rattle.io.specs.Counts.{Counts as Front};
 ghost use Rattle.base.specs.Answers.{atFront};
-ghost use Rattle.report.specs.Text.{answerLine, linesAnswer, linesAfter};
+ghost use Rattle.lines.specs.Text.{answerLine, linesAnswer, linesAfter};
 use libc::STDOUT_FILENO;
+use lines::Lines;
 use text::put_all;
 use text::put_counts;
 use text::put_entry;
@@ -32,12 +33,6 @@ const SERVICE: usize = 14;
 pub struct Seen {
     pub failed: bool,
     pub count: usize,
-}
-
-// Lines of services: how many there are, and how many bytes they take.
-pub struct Lines {
-    pub services: usize,
-    pub bytes: usize,
 }
 
 // ---- composing

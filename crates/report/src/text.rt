@@ -3,7 +3,7 @@
 ghost use Prim.Native.Nat.{_+_, _*_, _≤_, _<_};
 ghost use mathlib.Core.List.{_++_};
 ghost use lib.ListN.{length};
-ghost use Rattle.report.specs.Text.{decimal, countsLine, serviceLine, lineAt, answerMost, serviceMost};
+ghost use Rattle.lines.specs.Text.{decimal, countsLine, serviceLine, lineAt, answerMost, serviceMost};
 ghost use Rattle.report.specs.Put.{Put};
 use types::Counts;
 

@@ -1,7 +1,7 @@
 -- `answer_line` meets its contract: the counts, or the word and the refusal's number. Assumes nothing.
 use Prim.Native.Nat.{zero-le}
 use borrow.Author.Tests.{eq-eqb, ne-eqb}
-use Rattle.report.specs.Text.{ascii, decimal, answerLine, refusedLine}
+use Rattle.lines.specs.Text.{ascii, decimal, answerLine, refusedLine}
 use Rattle.report.proofs.Numbers.{decimal-most}
 use Rattle.report.proofs.Puts.{then-two, at-front}
 use native.Mathlib.Omega.{arith}

@@ -1,6 +1,6 @@
 -- `print_line` is safe: the line lies within the room. Assumes nothing.
 use Rattle.io.specs.Counts.{Counts}
-use Rattle.report.specs.Text.{answerLine}
+use Rattle.lines.specs.Text.{answerLine}
 use Rattle.report.proofs.Puts.{front-counts}
 use borrow.Author.Needs.{needs}
 use Rattle.report.proofs.print_line.Statement.{statement}

@@ -8,7 +8,7 @@ use borrow.Author.Needs.{needs}
 use lib.ListN.{length, take, drop, length-drop}
 use lib.Seq.{length-take-le}
 use Rattle.io.specs.Counts.{Counts}
-use Rattle.report.specs.Text.{fitting}
+use Rattle.lines.specs.Text.{fitting}
 use Rattle.report.proofs.Puts.{lines-counts}
 use Rattle.report.proofs.print_services.Statement.{statement}
 use Rattle.report.proofs.print_services.Tie as tie

@@ -4,7 +4,7 @@ use borrow.Author.Needs.{needs}
 use Prim.Native.Nat.{_*_, _-_, _≤_}
 use mathlib.Core.Path.{_≡_, refl}
 use lib.ListN.{length}
-use Rattle.report.specs.Text.{serviceMost, serviceLines}
+use Rattle.lines.specs.Text.{serviceMost, serviceLines}
 use Rattle.report.specs.Put.{Put}
 use Rattle.report.proofs.Puts.{no-lines, line-more, lines-all}
 use Rattle.report.proofs.service_lines.Statement.{statement}

@@ -2,7 +2,7 @@
 use Rattle.io.specs.Counts.{Counts}
 use lib.ListN.{take}
 use mathlib.Core.Path.{_≡_}
-use Rattle.report.specs.Text.{answerLine}
+use Rattle.lines.specs.Text.{answerLine}
 use Rattle.report.proofs.Puts.{front-counts}
 use Rattle.report.proofs.Adds.{front-is}
 use borrow.Author.Needs.{needs}

@@ -4,7 +4,7 @@ use Prim.Native.Nat.{_-_, _≤_}
 use lib.ListN.{length}
 use native.Mathlib.Omega.{arith}
 use borrow.Author.Needs.{needs}
-use Rattle.report.specs.Add.{Added, shownTo}
+use Rattle.lines.specs.Add.{Added, shownTo}
 use Rattle.report.proofs.Adds.{added-start, added-counts, shown-more}
 use Rattle.report.proofs.adding.add_name.Statement.{statement}
 use Rattle.report.proofs.adding.add_name.Tie as tie

@@ -2,7 +2,7 @@
 use mathlib.Core.Path.{_≡_, _∙_}
 use lib.ListN.{take}
 use native.Mathlib.Omega.{arith}
-use Rattle.report.specs.Text.{decimal}
+use Rattle.lines.specs.Text.{decimal}
 use Rattle.report.proofs.Numbers.{decimal-is}
 use borrow.Author.Needs.{needs}
 use Rattle.report.proofs.adding.add_number.Statement.{statement}

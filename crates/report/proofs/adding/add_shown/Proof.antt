@@ -1,6 +1,6 @@
 -- `adding::add_shown` meets its contract, case by case. Assumes nothing.
 use borrow.Author.Tests.{eq-eqb, ne-eqb}
-use Rattle.report.specs.Add.{shownByte}
+use Rattle.lines.specs.Add.{shownByte}
 use borrow.Author.Needs.{needs}
 use Rattle.report.proofs.adding.add_shown.Statement.{statement}
 use Rattle.report.proofs.adding.add_shown.Tie as tie

@@ -2,7 +2,7 @@
 use Prim.Native.Nat.{_≤_, zero-le}
 use native.Mathlib.Omega.{arith}
 use borrow.Author.Needs.{needs}
-use Rattle.report.specs.Text.{ascii, decimal, countsLine}
+use Rattle.lines.specs.Text.{ascii, decimal, countsLine}
 use Rattle.report.proofs.Numbers.{decimal-most}
 use Rattle.report.proofs.Puts.{then-two, behind-two}
 use Rattle.report.proofs.text.put_counts.Statement.{statement}

@@ -1,5 +1,5 @@
 -- `text::put_entry` meets its contract: four bytes of the book, as three numbers. Assumes nothing.
-use Rattle.report.specs.Text.{lineAt}
+use Rattle.lines.specs.Text.{lineAt}
 use borrow.Author.Needs.{needs}
 use Rattle.report.proofs.text.put_entry.Statement.{statement}
 use Rattle.report.proofs.text.put_entry.Tie as tie

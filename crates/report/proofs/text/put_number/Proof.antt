@@ -1,7 +1,7 @@
 -- `text::put_number` meets its contract: what `io::decimal` puts is the number's text. Assumes nothing.
 use mathlib.Core.Path.{_≡_, _∙_}
 use lib.ListN.{take}
-use Rattle.report.specs.Text.{decimal}
+use Rattle.lines.specs.Text.{decimal}
 use Rattle.report.proofs.Numbers.{decimal-is}
 use native.Mathlib.Omega.{arith}
 use borrow.Author.Needs.{needs}

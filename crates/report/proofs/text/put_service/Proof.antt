@@ -3,7 +3,7 @@ use Prim.Native.Nat.{_+_, _≤_}
 use native.Mathlib.Omega.{arith}
 use lib.ListN.{length}
 use borrow.Author.Needs.{needs}
-use Rattle.report.specs.Text.{ascii, decimal, serviceLine, serviceMost}
+use Rattle.lines.specs.Text.{ascii, decimal, serviceLine, serviceMost}
 use Rattle.report.proofs.Numbers.{decimal-within}
 use Rattle.report.proofs.Puts.{then-two, behind-two}
 use Rattle.report.proofs.text.put_service.Statement.{statement}

@@ -8,7 +8,7 @@ use lib.Dec.{eqb, ltb}
 use lib.ListN.{length, getD, take}
 use Rattle.base.specs.Put.{put}
 use Rattle.io.specs.Digits.{digits}
-use Rattle.report.specs.Text.{ascii}
+use Rattle.lines.specs.Text.{ascii}
 
 -- ---- adding
 

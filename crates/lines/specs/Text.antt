@@ -11,7 +11,7 @@ use Rattle.base.specs.Answers.{atFront}
 use Rattle.io.specs.Digits.{digits}
 use Rattle.types.specs.declared.Counts.{Counts}
 use Rattle.model.specs.Runs.{Service}
-use Rattle.report.specs.declared.Lines.{Lines}
+use Rattle.lines.specs.declared.Lines.{Lines}
 
 -- ---- letters and numbers
 

@@ -4,9 +4,9 @@ use mathlib.Core.List.{List, [], _∷_, _++_}
 use Prim.Native.Nat.{ℕ}
 use Rattle.types.specs.declared.Counts.{Counts}
 use lib.ListN.{length}
-use Rattle.report.specs.Text.{ascii, places, decimal, refusedLine, countsLine, answerLine, answerMost}
-use Rattle.report.specs.Text.{serviceLine, serviceMost, lineAt, serviceLines}
-use Rattle.report.specs.Add.{shown, shownTo, shownByte}
+use Rattle.lines.specs.Text.{ascii, places, decimal, refusedLine, countsLine, answerLine, answerMost}
+use Rattle.lines.specs.Text.{serviceLine, serviceMost, lineAt, serviceLines}
+use Rattle.lines.specs.Add.{shown, shownTo, shownByte}
 
 abbrev counts : ℕ → ℕ → ℕ → ℕ → Counts
 counts a p v o = record { accepted = a; pairs = p; serviced = v; owed = o }
