@@ -46,7 +46,8 @@ expect 1 "play, missing" ./fennqualo play "$work/none"
 expect 1 "play, a folder" ./fennqualo play "$work/a folder"
 expect 2 "play, two names" ./fennqualo play examples/run-r.bin examples/run-r.bin
 expect 2 "play, an option" ./fennqualo play --json
-says err 'fennqualo: '
+says err 'fennqualo play: there is no option --json'
+says err 'usage: fennqualo play [--] [FILE]'
 expect 1 "play, a full disk" sh -c './fennqualo play examples/run-r.bin >/dev/full'
 expect 1 "play, a closed output" sh -c './fennqualo play examples/run-r.bin >&-'
 expect 0 "batch" ./fennqualo batch examples/run-r.bin examples/timeout.bin
@@ -56,13 +57,18 @@ expect 2 "batch, no number" ./fennqualo batch --jobs many examples/run-r.bin
 expect 0 "check" ./fennqualo check examples/run-r.bin
 expect 1 "check, refused" ./fennqualo check "$work/bad"
 expect 2 "check, no name" ./fennqualo check
+says err 'fennqualo check: no FILE is named'
+expect 0 "check --help" ./fennqualo check --help
+says out 'usage: fennqualo check [--] FILE..'
+expect 0 "trace --help" ./fennqualo trace --help
+says out 'usage: fennqualo trace [--all] [--] FILE'
 expect 0 "trace" ./fennqualo trace examples/run-r.bin
 expect 1 "trace, refused" ./fennqualo trace "$work/bad"
 expect 0 "version" ./fennqualo version
 says out "$(head -n 1 VERSION)"
 ln -s "$root/fennqualo" "$work/fq"
 expect 1 "by a link" "$work/fq" play "$work/none"
-says err 'fq: '
+says err 'fq play: '
 
 # ---- the same lines in several processes
 names=crates/batch/stdin
@@ -189,7 +195,7 @@ expect 0 "installed, play" "$work/installed" play examples/two-sites.bin
 cp "$work/out" "$work/played"
 expect 0 "installed, play from standard input" sh -c "'$work/prefix/bin/fennqualo' play <examples/two-sites.bin"
 expect 1 "installed, play, missing" "$work/prefix/bin/fennqualo" play "$work/none"
-says err 'fennqualo: '
+says err 'fennqualo play: '
 expect 0 "installed, batch" "$work/prefix/bin/fennqualo" batch --jobs 2 examples/run-r.bin examples/two-sites.bin
 expect 0 "installed, check" "$work/prefix/bin/fennqualo" check examples/run-r.bin
 expect 0 "installed, trace" "$work/prefix/bin/fennqualo" trace examples/run-r.bin

@@ -85,7 +85,7 @@ in_jobs() {
             exit 1
         }
     fi
-    run "$programs/batch" --front "$name" --unplayed $zero <"$work/names" 3>"$work/told" >/dev/null || :
+    run "$programs/batch" --front "$name batch" --unplayed $zero <"$work/names" 3>"$work/told" >/dev/null || :
     read -r _ files _ <"$work/told" || {
         say "the names cannot be counted"
         exit 1
@@ -93,7 +93,7 @@ in_jobs() {
     part=$(((files + jobs - 1) / jobs))
     k=0
     while [ $((k * part)) -lt "$files" ]; do
-        run "$programs/batch" --front "$name" $services $zero --slice $((k * part)) "$part" \
+        run "$programs/batch" --front "$name batch" $services $zero --slice $((k * part)) "$part" \
             <"$work/names" >"$work/lines.$k" 3>"$work/told.$k" &
         pids="$pids $!"
         k=$((k + 1))
@@ -123,7 +123,7 @@ gather() {
             unreadable=$((unreadable + u))
         else
             say "a process of the batch died: $size files are not played"
-            run "$programs/batch" --front "$name" --unplayed $zero --slice $((k * part)) "$size" \
+            run "$programs/batch" --front "$name batch" --unplayed $zero --slice $((k * part)) "$size" \
                 <"$work/names" >"$work/lines.$k" 3>/dev/null || :
             unplayed=$((unplayed + size))
             status=1

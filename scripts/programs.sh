@@ -25,7 +25,7 @@ chmod 755 "$work"
 mkdir "$work/got" "$work/desk" && cd "$work/desk" || exit 2
 got=$work/got
 
-# run R of document 01 (one packet, owed), the archive of one site that services once, and a refused one: 23 bytes
+# run R of docs/MODEL.md (one packet, owed), the archive of one site that services once, and a refused one: 23 bytes
 printf '\0\030\001\001\003\001\0\0\0\001\0\002\001\377\377\377\377\0\0\0\0\0\0\001' >r.bin
 cp "$root/corpus/hand-one-site.bin" one.bin
 printf '\0\030\001\001\003\001\0\0\0\001\0\002\001\377\377\377\377\0\0\0\0\0\0' >short.bin
@@ -67,10 +67,11 @@ expect() {
     same "$1" numbers "$4"
 }
 
-usage_play='usage: play [--] [FILE]
+# behind `usage: NAME`
+usage_play=' [--] [FILE]
 Plays the archive in FILE, or on standard input: a line `draw packet site` for each
 service, then `accepted A pairs P serviced V owed O`; or only `refused N`.'
-usage_batch='usage: batch [--services] [-0] [--slice A B] [--unplayed] [--] [NAME..]
+usage_batch=' [--services] [-0] [--slice A B] [--unplayed] [--] [NAME..]
 Plays the archives of these names, or of those on standard input, one to a line.
   --services   prints the services of each too, before its line
   -0           a name on standard input ends with a 0, not with its line
@@ -93,22 +94,22 @@ expect 'play, no file' '' 'desk: none.bin cannot be read: there is no such file'
 call "$play" none.bin
 expect 'play, no file, without the front' '' 'play: none.bin cannot be read: there is no such file' ''
 call "$play" --front desk --help
-expect 'play --help' "$usage_play" '' '0'
+expect 'play --help' "usage: desk$usage_play" '' '0'
 call "$play" --front desk --quick r.bin
 expect 'play, unknown option' '' "desk: there is no option --quick
-$usage_play" '2'
+usage: desk$usage_play" '2'
 call "$play" --front desk r.bin one.bin
 expect 'play, two files' '' "desk: play takes one file
-$usage_play" '2'
+usage: desk$usage_play" '2'
 call "$play" --front
 expect 'play --front alone' '' "play: --front wants a name
-$usage_play" '2'
+usage: play$usage_play" '2'
 cp r.bin ./-r.bin
 call "$play" --front desk -- -r.bin
 expect 'play, a leading dash' "$r_line" '' '0'
 call "$play" --front desk -r.bin
 expect 'play, a leading dash without --' '' "desk: there is no option -r.bin
-$usage_play" '2'
+usage: desk$usage_play" '2'
 cp r.bin -- -
 call "$play" --front desk -
 expect 'play, a file called -' "$r_line" '' '0'
@@ -130,13 +131,13 @@ none.bin: cannot be read
 r.bin: $r_line
 files 3 played 1 refused 1 unreadable 1" 'desk: none.bin cannot be read: there is no such file' '1 3 1 1 1'
 call "$batch" --front desk --help
-expect 'batch --help' "$usage_batch" '' '0 0 0 0 0'
+expect 'batch --help' "usage: desk$usage_batch" '' '0 0 0 0 0'
 call "$batch" --front desk r.bin --all
 expect 'batch, unknown option' '' "desk: there is no option --all
-$usage_batch" '2 0 0 0 0'
+usage: desk$usage_batch" '2 0 0 0 0'
 call "$batch" -1 r.bin
 expect 'batch, unknown short option' '' "batch: there is no option -1
-$usage_batch" ''
+usage: batch$usage_batch" ''
 call "$batch" --front desk -- --services -r.bin r.bin
 expect 'batch --' "--services: cannot be read
 -r.bin: $r_line
@@ -144,13 +145,13 @@ r.bin: $r_line
 files 3 played 2 refused 0 unreadable 1" 'desk: --services cannot be read: there is no such file' '1 3 2 0 1'
 call "$batch" --front desk --slice 1
 expect 'batch, half a slice' '' "desk: --slice wants two numbers
-$usage_batch" '2 0 0 0 0'
+usage: desk$usage_batch" '2 0 0 0 0'
 call "$batch" --front desk --slice 1 x1
 expect 'batch, a slice of no number' '' "desk: --slice wants two numbers
-$usage_batch" '2 0 0 0 0'
+usage: desk$usage_batch" '2 0 0 0 0'
 call "$batch" --front desk --slice 1 2 r.bin
 expect 'batch, a slice of arguments' '' "desk: --slice takes its names from standard input
-$usage_batch" '2 0 0 0 0'
+usage: desk$usage_batch" '2 0 0 0 0'
 call "$batch" --front desk --unplayed r.bin none.bin
 expect 'batch --unplayed' "r.bin: not played
 none.bin: not played

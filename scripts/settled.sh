@@ -14,14 +14,16 @@ cd "$(dirname "$0")/.."
 unseen="settled timing"
 
 # Libraries without a function, types, definitions and theorems alone; they are looked at all the same.
-bare="model theorems layout format lines"
+bare="model theorems layout format lines calls"
 
 # Functions without a theorem: what is read and written lies outside the machine in which a contract is stated. In
-# `front` that is all of them: the program's arguments, messages, files and the line of numbers.
-exceptions="report::read_seen report::print_services report::print_line"
+# `front` that is all of them: the program's arguments, messages, files and the line of numbers; and the patterns that
+# `inspect`, `trace` and `batch` fill, whose words are tested, not proved.
+exceptions="report::read_seen report::print_services report::print_line report::print_refusal"
 exceptions="$exceptions front::begin front::no_words front::word_at front::take_word front::words_of front::tell"
-exceptions="$exceptions front::say front::too_long front::print front::no_output"
-exceptions="$exceptions front::read_file front::read_input front::no_input"
+exceptions="$exceptions front::tell_status front::say front::too_long front::print front::no_output"
+exceptions="$exceptions front::print_usage front::helped front::fill front::add_word"
+exceptions="$exceptions front::read_file front::read_argument front::read_input front::no_input"
 
 fail() {
     echo "settled: $1" >&2

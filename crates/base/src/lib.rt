@@ -1,7 +1,7 @@
-// The sizes, each once, and a byte made wider. specs/Sizes.antt has the same numbers; the rest of specs/ holds the
+// The sizes, each once, a byte made wider, and a number less one. specs/Sizes.antt has the same numbers; the rest of specs/ holds the
 // definitions and laws that every crate shares.
 ghost use mathlib.Core.Path.{_≡_};
-ghost use Prim.Native.Nat.{_<_};
+ghost use Prim.Native.Nat.{_<_, _-_};
 
 // Sites of a network at most.
 pub const SITES: usize = 16;
@@ -29,4 +29,11 @@ pub fn wide(x: u8) -> usize
     ensures { λ r. ⌜ (r ≡ x) × (r < 256) ⌝ }
 {
     x as usize
+}
+
+// One less, and 0 of 0.
+pub fn one_less(n: usize) -> usize
+    ensures { λ r. ⌜ r ≡ n - 1 ⌝ }
+{
+    if n == 0 { 0 } else { n - 1 }
 }

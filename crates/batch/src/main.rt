@@ -7,6 +7,7 @@ mod names;
 mod one;
 
 use asked::Asked;
+use front::VALUES;
 use libc::STDERR_FILENO;
 use libc::STDOUT_FILENO;
 use one::Totals;
@@ -31,15 +32,11 @@ fn answer(who: &[u8], first: usize) -> Outcome {
     let asked = asked::asked_of(who, first);
     let words = asked.words;
     if words.wrong {
-        print_usage(STDERR_FILENO);
+        print_usage(STDERR_FILENO, who);
         return without_files(front::WRONG);
     }
     if words.help {
-        if print_usage(STDOUT_FILENO) {
-            return without_files(front::DONE);
-        }
-        front::no_output(who);
-        return without_files(front::FAILED);
+        return without_files(front::helped(who, print_usage(STDOUT_FILENO, who)));
     }
     if words.names > 0 {
         return ended(who, asked, names::from_arguments(who, first, asked));
@@ -72,15 +69,17 @@ fn with_files(totals: Totals, lost: bool) -> Outcome {
     }
 }
 
-fn print_usage(fd: i32) -> bool {
-    let first = io::write_all(
+fn print_usage(fd: i32, who: &[u8]) -> bool {
+    let begun = front::print_usage(
         fd,
-        b"usage: batch [--services] [-0] [--slice A B] [--unplayed] [--] [NAME..]\n",
-    );
-    let second = io::write_all(
-        fd,
+        who,
+        b" [--services] [-0] [--slice A B] [--unplayed] [--] [NAME..]\n",
         b"Plays the archives of these names, or of those on standard input, one to a line.\n",
     );
+    begun && print_options(fd)
+}
+
+fn print_options(fd: i32) -> bool {
     let services = io::write_all(
         fd,
         b"  --services   prints the services of each too, before its line\n",
@@ -97,33 +96,38 @@ fn print_usage(fd: i32) -> bool {
         fd,
         b"  --unplayed   opens nothing, and says `not played` of each name\n",
     );
-    first & second & services & zero & slice & unplayed
+    services & zero & slice & unplayed
 }
 
 fn print_totals(who: &[u8], totals: Totals) -> bool {
     let mut line = [0u8; 128];
-    let files = add_total(&mut line, 0, b"files ", totals.files);
-    let played = add_total(&mut line, files, b" played ", totals.played);
-    let refused = add_total(&mut line, played, b" refused ", totals.refused);
-    let unreadable = add_total(&mut line, refused, b" unreadable ", totals.unreadable);
-    let end = report::add_bytes(&mut line, unreadable, b"\n");
+    let n = front::fill(
+        &mut line,
+        0,
+        b"files % played % refused % unreadable %",
+        numbers_of(totals),
+    );
+    let end = report::add_bytes(&mut line, n, b"\n");
     front::print(who, &line[..end])
 }
 
-fn add_total(line: &mut [u8], at: usize, label: &[u8], n: u64) -> usize {
-    let labelled = report::add_bytes(line, at, label);
-    report::add_number(line, labelled, n)
+// The files, and those that were played, refused and unreadable.
+fn numbers_of(totals: Totals) -> [usize; VALUES] {
+    [
+        totals.files as usize,
+        totals.played as usize,
+        totals.refused as usize,
+        totals.unreadable as usize,
+        0,
+        0,
+    ]
 }
 
 // The line of numbers: `STATUS FILES PLAYED REFUSED UNREADABLE`.
 fn tell(fronted: bool, outcome: Outcome) {
-    let totals = outcome.totals;
     let mut line = [0u8; 128];
     let status = report::add_number(&mut line, 0, outcome.status);
-    let files = add_total(&mut line, status, b" ", totals.files);
-    let played = add_total(&mut line, files, b" ", totals.played);
-    let refused = add_total(&mut line, played, b" ", totals.refused);
-    let unreadable = add_total(&mut line, refused, b" ", totals.unreadable);
-    let end = report::add_bytes(&mut line, unreadable, b"\n");
+    let n = front::fill(&mut line, status, b" % % % %", numbers_of(outcome.totals));
+    let end = report::add_bytes(&mut line, n, b"\n");
     front::tell(fronted, &line[..end]);
 }

@@ -15,7 +15,7 @@ use Rattle.format.specs.Refusals.{readRefusal, decode, writeRefusal, writeAnswe
 use Rattle.archive.proofs.Parts.{length-encode}
 use Rattle.archive.proofs.RoundTripBytes.{write-read}
 use Rattle.machine.proofs.PlayerAnswers.{read-refusal, read-run, read-count, read-stored}
-use Rattle.exports.specs.Calls.{copyRefusal, copyAfter}
+use Rattle.calls.specs.Calls.{copyRefusal, copyAfter}
 
 -- the writer's answer, taken apart
 write-refusal : (r : Run) (room : ℕ) → writeAnswer r room .refusal ≡ writeRefusal r room

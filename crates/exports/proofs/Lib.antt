@@ -1,4 +1,3 @@
--- Computed examples, and the ways of each call. That each call settles its outcome stands in crate settled.
-pub mod Examples
+-- The ways of each call. That each call settles its outcome stands in crate settled.
 pub mod PlayWays
 pub mod CopyWays

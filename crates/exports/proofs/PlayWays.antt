@@ -14,7 +14,7 @@ use Rattle.format.specs.Refusals.{readRefusal}
 use Rattle.machine.specs.declared.player.PlayAnswer.{PlayAnswer}
 use Rattle.machine.specs.Play.{playRefusal, playAnswer, playBook, noCounts}
 use Rattle.base.specs.Answers.{atFront}
-use Rattle.exports.specs.Calls.{countPlaces, fourCounts, callRefusal, bookAfter, countsAfter}
+use Rattle.calls.specs.Calls.{countPlaces, fourCounts, callRefusal, bookAfter, countsAfter}
 
 -- four stores, one after the other
 pub four-stored : (x y z w : ℕ) (out : List ℕ) → countPlaces ≤ length out

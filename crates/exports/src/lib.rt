@@ -1,6 +1,6 @@
 // The functions that C and Rust call: an archive played, checked, copied. Each is thin over a proved function, takes
 // slices of any length and any bytes, and answers 0 or the number of document 01's refusal; a refusal leaves every lent
-// element as it was. specs/Calls.antt says what they answer, include/fennqualo.h tells it to C.
+// element as it was. calls/specs/Calls.antt says what they answer, include/fennqualo.h tells it to C.
 // What no proof can see: a caller in C hands over slices that are there, that do not overlap, and that nobody else
 // changes during the call.
 ghost use mathlib.Core.Path.{_≡_};
@@ -8,12 +8,9 @@ ghost use Prim.Native.Nat.{_≤_};
 ghost use lib.ListN.{length};
 ghost use Rattle.format.specs.Refusals.{readRefusal};
 ghost use Rattle.base.specs.Answers.{atFront};
-ghost use Rattle.exports.specs.Calls.{countPlaces, fourCounts};
-ghost use Rattle.exports.specs.Calls.{callRefusal, bookAfter, countsAfter, copyRefusal, copyAfter};
+ghost use Rattle.calls.specs.Calls.{countPlaces, fourCounts};
+ghost use Rattle.calls.specs.Calls.{callRefusal, bookAfter, countsAfter, copyRefusal, copyAfter};
 use types::Counts;
-
-// The places of a slice that the counts of a run take.
-const COUNTS: usize = 4;
 
 // The counts at the front of a lent slice.
 fn put_counts(counts: Counts, out: &mut [u64])
@@ -44,7 +41,7 @@ pub extern "C" fn fennqualo_play(bytes: &[u8], book: &mut [u8], counts: &mut [u6
         × (now (counts .exit) ≡ countsAfter (now (bytes .entry)) (length (now (book .entry))) (now (counts .entry)))
         ⌝ }
 {
-    if counts.len() < COUNTS {
+    if counts.len() < calls::COUNTS {
         let refusal = archive::check(bytes);
         if refusal != 0 {
             return refusal;

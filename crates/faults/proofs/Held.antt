@@ -18,7 +18,7 @@ use Rattle.model.specs.Network.{channelByte, channelOk, portOk, routeOf, listOk
 use Rattle.model.specs.Runs.{noSends}
 use Rattle.archive.specs.Code.{Head}
 use Rattle.format.specs.Format.{at, word, sitesPlace, countPlace, headLength, routesPlace, sendsPlace, sendOf, networkOf, runOf}
-use Rattle.faults.specs.Faults.{numberedOk, itemCount}
+use Rattle.format.specs.Faults.{numberedOk, itemCount}
 
 module _ (b : List ℕ) (h : Head b) where
   -- ---- channels

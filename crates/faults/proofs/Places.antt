@@ -15,9 +15,9 @@ use Rattle.format.specs.Format.{at, sitesPlace, versionPlace, countPlace, versi
 use Rattle.format.specs.Refusals.{lengthOk, sizeOk, headThen, readRefusal}
 use Rattle.archive.specs.Code.{Head}
 use Rattle.archive.proofs.Passed.{head-passes, head-then}
-use Rattle.faults.specs.declared.Fault.{Fault}
-use Rattle.faults.specs.First.{first, left-at, left-none}
-use Rattle.faults.specs.Faults.{itemCount, itemOk, placeOf, faultOf}
+use Rattle.format.specs.declared.Fault.{Fault}
+use Rattle.format.specs.First.{first, left-at, left-none}
+use Rattle.format.specs.Faults.{itemCount, itemOk, placeOf, faultOf}
 
 -- ---- refusals above 5
 

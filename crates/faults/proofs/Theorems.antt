@@ -17,8 +17,8 @@ use Rattle.model.specs.Runs.{sendOk, sendsOk, bodyRefusal}
 use Rattle.format.specs.Format.{networkOf, runOf}
 use Rattle.format.specs.Refusals.{headThen, readRefusal}
 use Rattle.archive.proofs.Answers.{read-body}
-use Rattle.faults.specs.First.{first, Fails, fails-at, fails-is}
-use Rattle.faults.specs.Faults.{numberedOk, itemCount, itemOk, placeOf, faultOf}
+use Rattle.format.specs.First.{first, Fails, fails-at, fails-is}
+use Rattle.format.specs.Faults.{numberedOk, itemCount, itemOk, placeOf, faultOf}
 use Rattle.faults.proofs.Numbers.{row-below, rest-below}
 use Rattle.faults.proofs.Places.{behind-head, place-none, told, asked}
 

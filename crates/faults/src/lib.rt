@@ -1,18 +1,13 @@
 // Where an archive is at fault: the number that the reader gives, and for 6, 7 and 8 the first channel, route or send
-// at fault. specs/Faults.antt says what that is, by the model's own tests; proofs/Theorems.antt that it is found there
-// and nowhere else. All is read from the lent bytes; the public function takes any slice, of any length.
+// at fault. format/specs/Faults.antt says what that is, by the model's own tests; proofs/Theorems.antt that it is found
+// there and nowhere else. All is read from the lent bytes; the public function takes any slice, of any length.
 ghost use mathlib.Core.Path.{_≡_};
-ghost use Rattle.faults.specs.Faults.{faultOf};
+ghost use Rattle.format.specs.Faults.{faultOf};
 
 mod search;
 mod tests;
 
-// What the reader answers, and the number of the first channel (4 x site + port - 1), route (from-site x S + to-site)
-// or send at fault; 0 where nothing is wrong or the head is.
-pub struct Fault {
-    pub refusal: u8,
-    pub place: usize,
-}
+pub use format::Fault;
 
 // The reader's refusal of these bytes, and its place.
 pub fn find(bytes: &[u8]) -> Fault

@@ -4,7 +4,7 @@ ghost use mathlib.Core.Path.{_≡_};
 ghost use Prim.Native.Nat.{_<_};
 ghost use Rattle.archive.specs.Code.{Head};
 ghost use Rattle.format.specs.Format.{at, sitesPlace, countPlace, runOf};
-ghost use Rattle.faults.specs.Faults.{itemCount, itemOk, placeOf};
+ghost use Rattle.format.specs.Faults.{itemCount, itemOk, placeOf};
 use crate::tests::channel_ok;
 use crate::tests::route_ok;
 use crate::tests::send_ok;

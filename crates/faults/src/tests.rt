@@ -11,7 +11,7 @@ ghost use Rattle.model.specs.Network.{channelOk, portOk, listOk, choices};
 ghost use Rattle.model.specs.Runs.{sendOk};
 ghost use Rattle.archive.specs.Code.{Head};
 ghost use Rattle.format.specs.Format.{at, word, sitesPlace, countPlace, headLength, sendsPlace, networkOf, runOf};
-ghost use Rattle.faults.specs.Faults.{numberedOk};
+ghost use Rattle.format.specs.Faults.{numberedOk};
 use types::StoredSend;
 
 // Two bytes, the higher first.
@@ -97,13 +97,6 @@ pub(crate) fn route_ok(b: &[u8], k: usize) -> bool
     ((from == to) & (route == 0)) | ((from != to) & is_list)
 }
 
-// The number before m; 0 before 0.
-fn one_less(m: usize) -> usize
-    ensures { λ r. ⌜ r ≡ m - 1 ⌝ }
-{
-    if m == 0 { 0 } else { m - 1 }
-}
-
 // Where send m begins, five bytes before the end at least.
 fn send_place(b: &[u8], m: usize) -> usize
     requires { ⌜ Head (now b) × (m < at (now b) countPlace) ⌝ }
@@ -136,7 +129,7 @@ pub(crate) fn send_ok(b: &[u8], m: usize) -> bool
 {
     let sites = base::wide(b[3]);
     let draws = word_at(b, 10);
-    let last = send_at(b, one_less(m));
+    let last = send_at(b, base::one_less(m));
     let send = send_at(b, m);
     let past = last.draw;
     let draw = send.draw;

@@ -1,2 +1,3 @@
 -- Computed tables of the definitions.
 pub mod Examples
+pub mod FaultExamples

@@ -4,6 +4,7 @@ ghost use Rattle.io.specs.Counts.{Counts as Front};
 use crate::kind::kind_of;
 use crate::message::NO_FILE;
 use crate::message::say_why;
+use crate::message::too_long;
 use libc::STDIN_FILENO;
 use report::Seen;
 
@@ -46,6 +47,19 @@ pub fn read_file(who: &[u8], name: &[u8], room: &mut [u8]) -> Seen
     }
     libc::close(fd);
     seen
+}
+
+// Reads the file that argument i names in the same way.
+pub fn read_argument(who: &[u8], i: usize, room: &mut [u8]) -> Seen
+    ensures { λ r. ⌜ Front (r .count) (now (room .exit)) ⌝ }
+{
+    let mut name = io::buffer();
+    let n = os::arg(i, &mut name);
+    if os::errno() != 0 {
+        too_long(who);
+        return nothing_seen();
+    }
+    read_file(who, &name[..n], room)
 }
 
 // Reads standard input in the same way.

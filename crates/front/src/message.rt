@@ -1,5 +1,7 @@
 // Messages on standard error: each begins with the program's name, `who`, and a name in it is shown as on standard
-// output, on one line.
+// output, on one line. The usage.
+use crate::words::DONE;
+use crate::words::FAILED;
 use libc::STDERR_FILENO;
 
 // Room for a message: a name of 4,096 bytes at its longest, and the words around it.
@@ -83,4 +85,22 @@ pub fn too_long(who: &[u8]) {
         b"a name of more than 4,095 bytes cannot be read: it is too long",
         b"",
     );
+}
+
+// `usage: WHO`, the words that WHO takes, and behind them what it does, on descriptor fd. Answers whether that was done.
+pub fn print_usage(fd: i32, who: &[u8], words: &[u8], meaning: &[u8]) -> bool {
+    let mut line = [0u8; 256];
+    let usage = report::add_bytes(&mut line, 0, b"usage: ");
+    let named = report::add_bytes(&mut line, usage, who);
+    let end = report::add_bytes(&mut line, named, words);
+    io::write_all(fd, &line[..end]) && io::write_all(fd, meaning)
+}
+
+// The status of a call for help, whose usage could be printed or not.
+pub fn helped(who: &[u8], is_printed: bool) -> u64 {
+    if is_printed {
+        return DONE;
+    }
+    no_output(who);
+    FAILED
 }

@@ -61,6 +61,14 @@ pub fn tell(fronted: bool, line: &[u8]) {
     }
 }
 
+// The line of a status alone.
+pub fn tell_status(fronted: bool, status: u64) {
+    let mut line = [0u8; 32];
+    let number = report::add_number(&mut line, 0, status);
+    let end = report::add_bytes(&mut line, number, b"\n");
+    tell(fronted, &line[..end]);
+}
+
 // The words so far: how many names, which argument the last of them is, whether `--` has come, whether help is asked
 // for, whether the use is wrong. What comes behind a call for help or a wrong word is not looked at.
 pub struct Words {

@@ -1,6 +1,6 @@
 // Words for an archive that is none by its head: refusals 1 to 5; and for one that is one. Each adds to a line.
 use crate::held;
-use crate::text::fill;
+use front::fill;
 
 // Bytes of a file that are seen.
 const SEEN: usize = 65536;
@@ -66,23 +66,26 @@ pub fn add_version(text: &mut [u8], at: usize, b: &[u8]) -> usize {
 pub fn add_limit(text: &mut [u8], at: usize, b: &[u8]) -> usize {
     let sites = held::sites(b);
     if sites < 1 || base::SITES < sites {
-        let numbers = [sites, 0, 0, 0, 0, 0];
         return fill(
             text,
             at,
             b"byte 3, the number of sites, is %, not 1 to 16",
-            numbers,
+            [sites, 0, 0, 0, 0, 0],
         );
     }
+    add_later_limit(text, at, b)
+}
+
+fn add_later_limit(text: &mut [u8], at: usize, b: &[u8]) -> usize {
+    let numbers = [held::depth(b), 0, 0, 0, 0, 0];
     if held::tries(b) < 1 {
         return fill(
             text,
             at,
             b"byte 4, the limit of tries, is 0, not 1 to 255",
-            [0; 6],
+            numbers,
         );
     }
-    let numbers = [held::depth(b), 0, 0, 0, 0, 0];
     fill(
         text,
         at,
@@ -93,7 +96,7 @@ pub fn add_limit(text: &mut [u8], at: usize, b: &[u8]) -> usize {
 
 // 4: the seed.
 pub fn add_seed(text: &mut [u8], at: usize) -> usize {
-    fill(text, at, b"bytes 6 to 9, the seed, are 0", [0; 6])
+    report::add_bytes(text, at, b"bytes 6 to 9, the seed, are 0")
 }
 
 // 5: the length that S and N make.

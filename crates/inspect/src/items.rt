@@ -1,46 +1,51 @@
 // Words for the first channel, route or send at fault: refusals 6 to 8. Each adds to a line.
 use crate::held;
-use crate::text::fill;
+use front::VALUES;
+use front::fill;
 
-// 6: channel m, which leads to no input of the network, or to one that a channel before it feeds.
+// 6: channel m, which leads to an input that a channel before it feeds, or to no input of the network.
 pub fn add_channel(text: &mut [u8], at: usize, b: &[u8], m: usize) -> usize {
-    let sites = held::sites(b);
     let byte = held::channel(b, m);
-    let site = m / base::PORTS;
-    let port = m % base::PORTS + 1;
-    let place = 13 + m % 256;
-    let end = base::PORTS * sites;
+    let numbers = [
+        m / base::PORTS,
+        m % base::PORTS + 1,
+        13 + m % 256,
+        byte,
+        0,
+        0,
+    ];
+    let channel = fill(
+        text,
+        at,
+        b"the channel of site %, port %, byte %, ",
+        numbers,
+    );
+    let end = base::PORTS * held::sites(b);
     if byte < end {
-        let other = first_to(b, byte);
-        let numbers = [
-            site,
-            port,
-            place,
-            byte,
-            other / base::PORTS,
-            other % base::PORTS + 1,
-        ];
-        return fill(
-            text,
-            at,
-            b"the channel of site %, port %, byte %, leads to input %, as site %, port % does",
-            numbers,
-        );
+        return add_fed(text, channel, byte, first_to(b, byte));
     }
-    if end < 5 {
-        return fill(
-            text,
-            at,
-            b"the channel of site %, port %, byte %, is %, and 1 site has inputs 0 to 3",
-            [site, port, place, byte, 0, 0],
-        );
-    }
+    add_beyond(text, channel, byte, end)
+}
+
+// Input `byte`, which the channel `other` feeds.
+fn add_fed(text: &mut [u8], at: usize, byte: usize, other: usize) -> usize {
+    let numbers = [byte, other / base::PORTS, other % base::PORTS + 1, 0, 0, 0];
     fill(
         text,
         at,
-        b"the channel of site %, port %, byte %, is %, and % sites have inputs 0 to %",
-        [site, port, place, byte, sites, end - 1],
+        b"leads to input %, as site %, port % does",
+        numbers,
     )
+}
+
+// No input: there are those below `end`.
+fn add_beyond(text: &mut [u8], at: usize, byte: usize, end: usize) -> usize {
+    let sites = end / base::PORTS;
+    let numbers = [byte, sites, base::one_less(end), 0, 0, 0];
+    if sites < 2 {
+        return fill(text, at, b"is %, and 1 site has inputs 0 to 3", numbers);
+    }
+    fill(text, at, b"is %, and % sites have inputs 0 to %", numbers)
 }
 
 // The first channel with this byte.
@@ -84,13 +89,18 @@ pub fn add_route(text: &mut [u8], at: usize, b: &[u8], k: usize) -> usize {
 // port has no channel; a 0 stands left of a port.
 fn add_list(text: &mut [u8], at: usize, b: &[u8], from: usize, route: usize) -> usize {
     if route == 0 {
-        return fill(text, at, b"lists no port", [0; 6]);
+        return report::add_bytes(text, at, b"lists no port");
     }
     let stray = first_stray(route);
     if stray < 4 {
         let numbers = [digit(route, stray), 0, 0, 0, 0, 0];
         return fill(text, at, b"names port %, and ports are 1 to 4", numbers);
     }
+    add_ports(text, at, b, from, route)
+}
+
+// The same for a list of ports alone.
+fn add_ports(text: &mut [u8], at: usize, b: &[u8], from: usize, route: usize) -> usize {
     let again = first_again(route);
     if again < 4 {
         let numbers = [digit(route, again), 0, 0, 0, 0, 0];
@@ -101,12 +111,8 @@ fn add_list(text: &mut [u8], at: usize, b: &[u8], from: usize, route: usize) -> 
         let numbers = [digit(route, loose), 0, 0, 0, 0, 0];
         return fill(text, at, b"names port %, which has no channel", numbers);
     }
-    fill(
-        text,
-        at,
-        b"is #, with a 0 left of a port",
-        [route, 0, 0, 0, 0, 0],
-    )
+    let numbers = [route, 0, 0, 0, 0, 0];
+    fill(text, at, b"is #, with a 0 left of a port", numbers)
 }
 
 // Digit i of the four, from the left.
@@ -186,45 +192,43 @@ pub fn add_send(text: &mut [u8], at: usize, b: &[u8], m: usize) -> usize {
     let sites = held::sites(b);
     let place = held::send_place(b, m);
     let site = held::byte_at(b, place + 2);
-    let set = held::word_at(b, place + 3);
     if sites <= site {
-        let from = fill(
-            text,
-            at,
-            b"send %, byte %, is from site %",
-            [m, place + 2, site, 0, 0, 0],
-        );
+        let numbers = [m, place + 2, site, 0, 0, 0];
+        let from = fill(text, at, b"send %, byte %, is from site %", numbers);
         return add_sites(text, from, sites);
     }
-    let numbers = [m, place + 3, place + 4, 0, 0, 0];
-    if set == 0 {
-        return fill(
-            text,
-            at,
-            b"send %, bytes % and %, has an empty set",
-            numbers,
-        );
-    }
+    let set = held::word_at(b, place + 3);
     let beyond = first_beyond(set, sites);
-    if beyond < 16 {
+    if set == 0 || beyond < 16 {
         let numbers = [m, place + 3, place + 4, beyond, 0, 0];
-        let to = fill(text, at, b"send %, bytes % and %, goes to site %", numbers);
-        return add_sites(text, to, sites);
+        return add_targets(text, at, set, sites, numbers);
     }
     add_draw(text, at, b, m)
+}
+
+// A set that is empty, or has a site that is none.
+fn add_targets(
+    text: &mut [u8],
+    at: usize,
+    set: usize,
+    sites: usize,
+    numbers: [usize; VALUES],
+) -> usize {
+    let has = fill(text, at, b"send %, bytes % and %, ", numbers);
+    if set == 0 {
+        return report::add_bytes(text, has, b"has an empty set");
+    }
+    let to = fill(text, has, b"goes to site %", [numbers[3], 0, 0, 0, 0, 0]);
+    add_sites(text, to, sites)
 }
 
 // The sites that there are.
 fn add_sites(text: &mut [u8], at: usize, sites: usize) -> usize {
     if sites < 2 {
-        return fill(text, at, b", and there is site 0 alone", [0; 6]);
+        return report::add_bytes(text, at, b", and there is site 0 alone");
     }
-    fill(
-        text,
-        at,
-        b", and there are sites 0 to %",
-        [sites - 1, 0, 0, 0, 0, 0],
-    )
+    let numbers = [base::one_less(sites), 0, 0, 0, 0, 0];
+    fill(text, at, b", and there are sites 0 to %", numbers)
 }
 
 // The first site of the set, of 16, from S on; 16 if there is none.
@@ -252,7 +256,7 @@ fn add_draw(text: &mut [u8], at: usize, b: &[u8], m: usize) -> usize {
     if draws < draw {
         return add_draws(text, has, draws);
     }
-    let last = held::word_at(b, held::send_place(b, one_less(m)));
+    let last = held::word_at(b, held::send_place(b, base::one_less(m)));
     fill(
         text,
         has,
@@ -263,11 +267,7 @@ fn add_draw(text: &mut [u8], at: usize, b: &[u8], m: usize) -> usize {
 
 fn add_draws(text: &mut [u8], at: usize, draws: usize) -> usize {
     if draws == 1 {
-        return fill(text, at, b"and there is 1 draw", [0; 6]);
+        return report::add_bytes(text, at, b"and there is 1 draw");
     }
     fill(text, at, b"and there are % draws", [draws, 0, 0, 0, 0, 0])
-}
-
-fn one_less(m: usize) -> usize {
-    if m == 0 { 0 } else { m - 1 }
 }

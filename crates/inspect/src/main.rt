@@ -4,11 +4,10 @@
 mod heads;
 mod held;
 mod items;
-mod text;
 
+use front::Words;
 use libc::STDERR_FILENO;
 use libc::STDOUT_FILENO;
-use text::fill;
 
 // The longest argument that Linux passes, with the 0 that ends it.
 const ARGUMENT: usize = 131072;
@@ -20,43 +19,46 @@ fn main() {
     let called = front::begin(b"inspect", &mut name);
     let n = called.count;
     let status = answer(&name[..n], called.first);
-    let mut line = [0u8; 32];
-    let end = report::add_number(&mut line, 0, status);
-    let whole = report::add_bytes(&mut line, end, b"\n");
-    front::tell(called.fronted, &line[..whole]);
+    front::tell_status(called.fronted, status);
 }
 
 // What is asked from argument `first` on. Answers the status.
 fn answer(who: &[u8], first: usize) -> u64 {
     let words = front::words_of(who, first);
     if words.help {
-        if print_usage(STDOUT_FILENO) {
-            return front::DONE;
-        }
-        front::no_output(who);
-        return front::FAILED;
+        return front::helped(who, print_usage(STDOUT_FILENO, who));
     }
-    if words.wrong {
-        print_usage(STDERR_FILENO);
+    if is_wrong(who, words) {
+        print_usage(STDERR_FILENO, who);
         return front::WRONG;
+    }
+    inspect_words(who, first)
+}
+
+fn is_wrong(who: &[u8], words: Words) -> bool {
+    if words.wrong {
+        return true;
     }
     if words.names == 0 {
         front::say(who, b"no FILE is named", b"");
-        print_usage(STDERR_FILENO);
-        return front::WRONG;
+        return true;
     }
+    false
+}
+
+fn print_usage(fd: i32, who: &[u8]) -> bool {
+    front::print_usage(
+        fd,
+        who,
+        b" [--] FILE..\n",
+        b"Says of each FILE whether it is an archive; if it is not, what is wrong and where.\n",
+    )
+}
+
+fn inspect_words(who: &[u8], first: usize) -> u64 {
     let mut name = [0u8; ARGUMENT];
     let mut line = [0u8; LINE];
     inspect_all(who, first, &mut name, &mut line)
-}
-
-fn print_usage(fd: i32) -> bool {
-    let first = io::write_all(fd, b"usage: inspect [--] FILE..\n");
-    let second = io::write_all(
-        fd,
-        b"Says of each FILE whether it is an archive; if it is not, what is wrong and where.\n",
-    );
-    first & second
 }
 
 // The files that the words name, from argument `first` on. The only option among them is the first `--`.
@@ -98,12 +100,8 @@ fn judge(who: &[u8], line: &mut [u8], at: usize, b: &[u8]) -> u64 {
         let good = heads::add_good(line, at, b);
         return printed(who, line, good, front::DONE);
     }
-    let number = fill(
-        line,
-        at,
-        b"refused %: ",
-        [base::wide(refusal), 0, 0, 0, 0, 0],
-    );
+    let numbers = [base::wide(refusal), 0, 0, 0, 0, 0];
+    let number = front::fill(line, at, b"refused %: ", numbers);
     let told = add_fault(line, number, b, refusal, fault.place);
     printed(who, line, told, front::FAILED)
 }
@@ -111,14 +109,20 @@ fn judge(who: &[u8], line: &mut [u8], at: usize, b: &[u8]) -> u64 {
 // In words what is wrong with these bytes, and where.
 fn add_fault(line: &mut [u8], at: usize, b: &[u8], refusal: u8, place: usize) -> usize {
     match refusal {
+        6 => items::add_channel(line, at, b, place),
+        7 => items::add_route(line, at, b, place),
+        8 => items::add_send(line, at, b, place),
+        _ => add_head_fault(line, at, b, refusal),
+    }
+}
+
+fn add_head_fault(line: &mut [u8], at: usize, b: &[u8], refusal: u8) -> usize {
+    match refusal {
         1 => heads::add_short(line, at, b),
         2 => heads::add_version(line, at, b),
         3 => heads::add_limit(line, at, b),
         4 => heads::add_seed(line, at),
-        5 => heads::add_size(line, at, b),
-        6 => items::add_channel(line, at, b, place),
-        7 => items::add_route(line, at, b, place),
-        _ => items::add_send(line, at, b, place),
+        _ => heads::add_size(line, at, b),
     }
 }
 

@@ -4,7 +4,6 @@ pub mod Chained
 pub mod Chains
 pub mod Decoded
 pub mod Empty
-pub mod EventExamples
 pub mod Examples
 pub mod Fitting
 pub mod Packing

@@ -87,7 +87,6 @@ refusals =
     -- none: "1 to 16" sites, "1 to 255" tries, depth "1 to 8"; routes of one to four ports; a channel to the own site
     ((one, noState, Send 0 1), 0)
     ∷ ((ring 16, noState, Send 15 65535), 0)
-    ∷ ((ring 16, noState, Run 15 12), 0)
     ∷ ((on four 4096, noState, Send 0 3), 0)
     ∷ ((on four 4660, noState, Run 1 0), 0)
     ∷ ((on less 4608, noState, Send 1 2), 0)

@@ -1,7 +1,6 @@
 // `play [--front NAME] [--help] [--] [FILE]`: plays the archive in FILE, or on standard input, of which it sees up to
 // 65,536 bytes: prints each service as `draw packet site`, then the counts; of a refused archive only `refused N`. What
 // cannot be read or written is told on standard error. Assumes nothing of the file.
-ghost use mathlib.Core.Path.{_≡_};
 ghost use Rattle.io.specs.Counts.{Counts as Front};
 use front::Words;
 use libc::STDERR_FILENO;
@@ -13,24 +12,17 @@ fn main() {
     let called = front::begin(b"play", &mut name);
     let n = called.count;
     let status = answer(&name[..n], called.first);
-    let mut line = [0u8; 32];
-    let end = report::add_number(&mut line, 0, status);
-    let whole = report::add_bytes(&mut line, end, b"\n");
-    front::tell(called.fronted, &line[..whole]);
+    front::tell_status(called.fronted, status);
 }
 
 // What is asked from argument `first` on. Answers the status.
 fn answer(who: &[u8], first: usize) -> u64 {
     let words = front::words_of(who, first);
     if words.help {
-        if print_usage(STDOUT_FILENO) {
-            return front::DONE;
-        }
-        front::no_output(who);
-        return front::FAILED;
+        return front::helped(who, print_usage(STDOUT_FILENO, who));
     }
     if is_wrong(who, words) {
-        print_usage(STDERR_FILENO);
+        print_usage(STDERR_FILENO, who);
         return front::WRONG;
     }
     play(who, words)
@@ -47,17 +39,18 @@ fn is_wrong(who: &[u8], words: Words) -> bool {
     false
 }
 
-fn print_usage(fd: i32) -> bool {
-    let first = io::write_all(fd, b"usage: play [--] [FILE]\n");
-    let second = io::write_all(
+fn print_usage(fd: i32, who: &[u8]) -> bool {
+    let begun = front::print_usage(
         fd,
+        who,
+        b" [--] [FILE]\n",
         b"Plays the archive in FILE, or on standard input: a line `draw packet site` for each\n",
     );
-    let third = io::write_all(
-        fd,
-        b"service, then `accepted A pairs P serviced V owed O`; or only `refused N`.\n",
-    );
-    first & second & third
+    begun
+        && io::write_all(
+            fd,
+            b"service, then `accepted A pairs P serviced V owed O`; or only `refused N`.\n",
+        )
 }
 
 fn play(who: &[u8], words: Words) -> u64 {
@@ -92,20 +85,5 @@ fn read_archive(who: &[u8], words: Words, bytes: &mut [u8]) -> Seen
     if words.names == 0 {
         return front::read_input(who, bytes);
     }
-    let mut name = io::buffer();
-    let n = os::arg(words.last, &mut name);
-    if os::errno() != 0 {
-        front::too_long(who);
-        return nothing_seen();
-    }
-    front::read_file(who, &name[..n], bytes)
-}
-
-fn nothing_seen() -> Seen
-    ensures { λ r. ⌜ r .count ≡ 0 ⌝ }
-{
-    Seen {
-        failed: true,
-        count: 0,
-    }
+    front::read_argument(who, words.last, bytes)
 }

@@ -129,3 +129,14 @@ pub fn print_line(refusal: u8, counts: Counts) -> bool {
     let n = answer_line(refusal, counts, &mut text);
     io::write_all(STDOUT_FILENO, &text[..n])
 }
+
+// Prints the line of a refusal.
+pub fn print_refusal(refusal: u8) -> bool {
+    let counts = Counts {
+        accepted: 0,
+        pairs: 0,
+        serviced: 0,
+        owed: 0,
+    };
+    print_line(refusal, counts)
+}

@@ -1,7 +1,6 @@
 // One file: read, written back, compared, and told in one line. The totals go in by value and come back.
 use libc::STDOUT_FILENO;
 use std::num::wrapping_add_u64;
-use types::Counts;
 use types::Run;
 
 // The bytes of the longest archive.
@@ -30,16 +29,6 @@ pub fn no_files() -> Totals {
     }
 }
 
-// The counts beside a refusal.
-fn no_counts() -> Counts {
-    Counts {
-        accepted: 0,
-        pairs: 0,
-        serviced: 0,
-        owed: 0,
-    }
-}
-
 // Reads the file of this name and judges its bytes.
 pub fn rewrite_file(name: &[u8], totals: Totals) -> Totals {
     let fd = os::open_read(name);
@@ -61,7 +50,7 @@ fn judge(name: &[u8], bytes: &[u8], totals: Totals) -> Totals {
     let refusal = decoded.refusal;
     if refusal != 0 {
         let is_named = print_line(name, b": ");
-        let is_printed = report::print_line(refusal, no_counts());
+        let is_printed = report::print_refusal(refusal);
         let mut now = counted(totals, is_named && is_printed);
         now.refused = wrapping_add_u64(totals.refused, 1);
         return now;

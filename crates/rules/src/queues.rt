@@ -15,13 +15,6 @@ use types::OutEntry;
 use types::OutQueue;
 use types::Terminator;
 
-// The number below n; 0 for 0.
-fn one_less(n: usize) -> usize
-    ensures { λ r. ⌜ r ≡ n - 1 ⌝ }
-{
-    if n == 0 { 0 } else { n - 1 }
-}
-
 // The entries with an entry in place m.
 fn stored_out(
     entries: [OutEntry; base::QUEUE],
@@ -111,7 +104,7 @@ pub(crate) fn pop_out(queue: OutQueue) -> OutQueue
     let all = queue.entries;
     OutQueue {
         entries: shift_out(all),
-        count: one_less(n),
+        count: base::one_less(n),
     }
 }
 
@@ -122,7 +115,7 @@ pub(crate) fn pop_in(queue: InQueue) -> InQueue
     let all = queue.entries;
     InQueue {
         entries: shift_in(all),
-        count: one_less(n),
+        count: base::one_less(n),
     }
 }
 
@@ -160,7 +153,7 @@ fn last_of(queue: InQueue) -> InEntry
 {
     let n = queue.count;
     let all = queue.entries;
-    let m = one_less(n);
+    let m = base::one_less(n);
     entry_at(all, m)
 }
 
@@ -181,7 +174,7 @@ pub(crate) fn end_last(queue: InQueue, terminator: Terminator) -> InQueue
     let n = queue.count;
     let all = queue.entries;
     let last = last_of(queue);
-    let m = one_less(n);
+    let m = base::one_less(n);
     let entry = InEntry {
         set: last.set,
         terminator,

@@ -4,7 +4,11 @@ use mathlib.Core.Path.{refl}
 use Rattle.settled.specs.Outcomes.{Settles}
 use Rattle.settled.proofs.Shown.{settled, same}
 use Rattle.base.proofs.wide as the-wide
+use Rattle.base.proofs.one_less as the-one-less
 
 -- the contract says besides that the number is below 256
 pub wide-settled : Settles the-wide.ended (λ M. the-wide.clauses) (λ M. the-wide.spec)
 wide-settled = settled (λ κs a x y p q. refl) (λ κs a x y p q i. (same (p .0) (q .0) i, x .1))
+
+pub one-less-settled : Settles the-one-less.ended (λ M. the-one-less.clauses) (λ M. the-one-less.spec)
+one-less-settled = settled (λ κs a x y p q. refl) (λ κs a x y p q i. (same p q i, x .1))

@@ -153,6 +153,20 @@ fn put_state(state: State) {
     }
 }
 
+fn replay_run(network: Network, state: State, site: u64, code: u64) {
+    let ran = machine::run(network, state, site as usize, code as usize);
+    let answer = ran.answer;
+    put_ran(answer);
+    put_state(ran.state);
+}
+
+fn replay_send(network: Network, state: State, site: u64, set: u64) {
+    let sent = machine::send(network, state, site as usize, set);
+    let answer = sent.answer;
+    put_sent(answer);
+    put_state(sent.state);
+}
+
 // One case: 1 is RUN, anything else SEND.
 fn replay(piece: &mut [u8; PIECE], from: Cursor) -> Cursor {
     let net = read_network(piece, from);
@@ -163,15 +177,9 @@ fn replay(piece: &mut [u8; PIECE], from: Cursor) -> Cursor {
     let network = net.network;
     let state = start.state;
     if kind.value == 1 {
-        let ran = machine::run(network, state, site.value as usize, last.value as usize);
-        let answer = ran.answer;
-        put_ran(answer);
-        put_state(ran.state);
+        replay_run(network, state, site.value, last.value);
     } else {
-        let sent = machine::send(network, state, site.value as usize, last.value);
-        let answer = sent.answer;
-        put_sent(answer);
-        put_state(sent.state);
+        replay_send(network, state, site.value, last.value);
     }
     last.cursor
 }

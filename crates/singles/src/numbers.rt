@@ -63,17 +63,29 @@ fn put_input(n: &mut [u64; NUMBERS], at: usize, x: Input)
 {
     let phase = x.phase;
     let marks = x.outputs;
+    put_phase(n, at, phase);
+    n[at + 3] = wide(x.packet);
+    n[at + 4] = x.set;
+    put_marks(n, at + 5, marks);
+    n[at + 10] = wide(x.tries);
+}
+
+fn put_phase(n: &mut [u64; NUMBERS], at: usize, phase: Phase)
+    requires { ⌜ at ≤ 132 ⌝ }
+{
     n[at] = wide(types::state_number(phase));
     n[at + 1] = phase_connection(phase);
     n[at + 2] = phase_received(phase);
-    n[at + 3] = wide(x.packet);
-    n[at + 4] = x.set;
-    n[at + 5] = mark(marks[0]);
-    n[at + 6] = mark(marks[1]);
-    n[at + 7] = mark(marks[2]);
-    n[at + 8] = mark(marks[3]);
-    n[at + 9] = mark(marks[4]);
-    n[at + 10] = wide(x.tries);
+}
+
+fn put_marks(n: &mut [u64; NUMBERS], at: usize, marks: [bool; base::OUTPUTS])
+    requires { ⌜ at ≤ 130 ⌝ }
+{
+    n[at] = mark(marks[0]);
+    n[at + 1] = mark(marks[1]);
+    n[at + 2] = mark(marks[2]);
+    n[at + 3] = mark(marks[3]);
+    n[at + 4] = mark(marks[4]);
 }
 
 fn put_output(n: &mut [u64; NUMBERS], at: usize, x: Output)

@@ -70,24 +70,37 @@ fn phase_of(state: u64, connection: Connection, received: Received) -> Phase {
 fn input_of(n: &[u64; NUMBERS], at: usize) -> Input
     requires { ⌜ at ≤ 124 ⌝ }
 {
-    let connection = connection_of(n[at + 1]);
-    let received = received_of(n[at + 2]);
-    let phase = phase_of(n[at], connection, received);
+    let phase = phase_at(n, at);
     let packet = byte_of(n[at + 3]);
+    let outputs = marks_at(n, at + 5);
     let tries = byte_of(n[at + 10]);
     Input {
         set: n[at + 4],
         phase,
-        outputs: [
-            n[at + 5] == 1,
-            n[at + 6] == 1,
-            n[at + 7] == 1,
-            n[at + 8] == 1,
-            n[at + 9] == 1,
-        ],
+        outputs,
         packet,
         tries,
     }
+}
+
+fn phase_at(n: &[u64; NUMBERS], at: usize) -> Phase
+    requires { ⌜ at ≤ 132 ⌝ }
+{
+    let connection = connection_of(n[at + 1]);
+    let received = received_of(n[at + 2]);
+    phase_of(n[at], connection, received)
+}
+
+fn marks_at(n: &[u64; NUMBERS], at: usize) -> [bool; base::OUTPUTS]
+    requires { ⌜ at ≤ 130 ⌝ }
+{
+    [
+        n[at] == 1,
+        n[at + 1] == 1,
+        n[at + 2] == 1,
+        n[at + 3] == 1,
+        n[at + 4] == 1,
+    ]
 }
 
 fn output_of(n: &[u64; NUMBERS], at: usize) -> Output

@@ -7,115 +7,92 @@ use layout::LEAVING_FROM;
 use layout::OUTPUTS_FROM;
 use layout::SITE_PLACES;
 
-fn word_at(words: &[u64], i: usize) -> u64 {
+// A net-input: bit j of the marks is connected output j.
+pub struct Input {
+    pub state: usize,
+    pub connection: usize,
+    pub marks: usize,
+    pub packet: usize,
+    pub tries: usize,
+}
+
+// A net-output: its set, whether its head is taken, its terminator and packet, and the net-input that feeds it.
+pub struct Output {
+    pub set: usize,
+    pub head: bool,
+    pub terminator: usize,
+    pub packet: usize,
+    pub feeder: usize,
+}
+
+// An out-queue: its count, its front, and the set of its last entry.
+pub struct Leaving {
+    pub count: usize,
+    pub started: bool,
+    pub packet: usize,
+    pub last: usize,
+}
+
+fn word_at(words: &[u64], i: usize) -> usize {
     if i < words.len() {
-        return words[i];
+        return words[i] as usize;
     }
     0
 }
 
 // The two words of place k of site s: its set, and its small fields.
-fn set_at(words: &[u64], s: usize, k: usize) -> u64 {
-    if s < base::SITES {
-        if k < SITE_PLACES {
-            return word_at(words, 2 * (SITE_PLACES * s + k));
-        }
+fn set_at(words: &[u64], s: usize, k: usize) -> usize {
+    word_at(
+        words,
+        2 * (SITE_PLACES * (s % base::SITES) + k % SITE_PLACES),
+    )
+}
+
+fn fields_at(words: &[u64], s: usize, k: usize) -> usize {
+    word_at(
+        words,
+        2 * (SITE_PLACES * (s % base::SITES) + k % SITE_PLACES) + 1,
+    )
+}
+
+// Net-input i of site s.
+pub fn input_at(words: &[u64], s: usize, i: usize) -> Input {
+    let fields = fields_at(words, s, i);
+    Input {
+        state: fields % 8,
+        connection: fields / 8 % 8,
+        marks: fields / 256 % 32,
+        packet: fields / 65536 % 256,
+        tries: fields / 16777216 % 256,
     }
-    0
 }
 
-fn fields_at(words: &[u64], s: usize, k: usize) -> u64 {
-    if s < base::SITES {
-        if k < SITE_PLACES {
-            return word_at(words, 2 * (SITE_PLACES * s + k) + 1);
-        }
+// Net-output j of site s.
+pub fn output_at(words: &[u64], s: usize, j: usize) -> Output {
+    let k = OUTPUTS_FROM + j % base::OUTPUTS;
+    let fields = fields_at(words, s, k);
+    Output {
+        set: set_at(words, s, k),
+        head: fields / 2 % 2 == 1,
+        terminator: fields / 4 % 4,
+        packet: fields / 65536 % 256,
+        feeder: fields / 256 % 256,
     }
-    0
 }
 
-// ---- net-input i of site s
-
-pub fn input_state(words: &[u64], s: usize, i: usize) -> u64 {
-    fields_at(words, s, i) % 8
-}
-
-pub fn input_connection(words: &[u64], s: usize, i: usize) -> u64 {
-    fields_at(words, s, i) / 8 % 8
-}
-
-// Its connected outputs: bit j is output j.
-pub fn input_marks(words: &[u64], s: usize, i: usize) -> u64 {
-    fields_at(words, s, i) / 256 % 32
-}
-
-pub fn input_packet(words: &[u64], s: usize, i: usize) -> u64 {
-    fields_at(words, s, i) / 65536 % 256
-}
-
-pub fn input_tries(words: &[u64], s: usize, i: usize) -> u64 {
-    fields_at(words, s, i) / 16777216 % 256
-}
-
-// ---- net-output j of site s
-
-fn output_fields(words: &[u64], s: usize, j: usize) -> u64 {
-    if j < base::OUTPUTS {
-        return fields_at(words, s, OUTPUTS_FROM + j);
+// The out-queue of site s.
+pub fn leaving_at(words: &[u64], s: usize) -> Leaving {
+    let count = set_at(words, s, COUNTS_PLACE);
+    let fields = fields_at(words, s, LEAVING_FROM);
+    Leaving {
+        count,
+        started: fields % 2 == 1,
+        packet: fields / 256 % 256,
+        last: set_at(words, s, LEAVING_FROM + base::one_less(count) % base::QUEUE),
     }
-    0
 }
 
-pub fn output_set(words: &[u64], s: usize, j: usize) -> u64 {
-    if j < base::OUTPUTS {
-        return set_at(words, s, OUTPUTS_FROM + j);
-    }
-    0
-}
-
-// Whether its head is taken.
-pub fn output_head(words: &[u64], s: usize, j: usize) -> bool {
-    output_fields(words, s, j) / 2 % 2 == 1
-}
-
-pub fn output_terminator(words: &[u64], s: usize, j: usize) -> u64 {
-    output_fields(words, s, j) / 4 % 4
-}
-
-pub fn output_packet(words: &[u64], s: usize, j: usize) -> u64 {
-    output_fields(words, s, j) / 65536 % 256
-}
-
-// The net-input that feeds net-output 0.
-pub fn feeder(words: &[u64], s: usize) -> usize {
-    (output_fields(words, s, 0) / 256 % 256) as usize
-}
-
-// ---- the queues of site s
-
-pub fn out_count(words: &[u64], s: usize) -> u64 {
-    set_at(words, s, COUNTS_PLACE)
-}
-
-pub fn out_front_started(words: &[u64], s: usize) -> bool {
-    fields_at(words, s, LEAVING_FROM) % 2 == 1
-}
-
-pub fn out_front_packet(words: &[u64], s: usize) -> u64 {
-    fields_at(words, s, LEAVING_FROM) / 256 % 256
-}
-
-// The set of the out-queue's last entry.
-pub fn out_last_set(words: &[u64], s: usize) -> u64 {
-    let count = out_count(words, s) as usize;
-    if 0 < count {
-        let last = count - 1;
-        if last < base::QUEUE {
-            return set_at(words, s, LEAVING_FROM + last);
-        }
-    }
-    0
-}
-
-pub fn in_front_packet(words: &[u64], s: usize) -> u64 {
+// The packet of the in-queue's front at site s.
+pub fn arrived_at(words: &[u64], s: usize) -> usize {
     fields_at(words, s, ARRIVED_FROM) / 256 % 256
 }

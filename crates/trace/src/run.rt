@@ -1,13 +1,9 @@
-// A stored run traced by the public single events on lent words, in the order of document 01: before draw d every send
+// A stored run traced by the public single events on lent words, in the order of docs/MODEL.md: before draw d every send
 // that is marked d, after the last draw those marked with the number of draws. Each event's line goes out before the
 // next event. Assumes nothing of the run.
 ghost use Prim.Native.Nat.{_<_};
-ghost use Rattle.io.specs.Counts.{Counts as Front};
-use crate::line::ROOM;
-use crate::line::add_bytes;
-use crate::line::add_pattern;
-use crate::line::add_word;
 use crate::told::add_change;
+use front::fill;
 use layout::WORDS;
 use libc::STDOUT_FILENO;
 use machine::Clock;
@@ -18,6 +14,9 @@ use types::Ran;
 use types::Run;
 use types::Sent;
 use types::StoredSend;
+
+// Room for every line: the longest has some 350 bytes, a split to five outputs in a network of 16 sites.
+const ROOM: usize = 512;
 
 // Why a trace goes no further: it does not stop; a line could not be written; RUN refused, which no valid run comes to.
 pub const GOES_ON: u8 = 0;
@@ -38,44 +37,45 @@ pub struct Traced {
 
 // Adds `send K before draw D: site S to SET: `.
 fn add_order(text: &mut [u8], k: usize, draws: u16, order: StoredSend) -> usize {
-    let site = base::wide(order.site) as u64;
-    let set = order.set;
-    let d = order.draw;
-    if d == draws {
-        return add_pattern(
+    let site = base::wide(order.site);
+    let set = order.set as usize;
+    if order.draw == draws {
+        let values = [k, site, set, 0, 0, 0];
+        return fill(
             text,
             0,
-            b"send # after the last draw: site # to %: ",
-            [k as u64, site, set, 0],
+            b"send % after the last draw: site % to {: ",
+            values,
         );
     }
-    add_pattern(
-        text,
-        0,
-        b"send # before draw #: site # to %: ",
-        [k as u64, d as u64, site, set],
-    )
+    let values = [k, order.draw as usize, site, set, 0, 0];
+    fill(text, 0, b"send % before draw %: site % to {: ", values)
 }
 
-fn add_sent(text: &mut [u8], at: usize, answer: Sent) -> usize
-    ensures { λ r. ⌜ Front r (now (text .exit)) ⌝ }
-{
+fn add_sent(text: &mut [u8], at: usize, answer: Sent) -> usize {
     match answer {
-        Sent::Accepted(packet) => add_pattern(text, at, b"packet #\n", one(packet)),
-        Sent::Refused(n) => add_pattern(text, at, b"passed over, refused #\n", one(n)),
+        Sent::Accepted(n) => fill(text, at, b"packet %", [base::wide(n), 0, 0, 0, 0, 0]),
+        Sent::Refused(n) => fill(
+            text,
+            at,
+            b"passed over, refused %",
+            [base::wide(n), 0, 0, 0, 0, 0],
+        ),
     }
 }
 
-fn one(value: u8) -> [u64; 4] {
-    [base::wide(value) as u64, 0, 0, 0]
+// Ends a line and writes it. Answers whether that was done.
+fn print(text: &mut [u8], at: usize) -> bool {
+    let end = report::add_bytes(text, at, b"\n");
+    io::write_all(STDOUT_FILENO, &text[..end])
 }
 
 // Prints the line of a send and its answer. Answers whether that was done.
 fn print_send(k: usize, draws: u16, order: StoredSend, answer: Sent) -> bool {
     let mut text = [0u8; ROOM];
     let begun = add_order(&mut text, k, draws, order);
-    let n = add_sent(&mut text, begun, answer);
-    io::write_all(STDOUT_FILENO, &text[..n])
+    let sent = add_sent(&mut text, begun, answer);
+    print(&mut text, sent)
 }
 
 // What is counted after an answer of SEND.
@@ -114,30 +114,24 @@ fn send_turn(
 
 // Adds `draw D: site S, WHO: `.
 fn add_draw(text: &mut [u8], d: u16, site: usize, code: usize) -> usize {
+    let begun = fill(text, 0, b"draw %: site %, ", [d as usize, site, 0, 0, 0, 0]);
     if code < base::INPUTS {
-        let values = [d as u64, site as u64, code as u64, 0];
-        return add_pattern(text, 0, b"draw #: site #, net-input #: ", values);
+        return fill(text, begun, b"net-input %: ", [code, 0, 0, 0, 0, 0]);
     }
     let j = code - base::INPUTS;
-    let values = [d as u64, site as u64, j as u64, 0];
     if j < base::OUTPUTS {
-        return add_pattern(text, 0, b"draw #: site #, net-output #: ", values);
+        return fill(text, begun, b"net-output %: ", [j, 0, 0, 0, 0, 0]);
     }
-    let begun = add_pattern(text, 0, b"draw #: site #, ", values);
-    add_word(
-        text,
-        begun,
-        b"out-queue: ,operator: ,timeout: ",
-        j - base::OUTPUTS,
-    )
+    let k = j - base::OUTPUTS;
+    front::add_word(text, begun, b"out-queue: ,operator: ,timeout: ", k)
 }
 
 // Prints the line of draw d, which changed nothing. Answers whether that was done.
 fn print_idle(d: u16, site: usize, code: usize) -> bool {
     let mut text = [0u8; ROOM];
     let begun = add_draw(&mut text, d, site, code);
-    let n = add_bytes(&mut text, begun, b"nothing\n");
-    io::write_all(STDOUT_FILENO, &text[..n])
+    let told = report::add_bytes(&mut text, begun, b"nothing");
+    print(&mut text, told)
 }
 
 // Prints the line of draw d, which changed something. Answers whether that was done.
@@ -164,8 +158,7 @@ fn print_change(
         code,
         answer,
     );
-    let n = add_bytes(&mut text, told, b"\n");
-    io::write_all(STDOUT_FILENO, &text[..n])
+    print(&mut text, told)
 }
 
 // The channel of the net-output that this code names at site s: 4 x site + port - 1 of the input at its end; 0 for
@@ -284,7 +277,7 @@ fn place_of(next: usize) -> usize
     if next < base::SENDS { next } else { 0 }
 }
 
-// As many turns as there are sends and draws, from zero words.
+// As many turns as there are sends and draws. `before` has the words of `state`.
 fn turns(run: Run, all: bool, state: &mut [u64], before: &mut [u64]) -> Traced {
     let network = run.network;
     let sends = run.sends;
@@ -321,8 +314,9 @@ fn turns(run: Run, all: bool, state: &mut [u64], before: &mut [u64]) -> Traced {
 // Traces a run from the empty state, the pairs that are owed at its end counted.
 pub fn trace(run: Run, all: bool) -> Traced {
     let mut state = [0u64; WORDS];
-    let mut before = [0u64; WORDS];
-    let mut t = start(run, all, &mut state, &mut before);
+    words::write_empty(&mut state);
+    let mut before = state;
+    let mut t = turns(run, all, &mut state, &mut before);
     let left = words::owed(&state);
     if (left.refusal != 0) & (t.stop == GOES_ON) {
         t.stop = REFUSED;
@@ -331,10 +325,4 @@ pub fn trace(run: Run, all: bool) -> Traced {
     counts.owed = left.pairs;
     t.counts = counts;
     t
-}
-
-fn start(run: Run, all: bool, state: &mut [u64], before: &mut [u64]) -> Traced {
-    words::write_empty(state);
-    words::write_empty(before);
-    turns(run, all, state, before)
 }

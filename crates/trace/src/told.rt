@@ -1,14 +1,15 @@
 // What a RUN changed, in the words of docs/TRACE.md: each function adds what became of one kind of component to a line,
-// as it is seen in the words before and after the event. (line.rt has the signs of the patterns.)
-use crate::line::add_bytes;
-use crate::line::add_pattern;
+// as it is seen in the words before and after the event. (`front::fill` has the signs of the patterns.)
 use crate::places;
+use crate::places::Input;
+use front::VALUES;
+use front::fill;
 use types::Ran;
 
 // The states of a net-input, as the words have them.
-const FREE: u64 = 0;
+const FREE: usize = 0;
 
-const SEEK: u64 = 1;
+const SEEK: usize = 1;
 
 // Adds what the component of this code at site s did. `tries` is the network's T; `channel` is that of the net-output
 // which a code from 6 to 9 names.
@@ -27,12 +28,8 @@ pub fn add_change(
         return add_input(text, at, tries, before, after, s, code);
     }
     let j = code - base::INPUTS;
-    if j == 0 {
-        let carried = add_carried(text, at, before, s, 0);
-        return add_bytes(text, carried, b" enters the in-queue");
-    }
     if j < base::OUTPUTS {
-        return add_remote_output(text, at, channel, before, after, s, j);
+        return add_output(text, at, channel, before, after, s, j);
     }
     add_queues(text, at, before, after, s, code, answer)
 }
@@ -67,55 +64,35 @@ fn add_input(
     s: usize,
     i: usize,
 ) -> usize {
-    let packet = places::input_packet(before, s, i);
-    let from = places::input_state(before, s, i);
-    let to = places::input_state(after, s, i);
-    if from == SEEK {
-        return add_asked(text, at, tries, after, s, i);
+    let was = places::input_at(before, s, i);
+    let now = places::input_at(after, s, i);
+    if was.state == SEEK {
+        return add_asked(text, at, tries, now, after, s);
     }
-    let turned = add_pattern(text, at, b"packet #, $ to $", [packet, from, to, 0]);
-    if to == FREE {
-        return add_outputs(
-            text,
-            turned,
-            places::input_marks(before, s, i),
-            after,
-            s,
-            false,
-        );
+    let values = [was.packet, was.state, now.state, 0, 0, 0];
+    let turned = fill(text, at, b"packet %, $ to $", values);
+    if now.state == FREE {
+        return add_outputs(text, turned, was.marks, after, s, false);
     }
     turned
 }
 
 // What the router was asked for, and answered.
-fn add_asked(text: &mut [u8], at: usize, tries: u8, after: &[u64], s: usize, i: usize) -> usize {
-    let packet = places::input_packet(after, s, i);
-    let to = places::input_state(after, s, i);
-    if to == SEEK {
-        let made = places::input_tries(after, s, i);
-        let most = base::wide(tries) as u64;
-        return add_pattern(
-            text,
-            at,
-            b"packet #, seek, try # of #",
-            [packet, made, most, 0],
-        );
+fn add_asked(text: &mut [u8], at: usize, tries: u8, now: Input, after: &[u64], s: usize) -> usize {
+    if now.state == SEEK {
+        let values = [now.packet, now.tries, base::wide(tries), 0, 0, 0];
+        return fill(text, at, b"packet %, seek, try % of %", values);
     }
-    let connection = places::input_connection(after, s, i);
-    let open = add_pattern(
-        text,
-        at,
-        b"packet #, seek to $, @",
-        [packet, to, connection, 0],
-    );
-    add_outputs(text, open, places::input_marks(after, s, i), after, s, true)
+    let values = [now.packet, now.state, now.connection, 0, 0, 0];
+    let open = fill(text, at, b"packet %, seek to $, @", values);
+    add_outputs(text, open, now.marks, after, s, true)
 }
 
 // What the marked outputs got: their sets, or their terminators.
 fn add_outputs(
     text: &mut [u8],
     at: usize,
-    marks: u64,
+    marks: usize,
     after: &[u64],
     s: usize,
     are_sets: bool,
@@ -123,46 +100,38 @@ fn add_outputs(
     let mut to = at;
     let mut j: usize = 0;
     while j < base::OUTPUTS {
-        to = add_output(text, to, marks, after, s, j, are_sets);
+        to = add_marked(text, to, marks, after, s, j, are_sets);
         j += 1;
     }
     to
 }
 
 // What output j got, if it is marked.
-fn add_output(
+fn add_marked(
     text: &mut [u8],
     at: usize,
-    marks: u64,
+    marks: usize,
     after: &[u64],
     s: usize,
     j: usize,
     are_sets: bool,
 ) -> usize {
-    if !sets::member(marks, j) {
+    if !sets::member(marks as u64, j) {
         return at;
     }
+    let output = places::output_at(after, s, j);
     if are_sets {
-        let set = places::output_set(after, s, j);
-        return add_pattern(text, at, b", output # gets %", [j as u64, set, 0, 0]);
+        let values = [j, output.set, 0, 0, 0, 0];
+        return fill(text, at, b", output % gets {", values);
     }
-    let terminator = places::output_terminator(after, s, j);
-    add_pattern(text, at, b", output # gets &", [j as u64, terminator, 0, 0])
+    let values = [j, output.terminator, 0, 0, 0, 0];
+    fill(text, at, b", output % gets &", values)
 }
 
 // ---- codes 5 to 9
 
-// Adds the packet, or its terminator if the head was taken before.
-fn add_carried(text: &mut [u8], at: usize, before: &[u64], s: usize, j: usize) -> usize {
-    let packet = places::output_packet(before, s, j);
-    if places::output_head(before, s, j) {
-        let terminator = places::output_terminator(before, s, j);
-        return add_pattern(text, at, b"& of packet #", [terminator, packet, 0, 0]);
-    }
-    add_pattern(text, at, b"packet #", [packet, 0, 0, 0])
-}
-
-fn add_remote_output(
+// The packet, or its terminator if the head was taken before, and where it goes: into the in-queue, or through a channel.
+fn add_output(
     text: &mut [u8],
     at: usize,
     channel: usize,
@@ -171,31 +140,43 @@ fn add_remote_output(
     s: usize,
     j: usize,
 ) -> usize {
-    let site = channel / base::PORTS;
-    let input = channel % base::PORTS + 1;
-    let from = places::input_state(before, site, input);
-    let to = places::input_state(after, site, input);
-    let values = [site as u64, input as u64, from, to];
     let carried = add_carried(text, at, before, s, j);
-    add_pattern(
+    if j == 0 {
+        return report::add_bytes(text, carried, b" enters the in-queue");
+    }
+    let site = channel / base::PORTS;
+    let i = channel % base::PORTS + 1;
+    let was = places::input_at(before, site, i);
+    let now = places::input_at(after, site, i);
+    let values = [site, i, was.state, now.state, 0, 0];
+    fill(
         text,
         carried,
-        b" goes to site #, net-input #, $ to $",
+        b" goes to site %, net-input %, $ to $",
         values,
     )
+}
+
+fn add_carried(text: &mut [u8], at: usize, before: &[u64], s: usize, j: usize) -> usize {
+    let output = places::output_at(before, s, j);
+    if output.head {
+        let values = [output.terminator, output.packet, 0, 0, 0, 0];
+        return fill(text, at, b"& of packet %", values);
+    }
+    fill(text, at, b"packet %", [output.packet, 0, 0, 0, 0, 0])
 }
 
 // ---- codes 10 to 12
 
 fn add_out_queue(text: &mut [u8], at: usize, before: &[u64], after: &[u64], s: usize) -> usize {
-    let packet = places::out_front_packet(before, s);
-    let from = places::input_state(before, s, 0);
-    let to = places::input_state(after, s, 0);
-    let values = [packet, from, to, 0];
-    if places::out_front_started(before, s) {
-        return add_pattern(text, at, b"packet # ends, net-input 0 $ to $", values);
+    let queue = places::leaving_at(before, s);
+    let was = places::input_at(before, s, 0);
+    let now = places::input_at(after, s, 0);
+    let values = [queue.packet, was.state, now.state, 0, 0, 0];
+    if queue.started {
+        return fill(text, at, b"packet % ends, net-input 0 $ to $", values);
     }
-    add_pattern(text, at, b"packet # starts, net-input 0 $ to $", values)
+    fill(text, at, b"packet % starts, net-input 0 $ to $", values)
 }
 
 fn add_operator(
@@ -206,34 +187,46 @@ fn add_operator(
     s: usize,
     answer: Ran,
 ) -> usize {
-    let is_requeued = places::out_count(before, s) < places::out_count(after, s);
-    let rest = places::out_last_set(after, s);
+    let was = places::leaving_at(before, s);
+    let now = places::leaving_at(after, s);
+    let is_requeued = was.count < now.count;
     if let Ran::Serviced(packet, site) = answer {
-        let values = [base::wide(packet) as u64, base::wide(site) as u64, rest, 0];
+        let values = [base::wide(packet), base::wide(site), now.last, 0, 0, 0];
         return add_service(text, at, is_requeued, values);
     }
-    let packet = places::in_front_packet(before, s);
-    if is_requeued {
-        return add_pattern(text, at, b"packet # requeued, %", [packet, rest, 0, 0]);
-    }
-    add_pattern(text, at, b"packet # cleared", [packet, 0, 0, 0])
+    add_cleared(
+        text,
+        at,
+        is_requeued,
+        places::arrived_at(before, s),
+        now.last,
+    )
 }
 
 // A service, and the rest if there is one.
-fn add_service(text: &mut [u8], at: usize, is_requeued: bool, values: [u64; 4]) -> usize {
+fn add_service(text: &mut [u8], at: usize, is_requeued: bool, values: [usize; VALUES]) -> usize {
     if is_requeued {
-        return add_pattern(text, at, b"packet # serviced at site #, % requeued", values);
+        return fill(text, at, b"packet % serviced at site %, { requeued", values);
     }
-    add_pattern(text, at, b"packet # serviced at site #", values)
+    fill(text, at, b"packet % serviced at site %", values)
+}
+
+// An entry that went without a service, and the rest if there is one.
+fn add_cleared(text: &mut [u8], at: usize, is_requeued: bool, packet: usize, rest: usize) -> usize {
+    let values = [packet, rest, 0, 0, 0, 0];
+    if is_requeued {
+        return fill(text, at, b"packet % requeued, {", values);
+    }
+    fill(text, at, b"packet % cleared", values)
 }
 
 fn add_timeout(text: &mut [u8], at: usize, before: &[u64], after: &[u64], s: usize) -> usize {
-    let i = places::feeder(before, s);
-    let packet = places::input_packet(before, s, i);
-    let from = places::input_state(before, s, i);
-    let to = places::input_state(after, s, i);
-    let marks = sets::without(places::input_marks(before, s, i), 0);
-    let values = [i as u64, packet, from, to];
-    let cut = add_pattern(text, at, b"net-input # cut, packet #, $ to $", values);
+    let output = places::output_at(before, s, 0);
+    let i = output.feeder;
+    let was = places::input_at(before, s, i);
+    let now = places::input_at(after, s, i);
+    let values = [i, was.packet, was.state, now.state, 0, 0];
+    let cut = fill(text, at, b"net-input % cut, packet %, $ to $", values);
+    let marks = sets::without(was.marks as u64, 0) as usize;
     add_outputs(text, cut, marks, after, s, false)
 }

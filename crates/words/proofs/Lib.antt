@@ -1,6 +1,7 @@
 pub mod Acts
 pub mod Answered
 pub mod Codes
+pub mod EventExamples
 pub mod InputArm
 pub mod PlayLaws
 pub mod Publics

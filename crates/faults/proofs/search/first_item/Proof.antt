@@ -6,7 +6,7 @@ use native.Mathlib.Omega.{arith}
 use borrow.Author.Needs.{needs}
 use Rattle.base.specs.All.{all, all-none, all-more}
 use Rattle.format.specs.Format.{runOf}
-use Rattle.faults.specs.Faults.{itemOk}
+use Rattle.format.specs.Faults.{itemOk}
 use Rattle.faults.proofs.Places.{ends-at, ends-behind}
 use Rattle.faults.proofs.search.first_item.Statement.{statement}
 use Rattle.faults.proofs.search.first_item.Tie as tie

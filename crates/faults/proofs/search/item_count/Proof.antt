@@ -4,7 +4,7 @@ use native.Mathlib.Nat.{mul-le-mul}
 use native.Mathlib.Omega.{arith}
 use Prim.Native.Nat.{_*_, _≤_}
 use borrow.Author.Tests.{eq-eqb, ne-eqb}
-use Rattle.faults.specs.Faults.{itemCount}
+use Rattle.format.specs.Faults.{itemCount}
 use borrow.Author.Needs.{needs}
 use Rattle.faults.proofs.search.item_count.Statement.{statement}
 use Rattle.faults.proofs.search.item_count.Tie as tie

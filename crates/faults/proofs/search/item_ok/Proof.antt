@@ -2,7 +2,7 @@
 use mathlib.Core.Path.{refl}
 use borrow.Author.Tests.{eq-eqb, ne-eqb}
 use Rattle.format.specs.Format.{runOf}
-use Rattle.faults.specs.Faults.{itemOk}
+use Rattle.format.specs.Faults.{itemOk}
 use Rattle.faults.proofs.Held.{of-channels, of-routes, of-sends}
 use Rattle.faults.proofs.search.item_ok.Statement.{statement}
 use Rattle.faults.proofs.search.item_ok.Tie as tie

@@ -7,7 +7,7 @@ use Rattle.faults.proofs.tests.send_ok.Tie as tie
 use Rattle.faults.proofs.tests.send_ok.Reads as reads
 use Rattle.faults.proofs.tests.send_ok.Lts as lts
 use Rattle.base.proofs.wide.Reads as wide-reads
-use Rattle.faults.proofs.tests.one_less.Reads as one-less-reads
+use Rattle.base.proofs.one_less.Reads as one-less-reads
 use Rattle.faults.proofs.tests.send_at.Reads as send-at-reads
 use Rattle.faults.proofs.tests.word_at.Reads as word-at-reads
 use Rattle.sets.proofs.is_targets.Reads as is-targets-reads

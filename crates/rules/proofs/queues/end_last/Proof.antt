@@ -5,7 +5,7 @@ use Rattle.rules.proofs.queues.end_last.Tie as tie
 use Rattle.rules.proofs.queues.end_last.Reads as reads
 use Rattle.rules.proofs.queues.end_last.Lts as lts
 use Rattle.rules.proofs.queues.last_of.Reads as last-of-reads
-use Rattle.rules.proofs.queues.one_less.Reads as one-less-reads
+use Rattle.base.proofs.one_less.Reads as one-less-reads
 use Rattle.rules.proofs.queues.stored_in.Reads as stored-in-reads
 
 last-of-requires : tie.Need-last-of-requires

@@ -5,7 +5,7 @@ use Rattle.rules.proofs.queues.last_of.Tie as tie
 use Rattle.rules.proofs.queues.last_of.Reads as reads
 use Rattle.rules.proofs.queues.last_of.Lts as lts
 use Rattle.rules.proofs.queues.entry_at.Reads as entry-at-reads
-use Rattle.rules.proofs.queues.one_less.Reads as one-less-reads
+use Rattle.base.proofs.one_less.Reads as one-less-reads
 
 one-less-requires : tie.Need-one-less-requires
 one-less-requires c κs = search needs

@@ -5,7 +5,7 @@ use Rattle.rules.proofs.queues.pop_in.Statement.{statement}
 use Rattle.rules.proofs.queues.pop_in.Tie as tie
 use Rattle.rules.proofs.queues.pop_in.Reads as reads
 use Rattle.rules.proofs.queues.pop_in.Lts as lts
-use Rattle.rules.proofs.queues.one_less.Reads as one-less-reads
+use Rattle.base.proofs.one_less.Reads as one-less-reads
 use Rattle.rules.proofs.queues.shift_in.Reads as shift-in-reads
 
 shift-in-requires : tie.Need-shift-in-requires

@@ -5,7 +5,7 @@ use Rattle.rules.proofs.queues.pop_out.Statement.{statement}
 use Rattle.rules.proofs.queues.pop_out.Tie as tie
 use Rattle.rules.proofs.queues.pop_out.Reads as reads
 use Rattle.rules.proofs.queues.pop_out.Lts as lts
-use Rattle.rules.proofs.queues.one_less.Reads as one-less-reads
+use Rattle.base.proofs.one_less.Reads as one-less-reads
 use Rattle.rules.proofs.queues.shift_out.Reads as shift-out-reads
 
 shift-out-requires : tie.Need-shift-out-requires

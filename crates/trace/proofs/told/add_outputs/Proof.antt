@@ -7,7 +7,7 @@ use Rattle.trace.proofs.told.add_outputs.Statement.{statement}
 use Rattle.trace.proofs.told.add_outputs.Tie as tie
 use Rattle.trace.proofs.told.add_outputs.Reads as reads
 use Rattle.trace.proofs.told.add_outputs.Lts as lts
-use Rattle.trace.proofs.told.add_output.Reads as add-output-reads
+use Rattle.trace.proofs.told.add_marked.Reads as add-marked-reads
 
 abbrev Inv-loop : tie.InvT-loop
 Inv-loop text₀ at marks after s are-sets to₀ j₀ text to j = (length text ≡ length text₀) × (j ≤ 5)
@@ -18,8 +18,8 @@ abbrev μ-loop : tie.MeasureT-loop
 loop-holds : tie.Need-loop-holds Inv-loop μ-loop
 loop-holds c = search needs
 
-add-output-requires : tie.Need-add-output-requires Inv-loop μ-loop
-add-output-requires c κs = search needs
+add-marked-requires : tie.Need-add-marked-requires Inv-loop μ-loop
+add-marked-requires c κs = search needs
 
 add-j : tie.Need-add-j Inv-loop μ-loop
 add-j c = search needs
@@ -43,7 +43,7 @@ add-outputs-spec =
     Inv-loop
     μ-loop
     loop-holds
-    add-output-requires
+    add-marked-requires
     add-j
     loop-less
     loop-again

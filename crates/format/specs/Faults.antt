@@ -9,10 +9,10 @@ use Rattle.types.specs.declared.Network.{Network}
 use Rattle.types.specs.declared.Run.{Run}
 use Rattle.model.specs.Network.{channelOk, routeOk}
 use Rattle.model.specs.Runs.{sendOk}
 use Rattle.format.specs.Format.{runOf}
 use Rattle.format.specs.Refusals.{readRefusal}
-use Rattle.faults.specs.declared.Fault.{Fault}
-use Rattle.faults.specs.First.{first}
+use Rattle.format.specs.declared.Fault.{Fault}
+use Rattle.format.specs.First.{first}
 
 -- routes by number: route s x S + t is that from site s to site t
 abbrev pub numberedOk : Network → ℕ → Bool

@@ -1,11 +1,11 @@
--- `line::end_of` is safe and ends. Assumes nothing.
+-- `pattern::end_of` is safe and ends. Assumes nothing.
 use borrow.Author.Needs.{needs}
 use Prim.Native.Nat.{_-_, _≤_}
 use lib.ListN.{length}
-use Rattle.trace.proofs.line.end_of.Statement.{statement}
-use Rattle.trace.proofs.line.end_of.Tie as tie
-use Rattle.trace.proofs.line.end_of.Reads as reads
-use Rattle.trace.proofs.line.end_of.Lts as lts
+use Rattle.front.proofs.pattern.end_of.Statement.{statement}
+use Rattle.front.proofs.pattern.end_of.Tie as tie
+use Rattle.front.proofs.pattern.end_of.Reads as reads
+use Rattle.front.proofs.pattern.end_of.Lts as lts
 
 abbrev Inv-loop : tie.InvT-loop
 Inv-loop words from i₀ i = (from ≤ i) × (i ≤ length words)

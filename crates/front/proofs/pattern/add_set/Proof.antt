@@ -1,14 +1,14 @@
--- `line::add_set` is safe and ends. Assumes nothing.
+-- `pattern::add_set` is safe and ends. Assumes nothing.
 use borrow.Author.Needs.{needs}
 use Prim.Native.Nat.{_-_, _≤_}
 use mathlib.Core.Path.{_≡_}
 use lib.ListN.{length}
-use Rattle.trace.proofs.line.add_set.Statement.{statement}
-use Rattle.trace.proofs.line.add_set.Tie as tie
-use Rattle.trace.proofs.line.add_set.Reads as reads
-use Rattle.trace.proofs.line.add_set.Lts as lts
-use Rattle.trace.proofs.line.add_bytes.Reads as add-bytes-reads
-use Rattle.trace.proofs.line.add_member.Reads as add-member-reads
+use Rattle.front.proofs.pattern.add_set.Statement.{statement}
+use Rattle.front.proofs.pattern.add_set.Tie as tie
+use Rattle.front.proofs.pattern.add_set.Reads as reads
+use Rattle.front.proofs.pattern.add_set.Lts as lts
+use Rattle.report.proofs.add_bytes.Reads as add-bytes-reads
+use Rattle.front.proofs.pattern.add_member.Reads as add-member-reads
 
 abbrev Inv-loop : tie.InvT-loop
 Inv-loop text₀ at set begin to₀ t₀ t8 text to t = (length text ≡ length text₀) × (t ≤ 16)

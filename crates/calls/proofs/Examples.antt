@@ -11,7 +11,8 @@ use Rattle.format.specs.Format.{networkOf, runOf}
 use Rattle.format.specs.Refusals.{headThen, readRefusal}
 use Rattle.model.specs.Runs.{bodyRefusal}
 use Rattle.machine.specs.Play.{playRefusal}
-use Rattle.exports.specs.Calls.{callRefusal, bookAfter, countsAfter, copyRefusal, copyAfter}
+use Rattle.types.specs.declared.Counts.{Counts}
+use Rattle.calls.specs.Calls.{callRefusal, bookAfter, fourCounts, countsAfter, copyRefusal, copyAfter}
 
 abbrev runR : List ℕ
 runR =
@@ -30,6 +31,10 @@ pub play-refusals : _≡_ {A = List ℕ}
     (1 ∷ 14 ∷ 14 ∷ 14 ∷ 0 ∷ [])
 unfolding callRefusal playRefusal readRefusal headThen bodyRefusal runOf networkOf all over sum sizeIn has
 play-refusals = refl
+
+-- accepted, pairs, services, owed, in this order
+pub counts-order : fourCounts (record { accepted = 5; pairs = 6; serviced = 7; owed = 8 }) ≡ 5 ∷ 6 ∷ 7 ∷ 8 ∷ []
+counts-order = refl
 
 -- a book too short leaves the counts, counts too short leave the book
 pub counts-kept : countsAfter runR 3 four ≡ four

@@ -7,11 +7,11 @@ use lib.ListN.{set, take}
 use Rattle.base.specs.Over.{over}
 use Rattle.base.specs.All.{all}
 use Rattle.model.specs.Runs.{bodyRefusal}
 use Rattle.format.specs.Format.{networkOf, runOf}
 use Rattle.format.specs.Refusals.{headThen, readRefusal}
-use Rattle.faults.specs.declared.Fault.{Fault}
-use Rattle.faults.specs.First.{first}
-use Rattle.faults.specs.Faults.{itemCount, itemOk, placeOf, faultOf}
+use Rattle.format.specs.declared.Fault.{Fault}
+use Rattle.format.specs.First.{first}
+use Rattle.format.specs.Faults.{itemCount, itemOk, placeOf, faultOf}
 
 -- "Two sites and a multicast": the head, the channels from 13, the routes from 21, the sends from 29 and 34
 abbrev two : List ℕ

@@ -1,12 +1,12 @@
--- `line::start_of` is safe and ends. Assumes nothing.
+-- `pattern::start_of` is safe and ends. Assumes nothing.
 use borrow.Author.Needs.{needs}
 use Prim.Native.Nat.{_-_, _≤_}
 use lib.ListN.{length}
-use Rattle.trace.proofs.line.start_of.Statement.{statement}
-use Rattle.trace.proofs.line.start_of.Tie as tie
-use Rattle.trace.proofs.line.start_of.Reads as reads
-use Rattle.trace.proofs.line.start_of.Lts as lts
-use Rattle.trace.proofs.line.without_comma.Reads as without-comma-reads
+use Rattle.front.proofs.pattern.start_of.Statement.{statement}
+use Rattle.front.proofs.pattern.start_of.Tie as tie
+use Rattle.front.proofs.pattern.start_of.Reads as reads
+use Rattle.front.proofs.pattern.start_of.Lts as lts
+use Rattle.front.proofs.pattern.without_comma.Reads as without-comma-reads
 
 abbrev Inv-loop : tie.InvT-loop
 Inv-loop words k left₀ i₀ left i = i ≤ length words

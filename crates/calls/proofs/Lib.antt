@@ -1,0 +1,2 @@
+-- Computed examples of the calls.
+pub mod Examples
