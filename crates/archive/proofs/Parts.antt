@@ -17,8 +17,8 @@ use Rattle.format.specs.Format.{headLength, routesPlace, sendsPlace}
 
 -- ---- pieces of one width
 
-place-below : (w k n j : ℕ) → k < n → j < w → w * k + j < w * n
-place-below w k n j h l =
+part-below : (w k n j : ℕ) → k < n → j < w → w * k + j < w * n
+part-below w k n j h l =
     let a : w * suc k ≤ w * n = mul-le-mul (le-refl w) h in
     omega (arith, mul-suc w k)
 
@@ -39,7 +39,7 @@ each-at w f h (suc n) k j l p =
     ∙ ap (λ (m : ℕ). m + j) (sym (length-each w f h n)) in
     ap (at (each f n ++ f n)) e ∙ getD-append-add (each f n) (f n) j 0 ∙ ap (λ (m : ℕ). at (f m) j) (sym q))
     (λ q.
-    let b : w * k + j < length (each f n) = omega (arith, place-below w k n j q p, length-each w f h n) in
+    let b : w * k + j < length (each f n) = omega (arith, part-below w k n j q p, length-each w f h n) in
     List·getD-append (each f n) (f n) 0 (w * k + j) b ∙ each-at w f h n k j q p)
     (eq-or-lt-of-le (le-of-suc-le-suc l))
 

@@ -1,9 +1,10 @@
 -- RUN's act as the struct that the code returns, and what a site must be for it to run.
-use Prim.Native.Nat.{ℕ, suc, zero, _^_, _≤_, _<_}
+use Prim.Native.Nat.{ℕ, suc, zero, _*_, _^_, _≤_, _<_}
 use mathlib.Core.Path.{_≡_}
 use mathlib.Core.List.{List, [], _∷_}
 use mathlib.Core.Bool.{Bool, true, false, cond}
 use lib.ListN.{getD}
+use Rattle.base.specs.Sizes.{sitesMost, inputCount, portCount}
 use Rattle.types.specs.declared.Input.{Input}
 use Rattle.types.specs.declared.Site.{Site}
 use Rattle.types.specs.declared.Network.{Network}
@@ -53,13 +54,13 @@ fourFlags f = f 0 ∷ f 1 ∷ f 2 ∷ f 3 ∷ []
 -- what a site of a state in range has
 pub record Runnable (n : Network) (s : ℕ) (x : Site) : Type 0 where
   pub site : s < n .sites
-  pub few : n .sites ≤ 16
-  pub feeder : outAt x 0 .input < 5
-  pub sought : (i : ℕ) → i < 5 → stateNumber (inAt x i .phase) ≡ 1 → (0 < inAt x i .set) × (inAt x i .set < 2 ^ n .sites)
+  pub few : n .sites ≤ sitesMost
+  pub feeder : outAt x 0 .input < inputCount
+  pub sought : (i : ℕ) → i < inputCount → stateNumber (inAt x i .phase) ≡ 1 → (0 < inAt x i .set) × (inAt x i .set < 2 ^ n .sites)
 
 -- the channels of site s end within the array of sites
 abbrev pub EndsWithin : Network → ℕ → Type 0
-EndsWithin n s = (j : ℕ) → j < 4 → joined n s (suc j) ≡ true → channel n s (suc j) < 64
+EndsWithin n s = (j : ℕ) → j < portCount → joined n s (suc j) ≡ true → channel n s (suc j) < portCount * sitesMost
 
 -- ---- what RUN sees, does and stores
 
@@ -89,7 +90,7 @@ isPass didPass = true
 
 -- an input that is passed on has a place
 abbrev pub Passable : Change → Type 0
-Passable c = isPass (c .act) ≡ true → c .byte < 64
+Passable c = isPass (c .act) ≡ true → c .byte < portCount * sitesMost
 
 -- the site stored, and the two stores of an input passed on
 abbrev pub owned : State → ℕ → Site → State

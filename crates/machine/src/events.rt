@@ -2,6 +2,7 @@
 ghost use mathlib.Core.Path.{_≡_};
 ghost use mathlib.Core.Bool.{true};
 ghost use Prim.Native.Nat.{_<_, _≤_};
+ghost use Rattle.base.specs.Sizes.{sitesMost, queueRoom, packetsMost};
 ghost use Rattle.model.specs.Types.{noSite, noState, siteAt, pushOut};
 ghost use Rattle.model.specs.Network.{networkRefusal};
 ghost use Rattle.model.specs.Range.{inRange};
@@ -127,7 +128,7 @@ fn out_entries(sites: [Site; base::SITES], s: usize) -> usize
 
 // The out-queue with an entry more, where there is room.
 fn push_out(queue: OutQueue, entry: OutEntry) -> OutQueue
-    requires { ⌜ queue .count < 8 ⌝ }
+    requires { ⌜ queue .count < queueRoom ⌝ }
     ensures { λ r. ⌜ r ≡ pushOut queue entry ⌝ }
 {
     rules::push_out(base::QUEUE, queue, entry)
@@ -135,7 +136,7 @@ fn push_out(queue: OutQueue, entry: OutEntry) -> OutQueue
 
 // The state with a packet more, at the back of site s's out-queue under the counter's number.
 fn send_checked(state: State, s: usize, set: u64) -> AfterSend
-    requires { ⌜ (s < 16) × (state .counter < 255) × (siteAt (state .sites) s .outgoing .count < 8) ⌝ }
+    requires { ⌜ (s < sitesMost) × (state .counter < packetsMost) × (siteAt (state .sites) s .outgoing .count < queueRoom) ⌝ }
     ensures { λ r. ⌜ r ≡ spec.sends state s set ⌝ }
 {
     let packet = state.counter;
@@ -161,7 +162,7 @@ fn send_checked(state: State, s: usize, set: u64) -> AfterSend
 
 // SEND behind the checks that all events share: its own refusal and the state as it was, or the packet number and the next state.
 pub(crate) fn try_send(network: Network, state: State, s: usize, set: u64) -> AfterSend
-    requires { ⌜ (network .sites ≤ 16) × (network .depth ≤ 8) ⌝ }
+    requires { ⌜ (network .sites ≤ sitesMost) × (network .depth ≤ queueRoom) ⌝ }
     ensures { λ r. ⌜ r ≡ trySend network state s set ⌝ }
 {
     let sites = network.sites;

@@ -2,6 +2,7 @@
 ghost use mathlib.Core.Path.{_≡_};
 ghost use Prim.Native.Nat.{suc, _<_};
 ghost use mathlib.Core.Bool.{true, _&&_};
+ghost use Rattle.base.specs.Sizes.{sitesMost, portCount};
 ghost use Rattle.model.specs.Network as net;
 ghost use Rattle.model.specs.NetInput as rule;
 ghost use Rattle.machine.specs.Step.{farAt, thereAt, flags, fourFlags};
@@ -26,7 +27,7 @@ fn is_ready(output: Output) -> bool
 
 // The byte of the channel of output j + 1 of site s.
 pub(crate) fn channel_byte(network: Network, s: usize, j: usize) -> u8
-    requires { ⌜ (s < 16) × (j < 4) ⌝ }
+    requires { ⌜ (s < sitesMost) × (j < portCount) ⌝ }
     ensures { λ r. ⌜ r ≡ net.channel network s (suc j) ⌝ }
 {
     let channels = network.channels;
@@ -35,7 +36,7 @@ pub(crate) fn channel_byte(network: Network, s: usize, j: usize) -> u8
 
 // Whether output j + 1 of site s has a channel.
 fn is_joined(network: Network, s: usize, j: usize) -> bool
-    requires { ⌜ (s < 16) × (j < 4) ⌝ }
+    requires { ⌜ (s < sitesMost) × (j < portCount) ⌝ }
     ensures { λ r. ⌜ r ≡ net.joined network s (suc j) ⌝ }
 {
     let byte = channel_byte(network, s, j);
@@ -44,7 +45,7 @@ fn is_joined(network: Network, s: usize, j: usize) -> bool
 
 // Which of the outputs 1 to 4 of site s have a channel.
 pub(crate) fn ends_there(network: Network, s: usize) -> [bool; base::PORTS]
-    requires { ⌜ s < 16 ⌝ }
+    requires { ⌜ s < sitesMost ⌝ }
     ensures { λ r. ⌜ r ≡ fourFlags (λ j. net.joined network s (suc j)) ⌝ }
 {
     [
@@ -62,7 +63,7 @@ fn is_heard(
     outputs: [Output; base::OUTPUTS],
     j: usize,
 ) -> bool
-    requires { ⌜ j < 4 ⌝ }
+    requires { ⌜ j < portCount ⌝ }
     ensures { λ r. ⌜ r ≡ rule.ready (thereAt there) (farAt far) outputs (suc j) ⌝ }
 {
     let output = outputs[j + 1];

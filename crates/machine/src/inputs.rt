@@ -1,6 +1,7 @@
 // The rule of a net-input: seek asks the router with the network, every other state is decided by the state number alone.
 ghost use mathlib.Core.Path.{_≡_};
 ghost use Prim.Native.Nat.{_<_, _≤_, _^_};
+ghost use Rattle.base.specs.Sizes.{sitesMost, inputCount};
 ghost use Rattle.model.specs.Types as spec;
 ghost use Rattle.types.specs.Numbers.{stateNumber};
 ghost use Rattle.model.specs.NetInput as rule;
@@ -20,7 +21,7 @@ pub(crate) fn net_input(
     ready: [bool; base::OUTPUTS],
 ) -> InputTurn
     requires { ⌜
-        (s < network .sites) × (network .sites ≤ 16) × (i < 5) ×
+        (s < network .sites) × (network .sites ≤ sitesMost) × (i < inputCount) ×
         (stateNumber (input .phase) ≡ 1 → (0 < input .set) × (input .set < 2 ^ network .sites))
         ⌝ }
     ensures { λ r. ⌜ r ≡ ofInputTurn input outputs (rule.netInput network s i input outputs (spec.mark ready)) ⌝ }

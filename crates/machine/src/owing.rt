@@ -4,6 +4,7 @@ ghost use mathlib.Core.Bool.{cond};
 ghost use Prim.Native.Nat.{_+_, _≤_};
 ghost use lib.Dec.{ltb};
 ghost use lib.ListN.{take};
+ghost use Rattle.base.specs.Sizes.{setBits};
 ghost use Rattle.base.specs.Sums.{sum};
 ghost use Rattle.model.specs.Owing as spec;
 use rules::held_terminator;
@@ -17,7 +18,7 @@ use types::Terminator;
 
 // How many sites a place at site s owes: end owes its set, keep-local its own site if in the set.
 fn place_pairs(terminator: Terminator, s: usize, set: u64) -> usize
-    ensures { λ r. ⌜ (r ≡ spec.pairsAs terminator s set) × (r ≤ 64) ⌝ }
+    ensures { λ r. ⌜ (r ≡ spec.pairsAs terminator s set) × (r ≤ setBits) ⌝ }
 {
     match terminator {
         Terminator::None => 0,
@@ -34,7 +35,7 @@ fn place_pairs(terminator: Terminator, s: usize, set: u64) -> usize
 
 // The same of entry m of a queue that has `count`: nothing beyond them.
 fn entry_pairs(terminator: Terminator, s: usize, set: u64, m: usize, count: usize) -> usize
-    ensures { λ r. ⌜ (r ≡ cond (ltb m count) (spec.pairsAs terminator s set) 0) × (r ≤ 64) ⌝ }
+    ensures { λ r. ⌜ (r ≡ cond (ltb m count) (spec.pairsAs terminator s set) 0) × (r ≤ setBits) ⌝ }
 {
     if m < count {
         return place_pairs(terminator, s, set);
@@ -104,7 +105,7 @@ fn sites_pairs(sites: [Site; base::SITES]) -> usize
     ensures { λ r. ⌜ r ≡ spec.owedPairs sites ⌝ }
 {
     let mut n = 0usize;
-    for s in 0usize..16 {
+    for s in 0usize..base::SITES {
         let site = sites[s];
         n += site_pairs(s, site);
     }

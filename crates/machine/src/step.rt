@@ -2,6 +2,7 @@
 ghost use mathlib.Core.Path.{_≡_};
 ghost use Prim.Native.Nat.{_<_};
 ghost use mathlib.Core.Bool.{cond};
+ghost use Rattle.base.specs.Sizes.{sitesMost, inputCount, outputCount, portCount};
 ghost use Rattle.model.specs.Types as spec;
 ghost use Rattle.model.specs.Steps as steps;
 ghost use Rattle.machine.specs.Step.{ofAct, unchanged, changed, farAt, Runnable};
@@ -71,7 +72,7 @@ fn took(site: Site, next: Site, moved: bool) -> Change
 
 // Codes 0 to 4: net-input i.
 fn input_step(network: Network, s: usize, site: Site, far: [Input; base::PORTS], i: usize) -> Change
-    requires { ⌜ Runnable network s site ⌝ ∗ ⌜ i < 5 ⌝ }
+    requires { ⌜ Runnable network s site ⌝ ∗ ⌜ i < inputCount ⌝ }
     ensures { λ r. ⌜ r ≡ ofAct network s site (inputAct network s site (farAt far) i) ⌝ }
 {
     let input = site.inputs[i];
@@ -113,7 +114,7 @@ fn channel_step(
     far: [Input; base::PORTS],
     j: usize,
 ) -> Change
-    requires { ⌜ (s < 16) × (j < 4) ⌝ }
+    requires { ⌜ (s < sitesMost) × (j < portCount) ⌝ }
     ensures { λ r. ⌜ r ≡ ofAct network s site (channelAct network s site (farAt far) j) ⌝ }
 {
     let output = site.outputs[j + 1];
@@ -181,7 +182,7 @@ fn operator_step(network: Network, s: usize, site: Site) -> Change
 
 // Code 12: the timeout.
 fn timeout_step(network: Network, s: usize, site: Site) -> Change
-    requires { ⌜ spec.outAt site 0 .input < 5 ⌝ }
+    requires { ⌜ spec.outAt site 0 .input < inputCount ⌝ }
     ensures { λ r. ⌜ r ≡ ofAct network s site (timeoutAct site) ⌝ }
 {
     let own = site.outputs[0];
@@ -207,7 +208,7 @@ fn output_step(
     far: [Input; base::PORTS],
     j: usize,
 ) -> Change
-    requires { ⌜ Runnable network s site ⌝ ∗ ⌜ j < 5 ⌝ }
+    requires { ⌜ Runnable network s site ⌝ ∗ ⌜ j < outputCount ⌝ }
     ensures { λ r. ⌜ r ≡ ofAct network s site (steps.netOutput network s site (farAt far) j) ⌝ }
 {
     if j == 0 {

@@ -3,7 +3,8 @@
 // where RUN is idle none stores.
 ghost use mathlib.Core.Path.{_≡_};
 ghost use mathlib.Core.Bool.{cond};
-ghost use Prim.Native.Nat.{_<_, _/_, _%_};
+ghost use Prim.Native.Nat.{_<_, _*_, _/_, _%_};
+ghost use Rattle.base.specs.Sizes.{sitesMost, portCount};
 ghost use Rattle.model.specs.Types.{noInput, inAt};
 ghost use Rattle.model.specs.Network.{isChannel, endPort};
 ghost use Rattle.machine.specs.Step.{seenAt, storedState, answerTo, passed, isIdle, isPass, EndsWithin, Passable};
@@ -26,7 +27,7 @@ pub struct Seen {
 
 // The site at the end of a channel; where there is no channel some site.
 fn end_site(byte: u8) -> usize
-    ensures { λ r. ⌜ r ≡ byte / 4 % 16 ⌝ }
+    ensures { λ r. ⌜ r ≡ byte / portCount % sitesMost ⌝ }
 {
     (byte / 4) as usize % base::SITES
 }
@@ -45,7 +46,7 @@ fn end_of(site: Site, byte: u8) -> Input
 
 // What RUN sees at site s.
 pub(crate) fn seen_at(network: Network, state: State, s: usize) -> Seen
-    requires { ⌜ s < 16 ⌝ ∗ ⌜ EndsWithin network s ⌝ }
+    requires { ⌜ s < sitesMost ⌝ ∗ ⌜ EndsWithin network s ⌝ }
     ensures { λ r. ⌜ r ≡ seenAt network (state .sites) s ⌝ }
 {
     let first = channel_byte(network, s, 0);
@@ -71,7 +72,7 @@ pub(crate) fn seen_at(network: Network, state: State, s: usize) -> Seen
 // Site s becomes `site`, then the input at the end of the channel with this byte becomes `input`: it may be of that
 // very site.
 fn pass_on(state: State, s: usize, site: Site, byte: u8, input: Input) -> State
-    requires { ⌜ (s < 16) × (byte < 64) ⌝ }
+    requires { ⌜ (s < sitesMost) × (byte < portCount * sitesMost) ⌝ }
     ensures { λ r. ⌜ r ≡ passed state s site byte input ⌝ }
 {
     let u = (byte / 4) as usize;
@@ -110,7 +111,7 @@ fn is_pass(act: Act) -> bool
 
 // The state after a change at site s; where nothing changes it is handed back as it is.
 pub(crate) fn store_change(state: State, s: usize, change: Change) -> State
-    requires { ⌜ s < 16 ⌝ ∗ ⌜ Passable change ⌝ }
+    requires { ⌜ s < sitesMost ⌝ ∗ ⌜ Passable change ⌝ }
     ensures { λ r. ⌜ r ≡ storedState state s change ⌝ }
 {
     let act = change.act;
@@ -130,7 +131,7 @@ pub(crate) fn store_change(state: State, s: usize, change: Change) -> State
 
 // RUN's answer to what it did at site s.
 pub(crate) fn answer_to(act: Act, s: usize) -> Ran
-    requires { ⌜ s < 16 ⌝ }
+    requires { ⌜ s < sitesMost ⌝ }
     ensures { λ r. ⌜ r ≡ answerTo act s ⌝ }
 {
     match act {

@@ -2,6 +2,7 @@
 ghost use mathlib.Core.Path.{_≡_};
 ghost use mathlib.Core.Bool.{cond};
 ghost use Prim.Native.Nat.{_<_, _^_};
+ghost use Rattle.base.specs.Sizes.{outputCount};
 ghost use Rattle.sets.specs.Sets.{minus, lowest};
 ghost use Rattle.model.specs.Router.{chosenCount, firstChosen, oneOutput, toOwn, Every, Unserved, spread, toOther, route};
 ghost use Rattle.rules.specs.Router.{ofChoice, routesOnly, spreadTargets, several, proper, askedBy, Routed};
@@ -53,7 +54,7 @@ fn first_chosen(sets: [u64; base::OUTPUTS]) -> usize
 
 // The whole set goes to output p.
 pub(crate) fn one_output(connection: Connection, set: u64, p: usize) -> Choice
-    requires { ⌜ p < 5 ⌝ }
+    requires { ⌜ p < outputCount ⌝ }
     ensures { λ r. ⌜ r ≡ ofChoice (oneOutput connection set p) ⌝ }
 {
     let mut sets = [0u64; base::OUTPUTS];
