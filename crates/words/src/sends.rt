@@ -2,7 +2,7 @@
 ghost use mathlib.Core.Path.{_≡_};
 ghost use Prim.Native.Nat.{_+_, _<_, _≤_};
 ghost use lib.ListN.{length};
-ghost use Rattle.base.specs.Sizes.{sitesMost, queueRoom};
+ghost use Rattle.base.specs.Sizes.{sitesMost, queueRoom, packetsMost};
 ghost use Rattle.model.specs.Types.{setSite, withOutQueue, pushOut};
 ghost use Rattle.model.specs.Steps.{enqueue};
 ghost use Rattle.model.specs.Events.{sendFaultBy, sends};
@@ -71,7 +71,7 @@ fn push_entry(words: &mut [u64], s: usize, entry: OutEntry)
 
 // The packet at the back of site s's out-queue, not started, and the counter after it.
 fn store_packet(words: &mut [u64], s: usize, packet: u8, set: u64)
-    requires { ⌜ (s < sitesMost) × (length (now words) ≡ wordCount) × (siteIn (now words) s .outgoing .count < 8) × (packet < 255) ⌝ }
+    requires { ⌜ (s < sitesMost) × (length (now words) ≡ wordCount) × (siteIn (now words) s .outgoing .count < queueRoom) × (packet < packetsMost) ⌝ }
     ensures { λ _. ⌜ Counted (now (words .entry)) (now (words .exit)) (enqueue (sitesOf (now (words .entry))) s packet set) (packet + 1) ⌝ }
 {
     let entry = OutEntry {
