@@ -63,7 +63,7 @@ build() {
     log=$root/target/build.log
     (mkdir -p "$root/target" && : >"$log") 2>/dev/null ||
         die "target/ or target/build.log cannot be written: nothing is proved, nothing is built"
-    say "proving and building $made; from nothing that takes some 8 minutes on two processors, and nothing is said for up"
+    say "proving and building $made; from nothing that takes some 9 minutes on two processors, and nothing is said for up"
     say "to 2 minutes while rules, machine or words is proved; the whole log is target/build.log"
     # a program that is gone is made again only if rt does not know it as made
     for program in $made; do
