@@ -25,7 +25,7 @@ chmod 755 "$work"
 mkdir "$work/got" "$work/desk" && cd "$work/desk" || exit 2
 got=$work/got
 
-# run R of docs/MODEL.md (one packet, owed), the archive of one site that services once, and a refused one: 23 bytes
+# run R, the archive of examples/run-r.bin (one packet, owed), the archive of one site that services once, and a refused one: 23 bytes
 printf '\0\030\001\001\003\001\0\0\0\001\0\002\001\377\377\377\377\0\0\0\0\0\0\001' >r.bin
 cp "$root/corpus/hand-one-site.bin" one.bin
 printf '\0\030\001\001\003\001\0\0\0\001\0\002\001\377\377\377\377\0\0\0\0\0\0' >short.bin

@@ -1,5 +1,5 @@
-// The sizes, each once, a byte made wider, and a number less one. specs/Sizes.antt has the same numbers; the rest of specs/ holds the
-// definitions and laws that every crate shares.
+// The sizes, each once, a byte made wider, and a number less one. specs/Sizes.antt has the same numbers; the rest of
+// specs/ holds the definitions and laws that every crate shares.
 ghost use mathlib.Core.Path.{_≡_};
 ghost use Prim.Native.Nat.{_<_, _-_};
 

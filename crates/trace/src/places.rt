@@ -1,5 +1,6 @@
 // What is seen of a state's places in its words. All use of the layout (crate layout, specs/Layout.antt and Packed.antt)
-// is here. Every function takes any words and any numbers; what is not there reads as 0.
+// is here. Every function takes any words and any numbers: words that are not there read as 0, and a number beyond its
+// range stands for its remainder.
 
 use layout::ARRIVED_FROM;
 use layout::COUNTS_PLACE;
