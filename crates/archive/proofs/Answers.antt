@@ -16,16 +16,16 @@ use Rattle.types.specs.declared.Run.{Run}
 use Rattle.model.specs.Types.{sendAt}
 use Rattle.model.specs.Network.{sizesOk, channelsOk, routesOk, networkRefusal}
 use Rattle.model.specs.Runs.{sendsOk, storedRefusal}
-use Rattle.theorems.proofs.Networks.{passed}
 use Rattle.format.specs.declared.Decoded.{Decoded}
 use Rattle.format.specs.declared.Written.{Written}
-use Rattle.format.specs.Format.{lengthOf, encode, networkOf, runOf, noRun}
+use Rattle.format.specs.Format.{lengthOf, encode, runOf, noRun}
 use Rattle.base.specs.Put.{put, put-front}
-use Rattle.archive.specs.Code.{Head, frontRefusal, sendIn}
-use Rattle.format.specs.Refusals.{headThen, readRefusal, decode, writeRefusal, writeAnswer, written}
+use Rattle.archive.specs.Code.{frontRefusal}
+use Rattle.checks.specs.Sends.{sendIn}
+use Rattle.format.specs.Faults.{faultOf}
+use Rattle.format.specs.Refusals.{readRefusal, decode, writeRefusal, writeAnswer, written}
 use Rattle.model.specs.Runs.{bodyRefusal}
-use Rattle.archive.proofs.Passed.{head-then}
-use Rattle.archive.proofs.SendsLaws.{sends-in}
+use Rattle.checks.proofs.SendsLaws.{sends-in}
 
 -- ---- the network's refusal f
 
@@ -46,20 +46,6 @@ sizes-not n e = go (sizesOk n) (channelsOk n) (routesOk n) e
     go true true false q = absurd (omega arith)
     go true false t q = absurd (omega arith)
     go false c t q = refl
-
-module _ (r : Run) (f : ℕ) (e : f ≡ networkRefusal (r .network)) where
-  pub body-network : sizesOk (r .network) ≡ true → (f ≡ 0 → ⊥) → f ≡ bodyRefusal r
-  unfolding networkRefusal bodyRefusal
-  body-network s h = go (channelsOk (r .network)) (routesOk (r .network)) (e ∙ rw s refl)
-    where
-      go : (c t : Bool) → f ≡ cond c (cond t 0 7) 6 → f ≡ cond c (cond t (cond (sendsOk r) 0 8) 7) 6
-      go true true q = absurd (h q)
-      go true false q = q
-      go false t q = q
-
-  pub body-sends : f ≡ 0 → (b : Bool) → sendsOk r ≡ b → bodyRefusal r ≡ cond b 0 8
-  unfolding bodyRefusal
-  body-sends h b s = let p = passed (r .network) (sym e ∙ h) in rw (p .1, p .2, s) refl
 
 -- ---- the writer's refusals 3 to 7
 
@@ -126,32 +112,12 @@ module _ (r : Run) where
         → 8 ≡ storedRefusal r
     sends-failed h k l s = sends-then h false (sym (sends-in r) ∙ all-fails _ k (r .count) l s)
 
--- ---- the body of an archive whose network was read
-
-module _ (b : List ℕ) (h : Head b) (n : Network) (en : n ≡ networkOf b) (f : ℕ) (ef : f ≡ networkRefusal n) where
-  of-run : f ≡ networkRefusal (runOf b .network)
-  unfolding runOf
-  of-run = ef ∙ ap networkRefusal en
-
-  sizes-run : sizesOk (runOf b .network) ≡ true
-  unfolding runOf
-  sizes-run = h .sizes
-
-  pub archive-network : (f ≡ 0 → ⊥) → f ≡ bodyRefusal (runOf b)
-  archive-network k = body-network (runOf b) f of-run sizes-run k
-
-  pub archive-sends : f ≡ 0 → (t : Bool) → sendsOk (runOf b) ≡ t → cond t 0 8 ≡ bodyRefusal (runOf b)
-  archive-sends k t s = sym (body-sends (runOf b) f of-run k t s)
-
 -- ---- the reader
 
-pub read-head : (b : List ℕ) (f : ℕ) → f ≡ headThen b 0 → (f ≡ 0 → ⊥) → f ≡ readRefusal b
-unfolding readRefusal
-read-head b f e h = sym (head-then b (bodyRefusal (runOf b)) ∙ (rw (← e, ne-eqb f 0 h) refl))
-
-pub read-body : (b : List ℕ) (f g : ℕ) → f ≡ headThen b 0 → f ≡ 0 → g ≡ bodyRefusal (runOf b) → g ≡ readRefusal b
-unfolding readRefusal
-read-body b f g e h eg = sym (head-then b (bodyRefusal (runOf b)) ∙ (rw (← e, eq-eqb f 0 h) (sym eg)))
+-- what the bytes are judged, taken apart
+pub fault-refusal : (b : List ℕ) → faultOf b .refusal ≡ readRefusal b
+unfolding faultOf
+fault-refusal b = refl
 
 pub decode-no : (b : List ℕ) (f : ℕ) → f ≡ readRefusal b → (f ≡ 0 → ⊥)
     → _≡_ {A = Decoded} (record { refusal = f; run = noRun }) (decode b)

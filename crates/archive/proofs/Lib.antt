@@ -6,5 +6,4 @@ pub mod RoundTripBytes
 pub mod Room
 pub mod RoundTripRuns
 pub mod Put
-pub mod SendsLaws
 pub mod Answers

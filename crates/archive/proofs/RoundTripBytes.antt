@@ -14,13 +14,13 @@ use Rattle.base.specs.Over.{over-below}
 use Rattle.model.specs.Types.{sendD}
 use Rattle.format.specs.Format.{Bytes, at, word, wordBytes, sendBytes, sendOf, headBytes, encode, lengthOf, sitesPlace, countPlace}
 use Rattle.format.specs.Format.{headLength, routesPlace, sendsPlace, networkOf, runOf}
-use Rattle.archive.specs.Code.{Head}
+use Rattle.faults.specs.Head.{Head}
 use Rattle.format.specs.Refusals.{readRefusal}
 use Rattle.model.specs.Network.{noChannels, noRoutes}
 use Rattle.model.specs.Runs.{bodyRefusal, noSends}
 use Rattle.archive.proofs.Numbers.{high, low, first, second, third, fourth}
 use Rattle.archive.proofs.Parts.{length-encode, in-head, in-channels, in-routes, in-sends}
-use Rattle.archive.proofs.Passed.{head-passes}
+use Rattle.faults.proofs.HeadLaws.{head-passes}
 
 lt-or-ge : (i n : ℕ) → (i < n) ⊎ (n ≤ i)
 lt-or-ge i n = go (ltb i n) refl

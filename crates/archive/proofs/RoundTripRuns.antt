@@ -29,7 +29,8 @@ use Rattle.format.specs.Refusals.{readRefusal, decode}
 use Rattle.model.specs.Runs.{bodyRefusal}
 use Rattle.archive.proofs.Numbers.{two, four}
 use Rattle.archive.proofs.Parts.{length-encode, in-head, in-channels, in-routes, in-sends}
-use Rattle.archive.proofs.Passed.{head-passes, head-by, body-passes, Stored, stored-passes, stored-by}
+use Rattle.faults.proofs.HeadLaws.{head-passes, head-by}
+use Rattle.archive.proofs.Passed.{body-passes, Stored, stored-passes, stored-by}
 use Rattle.archive.proofs.RoundTripBytes.{write-read}
 use Rattle.format.specs.Format.{Bytes, Fits}
 

@@ -1,67 +1,16 @@
-// The reader: the tests of the head, the network, the tests of the body, then the sends. The sends are tested where they
-// stand, so that no array of them is made for an archive that is turned down.
+// The reader: the bytes are judged where they lie (crate faults), and only those of an archive are made a run, once.
 ghost use mathlib.Core.Path.{_≡_};
 ghost use Prim.Native.Nat.{_+_, _*_, _≤_, _<_};
 ghost use lib.ListN.{length};
 ghost use Rattle.base.specs.Sizes.{sitesMost, portCount, sendsMost};
-ghost use Rattle.base.specs.All.{all};
-ghost use Rattle.format.specs.Format.{word, quad, headLength, channelsOf, routesOf, sendOf, sendsOf, networkOf, runOf, noRun};
-ghost use Rattle.format.specs.Refusals.{headThen, readRefusal, decode};
-ghost use Rattle.model.specs.Runs.{bodyRefusal, noSends};
-ghost use Rattle.archive.specs.Code.{Head, sendIn, sendsFrom};
+ghost use Rattle.faults.specs.Head.{Head};
+ghost use Rattle.format.specs.Format.{quad, headLength, seedPlace, channelsOf, routesOf, sendOf, sendsOf, networkOf, runOf, noRun};
+ghost use Rattle.format.specs.Refusals.{readRefusal, decode};
+ghost use Rattle.model.specs.Runs.{noSends};
 use format::Decoded;
 use types::Network;
 use types::Run;
 use types::StoredSend;
-
-// Two bytes, the higher first.
-fn word_at(b: &[u8], i: usize) -> u16
-    requires { ⌜ i + 1 < length (now b) ⌝ }
-    ensures { λ r. ⌜ r ≡ word (now (b .entry)) i ⌝ }
-{
-    (base::wide(b[i]) * 256 + base::wide(b[i + 1])) as u16
-}
-
-fn quad_at(b: &[u8], i: usize) -> u32
-    requires { ⌜ i + 3 < length (now b) ⌝ }
-    ensures { λ r. ⌜ r ≡ quad (now (b .entry)) i ⌝ }
-{
-    (word_at(b, i) as u32) * 65536 + (word_at(b, i + 2) as u32)
-}
-
-// 1 to 5, or 0.
-fn head_refusal(b: &[u8]) -> u8
-    ensures { λ r. ⌜ r ≡ headThen (now (b .entry)) 0 ⌝ }
-{
-    if b.len() < 13 {
-        return 1;
-    }
-    if (word_at(b, 0) as usize) != b.len() {
-        return 1;
-    }
-    if b[2] != 1 {
-        return 2;
-    }
-    let sites = base::wide(b[3]);
-    let tries = b[4];
-    let depth = base::wide(b[5]);
-    if (1 <= sites)
-        & (sites <= base::SITES)
-        & (1 <= tries)
-        & (1 <= depth)
-        & (depth <= base::QUEUE)
-    {
-        if quad_at(b, 6) == 0 {
-            return 4;
-        }
-        let count = base::wide(b[12]);
-        if b.len() == crate::size_of(sites, count) {
-            return 0;
-        }
-        return 5;
-    }
-    3
-}
 
 fn read_channels(b: &[u8], n: usize) -> [u8; base::PORTS * base::SITES]
     requires { ⌜ (n ≤ portCount * sitesMost) × (headLength + n ≤ length (now b)) ⌝ }
@@ -83,7 +32,8 @@ fn read_routes(b: &[u8], p: usize, n: usize) -> [u16; base::SITES * base::SITES]
     let mut routes = [0u16; base::SITES * base::SITES];
     let mut k: usize = 0;
     while k < n {
-        routes[k] = word_at(b, p + 2 * k);
+        let at = p + 2 * k;
+        routes[k] = base::word(b[at], b[at + 1]);
         k += 1;
     }
     routes
@@ -93,9 +43,10 @@ fn send_at(b: &[u8], p: usize) -> StoredSend
     requires { ⌜ p + 4 < length (now b) ⌝ }
     ensures { λ r. ⌜ r ≡ sendOf (now (b .entry)) p ⌝ }
 {
+    let at = p + 3;
     StoredSend {
-        set: word_at(b, p + 3) as u64,
-        draw: word_at(b, p),
+        set: base::word(b[at], b[at + 1]) as u64,
+        draw: base::word(b[p], b[p + 1]),
         site: b[p + 2],
     }
 }
@@ -146,14 +97,22 @@ fn read_network(b: &[u8]) -> Network
     }
 }
 
-fn read_run(b: &[u8], network: Network) -> Run
-    requires { ⌜ Head (now b) × (network ≡ networkOf (now b)) ⌝ }
+fn read_seed(b: &[u8]) -> u32
+    requires { ⌜ headLength ≤ length (now b) ⌝ }
+    ensures { λ r. ⌜ r ≡ quad (now (b .entry)) seedPlace ⌝ }
+{
+    base::quad(base::word(b[6], b[7]), base::word(b[8], b[9]))
+}
+
+fn read_run(b: &[u8]) -> Run
+    requires { ⌜ Head (now b) ⌝ }
     ensures { λ r. ⌜ r ≡ runOf (now (b .entry)) ⌝ }
 {
+    let network = read_network(b);
     let sites = base::wide(b[3]);
     let count = base::wide(b[12]);
-    let seed = quad_at(b, 6);
-    let draws = word_at(b, 10);
+    let seed = read_seed(b);
+    let draws = base::word(b[10], b[11]);
     let sends = read_sends(b, 13 + base::PORTS * sites + 2 * (sites * sites), count);
     Run {
         network: network,
@@ -162,49 +121,6 @@ fn read_run(b: &[u8], network: Network) -> Run
         count: count,
         sends: sends,
     }
-}
-
-// The n sends from place p on, before they are read into a run.
-fn sends_fit(b: &[u8], p: usize, n: usize, sites: usize, draws: u16) -> bool
-    requires { ⌜ (n ≤ sendsMost) × (p + 5 * n ≤ length (now b)) ⌝ }
-    ensures { λ r. ⌜ r ≡ all (sendIn sites draws (sendsFrom (now (b .entry)) p)) n ⌝ }
-{
-    let mut last: u16 = 0;
-    let mut k: usize = 0;
-    while k < n {
-        let send = send_at(b, p + 5 * k);
-        if crate::sends::send_ok(send, sites, draws, last) {
-            last = send.draw;
-            k += 1;
-        } else {
-            return false;
-        }
-    }
-    true
-}
-
-// 6 to 8, or 0, of an archive with this network.
-fn body_refusal(b: &[u8], network: Network) -> u8
-    requires { ⌜ Head (now b) × (network ≡ networkOf (now b)) ⌝ }
-    ensures { λ r. ⌜ r ≡ bodyRefusal (runOf (now (b .entry))) ⌝ }
-{
-    let refusal = checks::network_refusal(network);
-    if refusal != 0 {
-        return refusal;
-    }
-    let sites = base::wide(b[3]);
-    let count = base::wide(b[12]);
-    let draws = word_at(b, 10);
-    if sends_fit(
-        b,
-        13 + base::PORTS * sites + 2 * (sites * sites),
-        count,
-        sites,
-        draws,
-    ) {
-        return 0;
-    }
-    8
 }
 
 fn refused(refusal: u8) -> Decoded
@@ -236,16 +152,12 @@ fn refused(refusal: u8) -> Decoded
 pub fn read(bytes: &[u8]) -> Decoded
     ensures { λ r. ⌜ r ≡ decode (now (bytes .entry)) ⌝ }
 {
-    let first = head_refusal(bytes);
-    if first != 0 {
-        return refused(first);
+    let fault = faults::find(bytes);
+    let refusal = fault.refusal;
+    if refusal != 0 {
+        return refused(refusal);
     }
-    let network = read_network(bytes);
-    let second = body_refusal(bytes, network);
-    if second != 0 {
-        return refused(second);
-    }
-    let run = read_run(bytes, network);
+    let run = read_run(bytes);
     Decoded {
         refusal: 0,
         run: run,
@@ -256,10 +168,6 @@ pub fn read(bytes: &[u8]) -> Decoded
 pub fn check(bytes: &[u8]) -> u8
     ensures { λ r. ⌜ r ≡ readRefusal (now (bytes .entry)) ⌝ }
 {
-    let first = head_refusal(bytes);
-    if first != 0 {
-        return first;
-    }
-    let network = read_network(bytes);
-    body_refusal(bytes, network)
+    let fault = faults::find(bytes);
+    fault.refusal
 }

@@ -136,14 +136,14 @@ pub fn write(run: Run, out: &mut [u8]) -> Written
     let mut k: usize = 0;
     while k < count {
         let send = run.sends[k];
-        if crate::sends::send_ok(send, sites, draws, last) {
+        if checks::stored_ok(send.draw, send.site, send.set, sites, draws, last) {
             last = send.draw;
             k += 1;
         } else {
             return turned_down(8);
         }
     }
-    let size = crate::size_of(sites, count);
+    let size = faults::size_of(sites as u8, count as u8);
     if out.len() < size {
         return turned_down(14);
     }

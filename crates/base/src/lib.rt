@@ -1,7 +1,7 @@
-// The sizes, each once, a byte made wider, and a number less one. specs/Sizes.antt has the same numbers; the rest of
-// specs/ holds the definitions and laws that every crate shares.
+// The sizes, each once, a byte made wider, numbers of two and four bytes, and a number less one. specs/Sizes.antt has the
+// same sizes; the rest of specs/ holds the definitions and laws that every crate shares.
 ghost use mathlib.Core.Path.{_≡_};
-ghost use Prim.Native.Nat.{_<_, _-_};
+ghost use Prim.Native.Nat.{_<_, _+_, _-_, _*_};
 
 // Sites of a network at most.
 pub const SITES: usize = 16;
@@ -29,6 +29,20 @@ pub fn wide(x: u8) -> usize
     ensures { λ r. ⌜ (r ≡ x) × (r < 256) ⌝ }
 {
     x as usize
+}
+
+// The number of two bytes, the higher first.
+pub fn word(high: u8, low: u8) -> u16
+    ensures { λ r. ⌜ r ≡ high * 256 + low ⌝ }
+{
+    (wide(high) * 256 + wide(low)) as u16
+}
+
+// The number of four bytes, by the words of the higher two and of the lower two.
+pub fn quad(high: u16, low: u16) -> u32
+    ensures { λ r. ⌜ r ≡ high * 65536 + low ⌝ }
+{
+    (high as u32) * 65536 + (low as u32)
 }
 
 // One less, and 0 of 0.

@@ -3,9 +3,9 @@
 use mathlib.Core.Path.{_≡_, refl, sym, ap, _∙_}
 use mathlib.Core.Bool.{Bool, true, false, not, _&&_, _||_, and-true}
 use mathlib.Core.List.{List}
-use Prim.Native.Nat.{ℕ, zero, suc, _+_, _*_, _≤_, _<_}
+use Prim.Native.Nat.{ℕ, zero, suc, _+_, _*_, _/_, _≤_, _<_}
 use native.Mathlib.Omega.{arith}
-use borrow.Author.Tests.{eq-eqb, ne-eqb, lt-leb, lt-ltb, le-ltb, eqb-true, eqb-false, leb-true}
+use borrow.Author.Tests.{eq-eqb, ne-eqb, lt-leb, lt-ltb, le-ltb, ltb-true, ltb-false, eqb-true, eqb-false, leb-true}
 use lib.Dec.{eqb, ltb, leb}
 use lib.ListN.{length, getD, set, replicate}
 use lib.Seq.{getD-set-same, getD-set-other}
@@ -58,6 +58,18 @@ row-by n s m ports e =
     rw e (all-same (λ t. routeBy (portsOf n s) s t (routeOf n s t)) (routeOk n s) m (λ t h. route-by n s t))
 
 -- ---- channels
+
+-- a byte below 4S is that of an input whose site is below S; v is the byte as a number
+pub input-below : (v b S : ℕ) → v ≡ b → ltb (v / portCount) S ≡ ltb b (portCount * S)
+input-below v b S e = go (ltb b (portCount * S)) refl
+  where
+    go : (t : Bool) → ltb b (portCount * S) ≡ t → ltb (v / portCount) S ≡ t
+    go true q = lt-ltb (v / portCount) S (omega (arith, e, ltb-true b (portCount * S) q))
+    go false q = le-ltb (v / portCount) S (omega (arith, e, ltb-false b (portCount * S) q))
+
+-- what `is_input` answered, r
+pub input-known : (v b S : ℕ) (r : Bool) → v ≡ b → r ≡ ltb b (portCount * S) → r ≡ true → v < portCount * S
+input-known v b S r e er h = omega (arith, e, ltb-true b (portCount * S) (sym er ∙ h))
 
 -- the byte at place c of the channels cs, and the model's test of it among e places
 abbrev pub byteAt : List ℕ → ℕ → ℕ

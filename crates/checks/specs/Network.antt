@@ -1,20 +1,28 @@
--- The model's test of a route, over a table of the hex digits that may stand in a list. Assumes nothing.
+-- The model's tests of a network's parts as numbers: S, T and D, and a route over a table of the hex digits that may
+-- stand in a list. Assumes nothing.
 use mathlib.Core.Bool.{Bool, true, false, not, _&&_, _||_}
 use mathlib.Core.List.{List, [], _∷_}
 use Prim.Native.Nat.{ℕ, _+_, _-_}
-use lib.Dec.{eqb}
+use lib.Dec.{eqb, leb}
 use lib.ListN.{getD}
-use Rattle.base.specs.Sizes.{portCount}
+use Rattle.base.specs.Sizes.{sitesMost, portCount, queueRoom}
 use Rattle.base.specs.Bools.{implies}
 use Rattle.base.specs.All.{all}
 use Rattle.types.specs.declared.Network.{Network}
 use Rattle.model.specs.Network.{joined, choice, choices, differs}
 
+-- sizesOk of S, T and D
+abbrev pub sizesIn : ℕ → ℕ → ℕ → Bool
+sizesIn S T D = leb 1 S && leb S sitesMost && leb 1 T && leb 1 D && leb D queueRoom
+
 -- the digits 0 to 15 that may stand in a list of site s: 0, and the ports with a channel
-abbrev pub portsOf : Network → ℕ → List Bool
-portsOf n s =
-    true ∷ joined n s 1 ∷ joined n s 2 ∷ joined n s 3 ∷ joined n s 4
+abbrev pub portsBy : Bool → Bool → Bool → Bool → List Bool
+portsBy a b c d =
+    true ∷ a ∷ b ∷ c ∷ d
     ∷ false ∷ false ∷ false ∷ false ∷ false ∷ false ∷ false ∷ false ∷ false ∷ false ∷ false ∷ []
+
+abbrev pub portsOf : Network → ℕ → List Bool
+portsOf n s = portsBy (joined n s 1) (joined n s 2) (joined n s 3) (joined n s 4)
 
 -- listOk and routeOk with such a table for portOk
 abbrev pub listBy : List Bool → List ℕ → Bool

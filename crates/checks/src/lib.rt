@@ -3,8 +3,12 @@ mod network;
 mod range;
 mod send;
 
+pub use network::is_input;
 pub use network::network_refusal;
+pub use network::route_ok;
+pub use network::sizes_ok;
 pub use range::event_refusal;
 pub use range::is_in_range;
 pub use range::place_ok;
 pub use send::send_fault;
+pub use send::stored_ok;

@@ -1,22 +1,27 @@
 // Is this a network: the refusal 3, 6 or 7, or 0. Room beyond S sites is not looked at. A test leaves at the first place
-// that fails it.
+// that fails it. The tests of S, T and D, of a channel byte and of a route take numbers, so that they serve a network in
+// lent bytes too.
 ghost use mathlib.Core.Path.{_≡_};
 ghost use Prim.Native.Nat.{_≤_, _<_, _*_};
-ghost use Rattle.base.specs.Sizes.{sitesMost};
+ghost use lib.Dec.{ltb};
+ghost use Rattle.base.specs.Sizes.{sitesMost, portCount};
 ghost use Rattle.base.specs.All.{all};
-ghost use Rattle.model.specs.Network.{sizesOk, channelsOk, routeOk, routesOk, networkRefusal};
-ghost use Rattle.checks.specs.Network.{portsOf, routeBy};
+ghost use Rattle.model.specs.Network.{channelsOk, routeOk, routesOk, networkRefusal};
+ghost use Rattle.checks.specs.Network.{sizesIn, portsOf, routeBy};
 use types::Network;
 
 // S, T and D within their limits.
-fn sizes_ok(network: Network) -> bool
-    ensures { λ r. ⌜ r ≡ sizesOk network ⌝ }
+pub fn sizes_ok(sites: usize, tries: u8, depth: usize) -> bool
+    ensures { λ r. ⌜ r ≡ sizesIn sites tries depth ⌝ }
 {
-    (1 <= network.sites)
-        & (network.sites <= base::SITES)
-        & (1 <= network.tries)
-        & (1 <= network.depth)
-        & (network.depth <= base::QUEUE)
+    (1 <= sites) & (sites <= base::SITES) & (1 <= tries) & (1 <= depth) & (depth <= base::QUEUE)
+}
+
+// Whether a channel byte stands for an input of a network with so many sites: it is below 4S.
+pub fn is_input(byte: u8, sites: usize) -> bool
+    ensures { λ r. ⌜ r ≡ ltb byte (portCount * sites) ⌝ }
+{
+    base::wide(byte) / base::PORTS < sites
 }
 
 // No channel byte but 255 and the inputs of the network, and no input fed twice.
@@ -25,7 +30,8 @@ fn channels_ok(network: Network) -> bool
     ensures { λ r. ⌜ r ≡ channelsOk network ⌝ }
 {
     let channels = network.channels;
-    let end = base::PORTS * network.sites;
+    let sites = network.sites;
+    let end = base::PORTS * sites;
     let mut fed = [false; base::PORTS * base::SITES];
     let mut c: usize = 0;
     while c < end {
@@ -34,16 +40,16 @@ fn channels_ok(network: Network) -> bool
             c += 1;
             continue;
         }
-        let input = base::wide(byte);
-        if end <= input {
-            return false;
+        if is_input(byte, sites) {
+            let input = base::wide(byte);
+            if fed[input] {
+                return false;
+            }
+            fed[input] = true;
+            c += 1;
+            continue;
         }
-        if fed[input] {
-            return false;
-        }
-        fed[input] = true;
-        c += 1;
-        continue;
+        return false;
     }
     true
 }
@@ -76,7 +82,7 @@ fn ports_of(network: Network, s: usize) -> [bool; 16]
 }
 
 // The route from site s to site t, where the digits in `ports` may stand: all zero from a site to itself, else a list.
-fn route_ok(ports: [bool; 16], s: usize, t: usize, route: u16) -> bool
+pub fn route_ok(ports: [bool; 16], s: usize, t: usize, route: u16) -> bool
     ensures { λ r. ⌜ r ≡ routeBy ports s t route ⌝ }
 {
     let w = route as usize;
@@ -131,7 +137,7 @@ fn routes_ok(network: Network) -> bool
 pub fn network_refusal(network: Network) -> u8
     ensures { λ r. ⌜ r ≡ networkRefusal network ⌝ }
 {
-    if sizes_ok(network) {
+    if sizes_ok(network.sites, network.tries, network.depth) {
         if channels_ok(network) {
             if routes_ok(network) {
                 return 0;

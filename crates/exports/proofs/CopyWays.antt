@@ -1,64 +1,42 @@
--- The ways of `fennqualo_copy`: its refusal and the room by what reader and writer answer. Assumes what each law names.
-use Prim.Native.Nat.{ℕ}
+-- The ways of `fennqualo_copy`: its refusal and the room by what the reader answers; bytes put one by one are put at the
+-- front. Assumes what each law names.
+use Prim.Native.Nat.{ℕ, zero, suc, _≤_, _<_}
 use mathlib.Core.Path.{_≡_, refl, sym, ap, _∙_}
-use mathlib.Core.Bool.{Bool, true, false, cond}
-use mathlib.Core.List.{List}
-use borrow.Author.Tests.{eqb-true, ne-eqb}
-use lib.Dec.{eqb}
+use mathlib.Core.List.{List, [], _∷_}
+use native.Mathlib.Nat.{not-suc-le-zero, le-of-suc-le-suc}
+use borrow.Author.Tests.{eq-eqb, ne-eqb, lt-ltb, le-ltb}
 use lib.ListN.{length}
-use Rattle.types.specs.declared.Run.{Run}
-use Rattle.model.specs.Runs.{storedRefusal}
-use Rattle.format.specs.declared.Decoded.{Decoded}
-use Rattle.format.specs.declared.Written.{Written}
-use Rattle.format.specs.Format.{Bytes, lengthOf, runOf}
-use Rattle.format.specs.Refusals.{readRefusal, decode, writeRefusal, writeAnswer, written}
-use Rattle.archive.proofs.Parts.{length-encode}
-use Rattle.archive.proofs.RoundTripBytes.{write-read}
-use Rattle.machine.proofs.PlayerAnswers.{read-refusal, read-run, read-count, read-stored}
+use Rattle.base.specs.Answers.{atFront}
+use Rattle.base.specs.Over.{over}
+use Rattle.format.specs.Format.{at}
+use Rattle.format.specs.Refusals.{readRefusal}
 use Rattle.calls.specs.Calls.{copyRefusal, copyAfter}
 
--- the writer's answer, taken apart
-write-refusal : (r : Run) (room : ℕ) → writeAnswer r room .refusal ≡ writeRefusal r room
-unfolding writeAnswer
-write-refusal r room = go (eqb (writeRefusal r room) 0) refl
-  where
-    go : (t : Bool) → eqb (writeRefusal r room) 0 ≡ t
-        → cond {A = Written} t (record { refusal = 0; length = lengthOf r })
-        (record { refusal = writeRefusal r room; length = 0 }) .refusal ≡ writeRefusal r room
-    go true e = sym (eqb-true (writeRefusal r room) 0 e)
-    go false e = refl
+-- one by one, as many as there are
+pub all-put : (b out : List ℕ) → length b ≤ length out → over (at b) (length b) out ≡ atFront b out
+unfolding over atFront
+all-put [] out h = refl
+all-put (x ∷ b) [] h = absurd (not-suc-le-zero h)
+all-put (x ∷ b) (y ∷ out) h = ap (λ (l : List ℕ). x ∷ l) (all-put b out (le-of-suc-le-suc h))
 
-module _ (b out : List ℕ) (d : Decoded) (ed : d ≡ decode b) where
+module _ (b out : List ℕ) (f : ℕ) (e : f ≡ readRefusal b) where
   -- what the contract says of an answer, and of the room after the call
   abbrev Answered : ℕ → List ℕ → Type 0
   Answered r after = (r ≡ copyRefusal b (length out)) × (after ≡ copyAfter b out)
 
-  same-refusal : d .refusal ≡ readRefusal b
-  same-refusal = ap (λ (d : Decoded). d .refusal) ed ∙ read-refusal b
-
-  pub copy-refused : (d .refusal ≡ 0 → ⊥) → Answered (d .refusal) out
+  pub copy-refused : (f ≡ 0 → ⊥) → Answered f out
   unfolding copyRefusal copyAfter
-  copy-refused h =
-      let f = ne-eqb (readRefusal b) 0 (λ z. h (same-refusal ∙ z)) in (rw (f) same-refusal, rw (f, f) refl)
+  copy-refused h = let n = ne-eqb f 0 h in (rw (← e, n) refl, rw (← e, n, n) refl)
 
-  module _ (w : Bytes b) (z : d .refusal ≡ 0) where
-    passes : readRefusal b ≡ 0
-    passes = sym same-refusal ∙ z
+  module _ (z : f ≡ 0) where
+    pub copy-short : length out < length b → Answered 14 out
+    unfolding copyRefusal copyAfter
+    copy-short l =
+        let n = eq-eqb f 0 z in
+        let s = lt-ltb (length out) (length b) l in (rw (← e, n, s) refl, rw (← e, n, s) refl)
 
-    long : lengthOf (runOf b) ≡ length b
-    long = sym (length-encode (runOf b)) ∙ ap length (write-read b w passes)
-
-    stored : storedRefusal (runOf b) ≡ 0
-    stored = rw (read-run b d ed z) at (read-stored b d ed z (read-count b d ed z (w 12)))
-
-    same-room : writeRefusal (d .run) (length out) ≡ copyRefusal b (length out)
-    unfolding writeRefusal copyRefusal
-    same-room = rw (read-run b d ed z, stored, long, passes) refl
-
-    pub copy-written : (a : Written) (after : List ℕ) → a ≡ writeAnswer (d .run) (length out)
-        → after ≡ written (d .run) out → Answered (a .refusal) after
-    unfolding copyAfter written
-    copy-written a after ea ew = (
-      ap (λ (a : Written). a .refusal) ea ∙ write-refusal (d .run) (length out) ∙ same-room,
-      ew ∙ (rw (same-room, read-run b d ed z, write-read b w passes) refl),
-    )
+    pub copy-done : (after : List ℕ) → length b ≤ length out → after ≡ atFront b out → Answered 0 after
+    unfolding copyRefusal copyAfter
+    copy-done after l p =
+        let n = eq-eqb f 0 z in
+        let s = le-ltb (length out) (length b) l in (rw (← e, n, s) refl, rw (← e, n, s) p)

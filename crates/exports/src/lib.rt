@@ -58,8 +58,20 @@ pub extern "C" fn fennqualo_play(bytes: &[u8], book: &mut [u8], counts: &mut [u6
     0
 }
 
-// Reads an archive and writes it: the same bytes at the front of the room. Refusals 1 to 8, then 14 for a room too
-// short.
+// The bytes at the front of a lent slice.
+fn put_bytes(bytes: &[u8], out: &mut [u8])
+    requires { ⌜ length (now bytes) ≤ length (now out) ⌝ }
+    ensures { λ _. ⌜ now (out .exit) ≡ atFront (now (bytes .entry)) (now (out .entry)) ⌝ }
+{
+    let mut i: usize = 0;
+    while i < bytes.len() {
+        out[i] = bytes[i];
+        i += 1;
+    }
+}
+
+// Copies an archive to the front of the room. The writer would give the same bytes for its run (`write-read`), so no run is
+// made. Refusals 1 to 8, then 14 for a room too short.
 #[no_mangle]
 pub extern "C" fn fennqualo_copy(bytes: &[u8], out: &mut [u8]) -> u8
     ensures { λ r. ⌜
@@ -67,12 +79,13 @@ pub extern "C" fn fennqualo_copy(bytes: &[u8], out: &mut [u8]) -> u8
         × (now (out .exit) ≡ copyAfter (now (bytes .entry)) (now (out .entry)))
         ⌝ }
 {
-    let decoded = archive::read(bytes);
-    let refusal = decoded.refusal;
-    let run = decoded.run;
+    let refusal = archive::check(bytes);
     if refusal != 0 {
         return refusal;
     }
-    let written = archive::write(run, out);
-    written.refusal
+    if out.len() < bytes.len() {
+        return 14;
+    }
+    put_bytes(bytes, out);
+    0
 }

@@ -1,77 +1,113 @@
--- The model's test of one channel, one route and one send, over the bytes of an archive whose head passed. Assumes
--- nothing.
+-- What the bytes of an archive whose head passed hold: the model's channels, tables of ports, routes and sends, where they
+-- stand. Assumes nothing.
 use mathlib.Core.Path.{_≡_, refl, sym, ap, _∙_}
-use mathlib.Core.Bool.{Bool, cond, not, _&&_, _||_}
+use mathlib.Core.Bool.{Bool, not, _&&_, _||_}
 use mathlib.Core.List.{List}
-use Prim.Native.Nat.{ℕ, zero, suc, _+_, _-_, _*_, _/_, _%_, _≤_, _<_}
-use native.Mathlib.Nat.{div-add-mod', not-suc-le-zero}
+use Prim.Native.Nat.{ℕ, _+_, _*_, _≤_, _<_}
 use native.Mathlib.Omega.{arith}
-use borrow.Author.Tests.{eq-eqb, ne-eqb, le-leb}
 use lib.Dec.{eqb, ltb}
-use lib.ListN.{getD}
-use Rattle.base.specs.Sizes.{portCount, noChannel}
-use Rattle.base.specs.Bools.{either-way}
+use lib.ListN.{length}
+use Rattle.base.specs.Sizes.{sitesMost, portCount, noChannel}
 use Rattle.base.specs.All.{all, all-same}
+use Rattle.base.specs.Flat.{place-below}
 use Rattle.base.specs.Over.{over-below}
+use Rattle.types.specs.declared.StoredSend.{StoredSend}
 use Rattle.model.specs.Types.{sendD, sendAt}
-use Rattle.model.specs.Network.{channelByte, channelOk, portOk, routeOf, listOk, choices, noChannels, noRoutes}
-use Rattle.model.specs.Runs.{noSends}
-use Rattle.archive.specs.Code.{Head}
-use Rattle.format.specs.Format.{at, word, sitesPlace, countPlace, headLength, routesPlace, sendsPlace, sendOf, networkOf, runOf}
-use Rattle.format.specs.Faults.{numberedOk, itemCount}
+use Rattle.model.specs.Network.{channelByte, isChannel, channelOk, routeOf, routeOk, noChannels, noRoutes}
+use Rattle.model.specs.Runs.{sendOk, noSends}
+use Rattle.checks.specs.Network.{portsBy, portsOf, routeBy}
+use Rattle.checks.specs.Sends.{drawBefore, sendAfter}
+use Rattle.checks.proofs.NetworkLaws.{route-by}
+use Rattle.checks.proofs.SendsLaws.{draw-next, send-in}
+use Rattle.faults.specs.Head.{Head}
+use Rattle.format.specs.Format.{at, word, sitesPlace, drawsPlace, countPlace, headLength, routesPlace, sendsPlace, sendOf, networkOf, runOf}
+
+pub sites-held : (b : List ℕ) (S : ℕ) → S ≡ at b sitesPlace → S ≡ networkOf b .sites
+unfolding networkOf
+sites-held b S e = e
+
+pub count-held : (b : List ℕ) (N : ℕ) → N ≡ at b countPlace → N ≡ runOf b .count
+unfolding runOf
+count-held b N e = e
 
 module _ (b : List ℕ) (h : Head b) where
   -- ---- channels
 
-  pub channel-held : (m : ℕ) → m < portCount * at b sitesPlace → channelByte (networkOf b) m ≡ at b (headLength + m)
+  channel-held : (m : ℕ) → m < portCount * at b sitesPlace → channelByte (networkOf b) m ≡ at b (headLength + m)
   unfolding networkOf
   channel-held m l =
       over-below (λ c. at b (headLength + c)) (portCount * at b sitesPlace) noChannels m 0 l (omega (arith, h .few))
 
-  pub channel-tested : (m e : ℕ) → m < portCount * at b sitesPlace → e ≡ portCount * at b sitesPlace
-      → eqb (at b (headLength + m)) noChannel
-      || ltb (at b (headLength + m)) e
-      && all (λ i. not (eqb (at b (headLength + i)) (at b (headLength + m)))) m
-      ≡ channelOk (networkOf b) m
+  -- the test of channel m, with what was said of its byte: below 4S, and before it no other is the same
+  pub channel-tested : (m S : ℕ) (below new : Bool) → S ≡ at b sitesPlace → m < portCount * S
+      → below ≡ ltb (at b (headLength + m)) (portCount * S)
+      → new ≡ all (λ i. not (eqb (at b (headLength + i)) (at b (headLength + m)))) m
+      → eqb (at b (headLength + m)) noChannel || below && new ≡ channelOk (networkOf b) m
   unfolding networkOf
-  channel-tested m e l q =
+  channel-tested m S below new eS l eb en =
       let v = at b (headLength + m) in
       let same =
       all-same (λ i. not (eqb (channelByte (networkOf b) i) v)) (λ i. not (eqb (at b (headLength + i)) v)) m
       (λ i k. ap (λ (x : ℕ). not (eqb x v)) (channel-held i (omega arith))) in
-      sym (rw (channel-held m l, same, q) refl)
+      sym (rw (channel-held m (omega arith), same, ← eS, ← eb, ← en) refl)
+
+  -- the table of the ports of site s
+  abbrev portAt : ℕ → Bool
+  portAt i = isChannel (at b i)
+
+  pub ports-held : (s p : ℕ) → s < at b sitesPlace → p ≡ headLength + portCount * s
+      → portsBy (portAt p) (portAt (p + 1)) (portAt (p + 2)) (portAt (p + 3)) ≡ portsOf (networkOf b) s
+  ports-held s p l e =
+      let held : (j q : ℕ) → j < portCount → q ≡ p + j → channelByte (networkOf b) (portCount * s + j) ≡ at b q =
+      λ j q k f. channel-held (portCount * s + j) (omega arith) ∙ ap (at b) (omega arith) in
+      sym
+      (rw (
+        held 0 p (omega arith) (omega arith),
+        held 1 (p + 1) (omega arith) refl,
+        held 2 (p + 2) (omega arith) refl,
+        held 3 (p + 3) (omega arith) refl,
+      ) refl)
 
   -- ---- routes
 
-  -- a digit that is a port's number: the byte of its channel decides
-  pub port-tested : (s j : ℕ) → s < at b sitesPlace → (j ≡ 0 → ⊥) → j ≤ portCount
-      → not (eqb (at b (headLength + portCount * s + (j - 1))) noChannel) ≡ portOk (networkOf b) s j
-  port-tested s zero l z p = absurd (z refl)
-  port-tested s (suc j) l z p =
-      let e : headLength + portCount * s + (suc j - 1) ≡ headLength + (portCount * s + j) = omega arith in
-      let held : channelByte (networkOf b) (portCount * s + j) ≡ at b (headLength + portCount * s + (suc j - 1)) =
-      channel-held (portCount * s + j) (omega arith) ∙ ap (at b) (sym e) in
-      sym (rw (ne-eqb (suc j) 0 z, le-leb (suc j) portCount p, held) refl)
-
-  -- the test of route k where there are S sites and it is r
-  abbrev routeIs : ℕ → ℕ → ℕ → Bool
-  routeIs k S r =
-      eqb (k / S) (k % S) && eqb r 0 || not (eqb (k / S) (k % S)) && listOk (networkOf b) (k / S) (choices r)
-
-  pub route-tested : (k S w : ℕ) (list : Bool) → S ≡ at b sitesPlace → k < at b sitesPlace * at b sitesPlace
-      → w ≡ word b (routesPlace S + 2 * k) → list ≡ listOk (networkOf b) (k / S) (choices w)
-      → eqb (k / S) (k % S) && eqb w 0 || not (eqb (k / S) (k % S)) && list ≡ numberedOk (networkOf b) k
+  pub route-held : (s t p : ℕ) → s < at b sitesPlace → t < at b sitesPlace
+      → p ≡ routesPlace (at b sitesPlace) + 2 * (s * at b sitesPlace) + 2 * t → routeOf (networkOf b) s t ≡ word b p
   unfolding networkOf
-  route-tested k S w list es l ew el =
-      let held : routeOf (networkOf b) (k / at b sitesPlace) (k % at b sitesPlace)
-      ≡ word b (routesPlace (at b sitesPlace) + 2 * k) =
-      ap (λ (i : ℕ). getD (networkOf b .routes) i 0) (div-add-mod' k (at b sitesPlace))
-      ∙ over-below (λ i. word b (routesPlace (at b sitesPlace) + 2 * i)) (at b sitesPlace * at b sitesPlace) noRoutes k 0
-      l (omega (arith, h .square)) in
-      ap (λ (x : Bool). eqb (k / S) (k % S) && eqb w 0 || not (eqb (k / S) (k % S)) && x) el
-      ∙ ap (routeIs k S) ew
-      ∙ ap (λ (z : ℕ). routeIs k z (word b (routesPlace z + 2 * k))) es
-      ∙ sym (ap (routeIs k (at b sitesPlace)) held)
+  route-held s t p ls lt e =
+      let S = at b sitesPlace in
+      over-below (λ k. word b (routesPlace S + 2 * k)) (S * S) noRoutes (s * S + t) 0
+      (place-below s t S S ls lt (omega arith))
+      (omega (arith, h .square))
+      ∙ ap (word b) (omega arith)
+
+  pub route-tested : (S s t p w : ℕ) (ports : List Bool) (r : Bool) → S ≡ at b sitesPlace → s < S → t < S
+      → p ≡ routesPlace S + 2 * (s * S) + 2 * t → ports ≡ portsOf (networkOf b) s → w ≡ word b p
+      → r ≡ routeBy ports s t w → r ≡ routeOk (networkOf b) s t
+  route-tested S s t p w ports r eS ls lt ep eports ew er =
+      let held : routeOf (networkOf b) s t ≡ word b p = route-held s t p (rw eS at ls) (rw eS at lt) (rw eS at ep) in
+      er
+      ∙ ap (λ (ps : List Bool). routeBy ps s t w) eports
+      ∙ ap (routeBy (portsOf (networkOf b) s) s t) (ew ∙ sym held)
+      ∙ route-by (networkOf b) s t
+
+  -- where routes and sends stand is within the bytes
+  module _ (S : ℕ) (eS : S ≡ at b sitesPlace) where
+    pub few-sites : S ≤ sitesMost
+    few-sites = omega (arith, h .few)
+
+    pub square-small : S * S ≤ sitesMost * sitesMost
+    square-small = let q = ap (λ (x : ℕ). x * x) eS in omega (arith, h .square)
+
+    pub row-small : (s : ℕ) → s < S → s * S < sitesMost * sitesMost
+    row-small s l = omega (arith, place-below s 0 S sitesMost l (omega arith) few-sites)
+
+    pub route-inside : (s t : ℕ) → s < S → t < S → routesPlace S + 2 * (s * S) + 2 * t + 1 < length b
+    route-inside s t ls lt =
+        let q = ap (λ (x : ℕ). x * x) eS in
+        omega (arith, place-below s t S S ls lt (omega arith), h .size)
+
+    pub send-inside : (N k : ℕ) → N ≡ at b countPlace → k < N → sendsPlace S + 5 * k + 4 < length b
+    send-inside N k eN l = let q = ap (λ (x : ℕ). x * x) eS in omega (arith, h .size)
 
   -- ---- sends
 
@@ -82,20 +118,22 @@ module _ (b : List ℕ) (h : Head b) where
       rw e
       (sym (over-below (λ k. sendOf b (sendsPlace (at b sitesPlace) + 5 * k)) (at b countPlace) noSends m sendD l (omega (arith, few))))
 
--- ---- items by refusal f
+  -- the test of send m, with the numbers that were read for it
+  module _ (S N m p : ℕ) (eS : S ≡ at b sitesPlace) (eN : N ≡ at b countPlace) (e : p ≡ sendsPlace S + 5 * m) (l : m < N)
+      (few : N < 256) (draw set : ℕ) (ed : draw ≡ word b p) (es : set ≡ word b (p + 3)) where
+    read : _≡_ {A = StoredSend} (record { set = set; draw = draw; site = at b (p + 2) }) (sendAt (runOf b) m)
+    read = rw (ed, es) (send-held m p (rw eS at e) (rw eN at l) (rw eN at few))
 
--- of refusal 6 the channels, of 7 the routes; where there are others they are sends
-module _ (f S N k : ℕ) (l : k < itemCount f S N) where
-  pub of-channels : f ≡ 6 → k < portCount * S
-  unfolding itemCount
-  of-channels e = rw (eq-eqb f 6 e) at l
+    pub send-tested : (draws last : ℕ) (r : Bool) → draws ≡ word b drawsPlace
+        → last ≡ drawBefore (sendAt (runOf b)) m
+        → r ≡ sendAfter S draws last (record { set = set; draw = draw; site = at b (p + 2) }) → r ≡ sendOk (runOf b) m
+    unfolding runOf networkOf
+    send-tested draws last r eD el er =
+        er
+        ∙ ap (sendAfter S draws last) read
+        ∙ (rw (eS, eD, el) refl)
+        ∙ send-in (runOf b) m
 
-  pub of-routes : (f ≡ 6 → ⊥) → f ≡ 7 → k < S * S
-  unfolding itemCount
-  of-routes z e = rw (ne-eqb f 6 z, eq-eqb f 7 e) at l
-
-  pub of-sends : (f ≡ 6 → ⊥) → (f ≡ 7 → ⊥) → k < N
-  unfolding itemCount
-  of-sends z w =
-      let m : k < cond (eqb f 8) N 0 = rw (ne-eqb f 6 z, ne-eqb f 7 w) at l in
-      either-way (eqb f 8) (λ e. rw e at m) (λ e. absurd (not-suc-le-zero (rw e at m)))
+    -- and the draw number that the next one is tested behind
+    pub draw-kept : draw ≡ drawBefore (sendAt (runOf b)) (m + 1)
+    draw-kept = ap (λ (x : StoredSend). x .draw) read ∙ draw-next (sendAt (runOf b)) m

@@ -1,4 +1,4 @@
--- The place that is looked for: none below 6, and where a search through the items ends. Assumes nothing.
+-- A refusal above 5, and the fault by its parts: no place below 6. Assumes nothing.
 use mathlib.Core.Path.{_≡_, refl, sym, ap, _∙_}
 use mathlib.Core.Bool.{Bool, true, false, cond}
 use mathlib.Core.List.{List}
@@ -7,22 +7,20 @@ use native.Mathlib.Omega.{arith}
 use borrow.Author.Tests.{eqb-true, ne-eqb}
 use lib.Dec.{eqb}
 use Rattle.base.specs.Bools.{either-way}
-use Rattle.base.specs.All.{all}
 use Rattle.types.specs.declared.Run.{Run}
 use Rattle.model.specs.Network.{sizesOk}
 use Rattle.model.specs.Runs.{bodyRefusal}
-use Rattle.format.specs.Format.{at, sitesPlace, versionPlace, countPlace, version, networkOf, runOf}
+use Rattle.format.specs.Format.{at, versionPlace, version, networkOf, runOf}
 use Rattle.format.specs.Refusals.{lengthOk, sizeOk, headThen, readRefusal}
-use Rattle.archive.specs.Code.{Head}
-use Rattle.archive.proofs.Passed.{head-passes, head-then}
 use Rattle.format.specs.declared.Fault.{Fault}
-use Rattle.format.specs.First.{first, left-at, left-none}
-use Rattle.format.specs.Faults.{itemCount, itemOk, placeOf, faultOf}
+use Rattle.format.specs.First.{first}
+use Rattle.format.specs.Faults.{itemCount, placeOf, faultOf}
+use Rattle.faults.proofs.HeadLaws.{head-then}
 
 -- ---- refusals above 5
 
 -- the head's tests alone give 5 at most
-head-most : (b : List ℕ) → headThen b 0 ≤ 5
+pub head-most : (b : List ℕ) → headThen b 0 ≤ 5
 unfolding headThen
 head-most b = go (lengthOk b) (eqb (at b versionPlace) version) (sizesOk (networkOf b)) (eqb (runOf b .seed) 0) (sizeOk b)
   where
@@ -43,9 +41,6 @@ behind-head b h =
     let q : headThen b (bodyRefusal (runOf b)) ≡ headThen b 0 = head-then b (bodyRefusal (runOf b)) ∙ (rw e refl) in
     absurd (omega (arith, head-most b)))
 
-pub head-held : (b : List ℕ) → 6 ≤ readRefusal b → Head b
-head-held b h = head-passes b 0 (behind-head b h) .0
-
 -- ---- the fault by its parts
 
 pub place-none : (f : ℕ) (R : Run) → f < 6 → placeOf f R ≡ 0
@@ -64,19 +59,3 @@ unfolding faultOf
 asked b f k e =
     let r : readRefusal b ≡ f = ap (λ (x : Fault). x .refusal) e in
     (r, sym (ap (λ (g : ℕ). placeOf g (runOf b)) r) ∙ ap (λ (x : Fault). x .place) e)
-
--- ---- a search through the c items: it ends at the first that fails, or behind the last
-
-module _ (b : List ℕ) (f c : ℕ) (ec : c ≡ itemCount f (at b sitesPlace) (at b countPlace)) where
-  counted : c ≡ itemCount f (runOf b .network .sites) (runOf b .count)
-  unfolding runOf networkOf
-  counted = ec
-
-  pub ends-at : (k : ℕ) → k < c → all (itemOk f (runOf b)) k ≡ true → itemOk f (runOf b) k ≡ false
-      → k ≡ placeOf f (runOf b)
-  unfolding placeOf
-  ends-at k l a e = left-at (itemOk f (runOf b)) c k l a e ∙ ap (first (itemOk f (runOf b))) counted
-
-  pub ends-behind : (k : ℕ) → k ≡ c → all (itemOk f (runOf b)) k ≡ true → c ≡ placeOf f (runOf b)
-  unfolding placeOf
-  ends-behind k q a = left-none (itemOk f (runOf b)) c (rw q at a) ∙ ap (first (itemOk f (runOf b))) counted

@@ -1,55 +1,22 @@
 -- What the fault that is found says: refusal 6, 7 and 8 with place k are given exactly if what the reader judges before
 -- passed and number k is the first channel, route or send that the model's test turns down; below 6 the place is 0.
 -- Assumes nothing.
-use mathlib.Core.Path.{_≡_, refl, sym, ap₂, _∙_, subst}
+use mathlib.Core.Path.{_≡_, refl, sym, _∙_, subst}
 use mathlib.Core.Bool.{Bool, true, false, cond}
 use mathlib.Core.List.{List}
-use Prim.Native.Nat.{ℕ, _+_, _*_, _/_, _%_, _≤_, _<_}
-use native.Mathlib.Nat.{le-refl}
+use Prim.Native.Nat.{ℕ, _*_, _≤_, _<_}
 use native.Mathlib.Omega.{arith}
-use lib.Arith.{digits-div, digits-mod}
 use Rattle.base.specs.Sizes.{portCount}
-use Rattle.base.specs.All.{all, all-at, all-by}
-use Rattle.base.specs.Flat.{place-below}
-use Rattle.types.specs.declared.Network.{Network}
-use Rattle.model.specs.Network.{channelOk, channelsOk, routeOk, routesOk}
+use Rattle.base.specs.All.{all}
+use Rattle.model.specs.Network.{channelOk, channelsOk, routesOk}
 use Rattle.model.specs.Runs.{sendOk, sendsOk, bodyRefusal}
 use Rattle.format.specs.Format.{networkOf, runOf}
 use Rattle.format.specs.Refusals.{headThen, readRefusal}
-use Rattle.archive.proofs.Answers.{read-body}
 use Rattle.format.specs.First.{first, Fails, fails-at, fails-is}
 use Rattle.format.specs.Faults.{numberedOk, itemCount, itemOk, placeOf, faultOf}
-use Rattle.faults.proofs.Numbers.{row-below, rest-below}
+use Rattle.faults.proofs.HeadLaws.{read-body}
+use Rattle.faults.proofs.Rows.{routes-numbered}
 use Rattle.faults.proofs.Places.{behind-head, place-none, told, asked}
-
--- ---- routes by number
-
--- route s x S + t is that from site s to site t
-pub route-numbered : (n : Network) (s t : ℕ) → t < n .sites → numberedOk n (s * n .sites + t) ≡ routeOk n s t
-route-numbered n s t h = ap₂ (λ (a c : ℕ). routeOk n a c) (digits-div s h) (digits-mod s h)
-
-same-test : (a c : Bool) → (a ≡ true → c ≡ true) → (c ≡ true → a ≡ true) → a ≡ c
-same-test true c h k = sym (h refl)
-same-test false true h k = k refl
-same-test false false h k = refl
-
--- all of them are the model's routes
-pub routes-numbered : (n : Network) → all (numberedOk n) (n .sites * n .sites) ≡ routesOk n
-routes-numbered n =
-    let S = n .sites in
-    same-test (all (numberedOk n) (S * S)) (routesOk n)
-    (λ h.
-    all-by (λ s. all (routeOk n s) S) S
-    (λ s ls.
-    all-by (routeOk n s) S
-    (λ t lt.
-    sym (route-numbered n s t lt)
-    ∙ all-at (numberedOk n) (s * S + t) (S * S) (place-below s t S S ls lt (le-refl S)) h)))
-    (λ h.
-    all-by (numberedOk n) (S * S)
-    (λ k l.
-    all-at (routeOk n (k / S)) (k % S) S (rest-below S k l)
-    (all-at (λ s. all (routeOk n s) S) (k / S) S (row-below S k l) h)))
 
 -- ---- the body's refusals by its three tests
 

@@ -1,73 +1,86 @@
-// The first item at fault of bytes whose head passed: for refusal 6 the channels are tested in turn, for 7 the routes,
-// for 8 the sends, up to the first that fails.
+// The first channel, route or send at fault of bytes whose head passed, or how many there are: each is tested in turn, up
+// to the first that fails.
 ghost use mathlib.Core.Path.{_≡_};
-ghost use Prim.Native.Nat.{_<_};
-ghost use Rattle.archive.specs.Code.{Head};
-ghost use Rattle.format.specs.Format.{at, sitesPlace, countPlace, runOf};
-ghost use Rattle.format.specs.Faults.{itemCount, itemOk, placeOf};
-use crate::tests::channel_ok;
-use crate::tests::route_ok;
-use crate::tests::send_ok;
+ghost use Prim.Native.Nat.{_*_, _<_};
+ghost use Rattle.base.specs.Sizes.{portCount};
+ghost use Rattle.model.specs.Network.{channelOk, routeOk};
+ghost use Rattle.model.specs.Runs.{sendOk};
+ghost use Rattle.faults.specs.Head.{Head};
+ghost use Rattle.format.specs.First.{first};
+ghost use Rattle.format.specs.Format.{at, sitesPlace, countPlace, networkOf, runOf};
+ghost use Rattle.format.specs.Faults.{numberedOk};
+use crate::head::word_at;
 
-// How many items the refusal is judged over.
-fn item_count(refusal: u8, sites: usize, sends: usize) -> usize
-    requires { ⌜ sites < 256 ⌝ }
-    ensures { λ r. ⌜ r ≡ itemCount refusal sites sends ⌝ }
+pub(crate) fn first_channel(b: &[u8], sites: usize) -> usize
+    requires { ⌜ Head (now b) × (sites ≡ at (now b) sitesPlace) ⌝ }
+    ensures { λ r. ⌜ r ≡ first (channelOk (networkOf (now (b .entry)))) (portCount * sites) ⌝ }
 {
-    if refusal == 6 {
-        return base::PORTS * sites;
+    let end = base::PORTS * sites;
+    let mut m: usize = 0;
+    while m < end {
+        if crate::tests::channel_ok(b, sites, m) {
+            m += 1;
+        } else {
+            return m;
+        }
     }
-    if refusal == 7 {
-        return sites * sites;
-    }
-    if refusal == 8 {
-        return sends;
-    }
-    0
+    end
 }
 
-// The same of these bytes.
-fn count_in(b: &[u8], refusal: u8) -> usize
-    requires { ⌜ Head (now b) ⌝ }
-    ensures { λ r. ⌜
-        (r ≡ itemCount refusal (at (now (b .entry)) sitesPlace) (at (now (b .entry)) countPlace))
-        × (at (now (b .entry)) countPlace < 256)
-        ⌝ }
+// Among the routes from site s.
+fn first_in_row(b: &[u8], sites: usize, s: usize) -> usize
+    requires { ⌜ Head (now b) × (sites ≡ at (now b) sitesPlace) × (s < sites) ⌝ }
+    ensures { λ r. ⌜ r ≡ first (routeOk (networkOf (now (b .entry))) s) sites ⌝ }
 {
-    let sites = base::wide(b[3]);
-    let sends = base::wide(b[12]);
-    item_count(refusal, sites, sends)
+    let ports = crate::tests::ports_at(b, s);
+    let row = 13 + base::PORTS * sites + 2 * (s * sites);
+    let mut t: usize = 0;
+    while t < sites {
+        let route = word_at(b, row + 2 * t);
+        if checks::route_ok(ports, s, t, route) {
+            t += 1;
+        } else {
+            return t;
+        }
+    }
+    sites
 }
 
-// The test of item k.
-fn item_ok(b: &[u8], refusal: u8, k: usize) -> bool
-    requires { ⌜
-        Head (now b) × (at (now b) countPlace < 256)
-        × (k < itemCount refusal (at (now b) sitesPlace) (at (now b) countPlace))
-        ⌝ }
-    ensures { λ r. ⌜ r ≡ itemOk refusal (runOf (now (b .entry))) k ⌝ }
+// Route s x S + t is that from site s to site t.
+pub(crate) fn first_route(b: &[u8], sites: usize) -> usize
+    requires { ⌜ Head (now b) × (sites ≡ at (now b) sitesPlace) ⌝ }
+    ensures { λ r. ⌜ r ≡ first (numberedOk (networkOf (now (b .entry)))) (sites * sites) ⌝ }
 {
-    if refusal == 6 {
-        return channel_ok(b, k);
+    let mut s: usize = 0;
+    while s < sites {
+        let t = first_in_row(b, sites, s);
+        if t < sites {
+            return s * sites + t;
+        }
+        s += 1;
     }
-    if refusal == 7 {
-        return route_ok(b, k);
-    }
-    send_ok(b, k)
+    sites * sites
 }
 
-pub(crate) fn first_item(b: &[u8], refusal: u8) -> usize
-    requires { ⌜ Head (now b) ⌝ }
-    ensures { λ r. ⌜ r ≡ placeOf refusal (runOf (now (b .entry))) ⌝ }
+pub(crate) fn first_send(b: &[u8], sites: usize, sends: usize) -> usize
+    requires { ⌜ Head (now b) × (sites ≡ at (now b) sitesPlace) × (sends ≡ at (now b) countPlace) × (sends < 256) ⌝ }
+    ensures { λ r. ⌜ r ≡ first (sendOk (runOf (now (b .entry)))) sends ⌝ }
 {
-    let count = count_in(b, refusal);
+    let draws = word_at(b, 10);
+    let from = 13 + base::PORTS * sites + 2 * (sites * sites);
+    let mut last: u16 = 0;
     let mut k: usize = 0;
-    while k < count {
-        if item_ok(b, refusal, k) {
+    while k < sends {
+        let at = from + 5 * k;
+        let draw = word_at(b, at);
+        let set = word_at(b, at + 3) as u64;
+        let site = b[at + 2];
+        if checks::stored_ok(draw, site, set, sites, draws, last) {
+            last = draw;
             k += 1;
         } else {
             return k;
         }
     }
-    count
+    sends
 }

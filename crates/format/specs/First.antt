@@ -1,9 +1,10 @@
 -- The first number below a bound at which a test fails, and what it is known by. Assumes nothing.
-use mathlib.Core.Path.{_≡_, refl, sym, ap, _∙_}
+use mathlib.Core.Path.{_≡_, refl, sym, ap, _∙_, subst}
 use mathlib.Core.Bool.{Bool, true, false, cond}
-use Prim.Native.Nat.{ℕ, zero, suc, _<_, suc-le-suc}
+use Prim.Native.Nat.{ℕ, zero, suc, _≤_, _<_, suc-le-suc}
 use native.Mathlib.Nat.{not-suc-le-zero, le-of-suc-le-suc, zero-lt-suc}
-use Rattle.base.specs.Bools.{clash}
+use native.Mathlib.Omega.{arith}
+use Rattle.base.specs.Bools.{clash, either-way}
 use Rattle.base.specs.All.{all, all-at, all-by, all-fails}
 
 -- the first number below n at which p fails; n where it fails at none
@@ -69,3 +70,16 @@ fails-at p n h = fails-some p n (λ b. clash (sym (all-by p n b) ∙ h))
 -- and a number that is the first is the one found
 pub fails-is : (p : ℕ → Bool) (n k : ℕ) → Fails p n k → (all p n ≡ false) × (first p n ≡ k)
 fails-is p n k f = (all-fails p k n (f .below) (f .here), first-at p n k (f .below) (f .here) (f .before))
+
+-- ---- where a search ended, c
+
+module _ (p : ℕ → Bool) (n c : ℕ) (e : c ≡ first p n) where
+  -- before the bound: something fails, and c is the first that does
+  pub found-at : c < n → Fails p n c
+  found-at l =
+      subst (Fails p n) (sym e)
+      (fails-at p n (either-way (all p n) (λ a. absurd (omega (arith, e, left-none p n a))) (λ a. a)))
+
+  -- at the bound: nothing fails
+  pub none-found : n ≤ c → all p n ≡ true
+  none-found l = either-way (all p n) (λ a. a) (λ a. absurd (omega (arith, e, fails-at p n a .below)))

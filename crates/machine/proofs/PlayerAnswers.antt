@@ -16,8 +16,7 @@ use Rattle.model.specs.Runs.{storedRefusal, noSends, bookRoom, playedRun, count
 use Rattle.format.specs.declared.Decoded.{Decoded}
 use Rattle.format.specs.Format.{runOf, sendOf, sendsPlace, at, sitesPlace, countPlace, noRun}
 use Rattle.format.specs.Refusals.{readRefusal, decode}
-use Rattle.model.specs.Runs.{bodyRefusal}
-use Rattle.archive.proofs.Passed.{head-passes, stored-by}
+use Rattle.archive.proofs.Passed.{stored-read}
 use Rattle.machine.specs.Play.{playRefusal, noCounts, playAnswer, bookIn, playBook, bookSpace, Playable, startOf}
 use Rattle.machine.proofs.PlayerRoom.{space-is, room-is}
 
@@ -73,8 +72,7 @@ module _ (b : List ℕ) where
       pub read-stored : d .run .count ≤ sendsMost → storedRefusal (d .run) ≡ 0
       unfolding readRefusal runOf
       read-stored h =
-          let p = head-passes b (bodyRefusal (runOf b)) passes in
-          rw read-run (stored-by (runOf b) (p .0 .sizes) (p .0 .seed) (rw read-run at h) (p .1))
+          rw read-run (stored-read b passes (rw read-run at h))
 
       -- the room that is asked for is its book's
       pub read-room : at b countPlace < 256 → {k : ℕ} → k ≡ bookSpace (d .run .sends) (d .run .count) → k ≡ bookRoom (d .run)

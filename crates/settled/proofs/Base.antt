@@ -5,6 +5,8 @@ use Rattle.settled.specs.Outcomes.{Settles}
 use Rattle.settled.proofs.Shown.{settled, same}
 use Rattle.base.proofs.wide as the-wide
 use Rattle.base.proofs.one_less as the-one-less
+use Rattle.base.proofs.word as the-word
+use Rattle.base.proofs.quad as the-quad
 
 -- the contract says besides that the number is below 256
 pub wide-settled : Settles the-wide.ended (λ M. the-wide.clauses) (λ M. the-wide.spec)
@@ -12,3 +14,9 @@ wide-settled = settled (λ κs a x y p q. refl) (λ κs a x y p q i. (same (p .0
 
 pub one-less-settled : Settles the-one-less.ended (λ M. the-one-less.clauses) (λ M. the-one-less.spec)
 one-less-settled = settled (λ κs a x y p q. refl) (λ κs a x y p q i. (same p q i, x .1))
+
+pub word-settled : Settles the-word.ended (λ M. the-word.clauses) (λ M. the-word.spec)
+word-settled = settled (λ κs a x y p q. refl) (λ κs a x y p q i. (same p q i, x .1))
+
+pub quad-settled : Settles the-quad.ended (λ M. the-quad.clauses) (λ M. the-quad.spec)
+quad-settled = settled (λ κs a x y p q. refl) (λ κs a x y p q i. (same p q i, x .1))

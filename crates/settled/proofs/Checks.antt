@@ -8,6 +8,10 @@ use Rattle.checks.proofs.is_in_range as the-is-in-range
 use Rattle.checks.proofs.event_refusal as the-event-refusal
 use Rattle.checks.proofs.place_ok as the-place-ok
 use Rattle.checks.proofs.send_fault as the-send-fault
+use Rattle.checks.proofs.sizes_ok as the-sizes-ok
+use Rattle.checks.proofs.is_input as the-is-input
+use Rattle.checks.proofs.route_ok as the-route-ok
+use Rattle.checks.proofs.stored_ok as the-stored-ok
 
 pub network-refusal-settled : Settles the-network-refusal.ended (λ M. the-network-refusal.clauses) (λ M. the-network-refusal.spec)
 network-refusal-settled = settled (λ κs a x y p q. refl) (λ κs a x y p q i. (same p q i, x .1))
@@ -23,3 +27,15 @@ event-refusal-settled = settled (λ κs a x y p q. refl) (λ κs a x y p q i. (s
 
 pub send-fault-settled : Settles the-send-fault.ended (λ M. the-send-fault.clauses) (λ M. the-send-fault.spec)
 send-fault-settled = settled (λ κs a x y p q. refl) (λ κs a x y p q i. (same p q i, x .1))
+
+pub sizes-ok-settled : Settles the-sizes-ok.ended (λ M. the-sizes-ok.clauses) (λ M. the-sizes-ok.spec)
+sizes-ok-settled = settled (λ κs a x y p q. refl) (λ κs a x y p q i. (same p q i, x .1))
+
+pub is-input-settled : Settles the-is-input.ended (λ M. the-is-input.clauses) (λ M. the-is-input.spec)
+is-input-settled = settled (λ κs a x y p q. refl) (λ κs a x y p q i. (same p q i, x .1))
+
+pub route-ok-settled : Settles the-route-ok.ended (λ M. the-route-ok.clauses) (λ M. the-route-ok.spec)
+route-ok-settled = settled (λ κs a x y p q. refl) (λ κs a x y p q i. (same p q i, x .1))
+
+pub stored-ok-settled : Settles the-stored-ok.ended (λ M. the-stored-ok.clauses) (λ M. the-stored-ok.spec)
+stored-ok-settled = settled (λ κs a x y p q. refl) (λ κs a x y p q i. (same p q i, x .1))

@@ -42,15 +42,15 @@ add-read-routes c = search needs
 
 mul-read-routes-2 : tie.Need-mul-read-routes-2
 mul-read-routes-2 c =
-    let past = c .before .before .before .before .before .before in
     let wide = c .before .before .before .before .wide in
+    let past = c .before .before .before .before .before .before in
     let pre = past .before .pre in
     let q = ap (λ (x : ℕ). x * x) (wide .ensures .0) in omega (arith, pre .square)
 
 read-routes-requires : tie.Need-read-routes-requires
 read-routes-requires c κs =
-    let past = c .before .before .before .before .before .before in
     let wide = c .before .before .before .before .wide in
+    let past = c .before .before .before .before .before .before in
     let pre = past .before .pre in
     let q = ap (λ (x : ℕ). x * x) (wide .ensures .0) in
     (omega (arith, pre .square), omega (arith, pre .square, pre .size, wide .ensures .0))
@@ -58,13 +58,11 @@ read-routes-requires c κs =
 returns : tie.Need-returns
 unfolding networkOf
 returns c =
+    let read-routes = c .read-routes in
+    let read-channels = c .before .read-channels in
+    let wide2 = c .before .before .wide2 in
     let wide = c .before .before .before .before .before .wide in
-    rw (
-      c .read-routes .ensures,
-      c .before .read-channels .ensures,
-      c .before .before .wide2 .ensures .0,
-      wide .ensures .0,
-    ) refl
+    rw (read-routes .ensures, read-channels .ensures, wide2 .ensures .0, wide .ensures .0) refl
 
 pub read-network-spec : {M : Type 1} → statement M
 read-network-spec =

@@ -9,10 +9,14 @@ use Rattle.archive.proofs.reader.read_run.Statement.{statement}
 use Rattle.archive.proofs.reader.read_run.Tie as tie
 use Rattle.archive.proofs.reader.read_run.Reads as reads
 use Rattle.archive.proofs.reader.read_run.Lts as lts
-use Rattle.archive.proofs.reader.quad_at.Reads as quad-at-reads
+use Rattle.archive.proofs.reader.read_network.Reads as read-network-reads
+use Rattle.archive.proofs.reader.read_seed.Reads as read-seed-reads
 use Rattle.archive.proofs.reader.read_sends.Reads as read-sends-reads
-use Rattle.archive.proofs.reader.word_at.Reads as word-at-reads
 use Rattle.base.proofs.wide.Reads as wide-reads
+use Rattle.base.proofs.word.Reads as word-reads
+
+read-network-requires : tie.Need-read-network-requires
+read-network-requires c κs = search needs
 
 shared-slice-read-wide : tie.Need-shared-slice-read-wide
 shared-slice-read-wide c = search needs
@@ -26,11 +30,17 @@ shared-slice-read-wide-2 c = search needs
 wide-requires-2 : tie.Need-wide-requires-2
 wide-requires-2 c κs = search needs
 
-quad-at-requires : tie.Need-quad-at-requires
-quad-at-requires c κs = search needs
+read-seed-requires : tie.Need-read-seed-requires
+read-seed-requires c κs = search needs
 
-word-at-requires : tie.Need-word-at-requires
-word-at-requires c κs = search needs
+shared-slice-read-word : tie.Need-shared-slice-read-word
+shared-slice-read-word c = search needs
+
+shared-slice-read-word-2 : tie.Need-shared-slice-read-word-2
+shared-slice-read-word-2 c = search needs
+
+word-requires : tie.Need-word-requires
+word-requires c κs = search needs
 
 mul-read-sends : tie.Need-mul-read-sends
 mul-read-sends c = search needs
@@ -41,59 +51,58 @@ add-read-sends c = search needs
 mul-read-sends-2 : tie.Need-mul-read-sends-2
 mul-read-sends-2 c =
     let past = c .before .before .before .before .before .before in
-    let wide = c .before .before .before .before .wide in
-    let pre = past .before .pre in
-    let q = ap (λ (x : ℕ). x * x) (wide .ensures .0) in omega (arith, pre .0 .square)
+    let wide = past .wide in
+    let pre = past .before .before .before .before .pre in
+    let q = ap (λ (x : ℕ). x * x) (wide .ensures .0) in omega (arith, pre .square)
 
 mul-read-sends-3 : tie.Need-mul-read-sends-3
 mul-read-sends-3 c =
     let past = c .before .before .before .before .before .before in
-    let wide = c .before .before .before .before .wide in
-    let pre = past .before .pre in
-    let q = ap (λ (x : ℕ). x * x) (wide .ensures .0) in omega (arith, pre .0 .square)
+    let wide = past .wide in
+    let pre = past .before .before .before .before .pre in
+    let q = ap (λ (x : ℕ). x * x) (wide .ensures .0) in omega (arith, pre .square)
 
 add-read-sends-2 : tie.Need-add-read-sends-2
 add-read-sends-2 c =
     let past = c .before .before .before .before .before .before in
-    let wide = c .before .before .before .before .wide in
-    let pre = past .before .pre in
-    let q = ap (λ (x : ℕ). x * x) (wide .ensures .0) in omega (arith, pre .0 .square, pre .0 .few, wide .ensures .0)
+    let wide = past .wide in
+    let pre = past .before .before .before .before .pre in
+    let q = ap (λ (x : ℕ). x * x) (wide .ensures .0) in omega (arith, pre .square, pre .few, wide .ensures .0)
 
 read-sends-requires : tie.Need-read-sends-requires
 read-sends-requires c κs =
+    let wide2 = c .before .before .before .before .wide2 in
     let past = c .before .before .before .before .before .before in
-    let wide2 = c .before .before .wide2 in
-    let wide = c .before .before .before .before .wide in
-    let pre = past .before .pre in
+    let wide = past .wide in
+    let pre = past .before .before .before .before .pre in
     let q = ap (λ (x : ℕ). x * x) (wide .ensures .0) in
-    (omega (arith, wide2 .ensures .1), omega (arith, pre .0 .size, wide .ensures .0, wide2 .ensures .0))
+    (omega (arith, wide2 .ensures .1), omega (arith, pre .size, wide .ensures .0, wide2 .ensures .0))
 
 returns : tie.Need-returns
 unfolding runOf
 returns c =
+    let read-sends = c .read-sends in
+    let word = c .before .word in
+    let read-seed = c .before .before .before .before .read-seed in
+    let wide2 = c .before .before .before .before .before .wide2 in
     let past = c .before .before .before .before .before .before in
-    let wide2 = c .before .before .before .wide2 in
-    let wide = c .before .before .before .before .before .wide in
-    let pre = past .before .before .pre in
-    rw (
-      c .read-sends .ensures,
-      c .before .word-at .ensures,
-      c .before .before .quad-at .ensures,
-      wide2 .ensures .0,
-      wide .ensures .0,
-      pre .1,
-    ) refl
+    let wide = past .before .wide in
+    let read-network = past .before .before .before .read-network in
+    rw (read-sends .ensures, word .ensures, read-seed .ensures, wide2 .ensures .0, wide .ensures .0, read-network .ensures) refl
 
 pub read-run-spec : {M : Type 1} → statement M
 read-run-spec =
     tie.close
     (tie.spec
+    read-network-requires
     shared-slice-read-wide
     wide-requires
     shared-slice-read-wide-2
     wide-requires-2
-    quad-at-requires
-    word-at-requires
+    read-seed-requires
+    shared-slice-read-word
+    shared-slice-read-word-2
+    word-requires
     mul-read-sends
     add-read-sends
     mul-read-sends-2

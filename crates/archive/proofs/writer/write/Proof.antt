@@ -9,9 +9,9 @@ use Rattle.base.specs.All.{all, all-none, all-more}
 use Rattle.model.specs.Types.{sendAt}
 use Rattle.format.specs.Format.{sendsBytes}
 use Rattle.base.specs.Put.{put}
-use Rattle.archive.specs.Code.{drawBefore, sendAfter, sendIn}
+use Rattle.checks.specs.Sends.{drawBefore, sendAfter, sendIn}
 use Rattle.archive.proofs.Passed.{stored-passes}
-use Rattle.archive.proofs.SendsLaws.{draw-next}
+use Rattle.checks.proofs.SendsLaws.{draw-next}
 use Rattle.archive.proofs.Put.{sends-none, sends-turn, length-put, put-parts}
 use Rattle.archive.proofs.Answers.{few-sends, front-refused, sends-tested, sends-failed, write-no, write-short, write-yes}
 use native.Mathlib.Omega.{arith}
@@ -20,8 +20,8 @@ use Rattle.archive.proofs.writer.write.Statement.{statement}
 use Rattle.archive.proofs.writer.write.Tie as tie
 use Rattle.archive.proofs.writer.write.Reads as reads
 use Rattle.archive.proofs.writer.write.Lts as lts
-use Rattle.archive.proofs.sends.send_ok.Reads as send-ok-reads
-use Rattle.archive.proofs.size_of.Reads as size-of-reads
+use Rattle.checks.proofs.stored_ok.Reads as stored-ok-reads
+use Rattle.faults.proofs.size_of.Reads as size-of-reads
 use Rattle.archive.proofs.writer.front_refusal.Reads as front-refusal-reads
 use Rattle.archive.proofs.writer.put_front.Reads as put-front-reads
 use Rattle.archive.proofs.writer.put_send.Reads as put-send-reads
@@ -74,8 +74,8 @@ element-copy-out-send c =
     let args = c .before .before .before .before .before .before .args in
     omega (arith, few-sends (args .t1) (sym (front-refusal .ensures) ∙ c .before .before .if1 .left))
 
-send-ok-requires : tie.Need-send-ok-requires Inv-loop μ-loop Inv-loop2 μ-loop2
-send-ok-requires c κs = search needs
+stored-ok-requires : tie.Need-stored-ok-requires Inv-loop μ-loop Inv-loop2 μ-loop2
+stored-ok-requires c κs = search needs
 
 add-k : tie.Need-add-k Inv-loop μ-loop Inv-loop2 μ-loop2
 add-k c =
@@ -96,7 +96,7 @@ loop-again c =
     let r = args .t1 in
     let l = loop in
     let e =
-    c .before .send-ok .ensures
+    c .before .stored-ok .ensures
     ∙ ap (λ (d : ℕ). sendAfter (r .network .sites) (r .draws) d (sendAt r (l .k))) (l .inv .1) in
     (omega arith, draw-next (sendAt r) (l .k), all-more _ _ (l .inv .2) (sym e ∙ c .if2 .taken))
 
@@ -114,14 +114,14 @@ returns-2 c =
     let r = args .t1 in
     let l = loop in
     let e =
-    c .before .before .send-ok .ensures
+    c .before .before .stored-ok .ensures
     ∙ ap (λ (d : ℕ). sendAfter (r .network .sites) (r .draws) d (sendAt r (l .k))) (l .inv .1) in
     let failed =
     sends-failed r _ (front-refusal .ensures) (if1 .left) (l .k) (loop-test .taken) (sym e ∙ c .before .if2 .left) in
     rw (c .turned-down2 .ensures) (write-no r _ 8 failed (λ q. omega arith))
 
-size-of-requires : tie.Need-size-of-requires Inv-loop μ-loop Inv-loop2 μ-loop2
-size-of-requires c κs =
+cast-size-of : tie.Need-cast-size-of Inv-loop μ-loop Inv-loop2 μ-loop2
+cast-size-of c =
     let front-refusal = c .before .before .before .front-refusal in
     let args = c .before .before .before .before .before .before .args in
     let r = args .t1 in
@@ -129,7 +129,16 @@ size-of-requires c κs =
     let f =
     stored-passes r
     (sends-tested r _ (front-refusal .ensures) (c .before .before .if1 .left) (l .k) (omega arith) (l .inv .2)) .fit in
-    (omega arith, omega arith)
+    omega (arith, f .few)
+
+cast-size-of-2 : tie.Need-cast-size-of-2 Inv-loop μ-loop Inv-loop2 μ-loop2
+cast-size-of-2 c =
+    let front-refusal = c .before .before .before .front-refusal in
+    let args = c .before .before .before .before .before .before .args in
+    omega (arith, few-sends (args .t1) (sym (front-refusal .ensures) ∙ c .before .before .if1 .left))
+
+size-of-requires : tie.Need-size-of-requires Inv-loop μ-loop Inv-loop2 μ-loop2
+size-of-requires c κs = search needs
 
 turned-down-requires-3 : tie.Need-turned-down-requires-3 Inv-loop μ-loop Inv-loop2 μ-loop2
 turned-down-requires-3 c κs = search needs
@@ -314,12 +323,14 @@ write-spec =
     loop-holds
     mul-send
     element-copy-out-send
-    send-ok-requires
+    stored-ok-requires
     add-k
     loop-less
     loop-again
     turned-down-requires-2
     returns-2
+    cast-size-of
+    cast-size-of-2
     size-of-requires
     turned-down-requires-3
     returns-3

@@ -1,21 +1,17 @@
 -- The test of a send after the last one's draw number is the model's test of it. Assumes nothing.
 use mathlib.Core.Path.{_≡_, refl, sym, ap, ap₂, _∙_}
 use mathlib.Core.Bool.{Bool, true, false, cond, _&&_, _||_}
-use mathlib.Core.List.{List}
 use Prim.Native.Nat.{ℕ, _+_, _-_, _≤_, _<_}
 use native.Mathlib.Omega.{arith}
 use borrow.Author.Tests.{ne-eqb, le-leb}
 use lib.Dec.{eqb, ltb, leb}
-use Rattle.base.specs.Sizes.{sendsMost}
 use Rattle.base.specs.All.{all, all-same}
-use Rattle.base.specs.Over.{over-below}
 use Rattle.sets.specs.Sets.{targets}
 use Rattle.types.specs.declared.StoredSend.{StoredSend}
 use Rattle.types.specs.declared.Run.{Run}
-use Rattle.model.specs.Types.{sendD, sendAt}
-use Rattle.model.specs.Runs.{sendOk, sendsOk, noSends}
-use Rattle.format.specs.Format.{at, word, sitesPlace, drawsPlace, countPlace, sendsPlace, networkOf, runOf}
-use Rattle.archive.specs.Code.{drawBefore, sendAfter, sendIn, sendsFrom}
+use Rattle.model.specs.Types.{sendAt}
+use Rattle.model.specs.Runs.{sendOk, sendsOk}
+use Rattle.checks.specs.Sends.{drawBefore, sendAfter, sendIn}
 
 pub draw-next : (f : ℕ → StoredSend) (k : ℕ) → f k .draw ≡ drawBefore f (k + 1)
 draw-next f k =
@@ -29,7 +25,7 @@ not-falling f k d = go (eqb k 0)
     go true = le-leb 0 d (omega arith)
     go false = refl
 
-send-in : (r : Run) (k : ℕ) → sendIn (r .network .sites) (r .draws) (sendAt r) k ≡ sendOk r k
+pub send-in : (r : Run) (k : ℕ) → sendIn (r .network .sites) (r .draws) (sendAt r) k ≡ sendOk r k
 send-in r k =
     ap
     (λ (b : Bool).
@@ -44,27 +40,9 @@ pub sends-in : (r : Run) → all (sendIn (r .network .sites) (r .draws) (sendAt 
 sends-in r = all-same (sendIn (r .network .sites) (r .draws) (sendAt r)) (sendOk r) (r .count) (λ k h. send-in r k)
 
 -- two ways to the same sends
-in-same : (S draws : ℕ) (f g : ℕ → StoredSend) (n : ℕ) → ((k : ℕ) → k < n → f k ≡ g k)
+pub in-same : (S draws : ℕ) (f g : ℕ → StoredSend) (n : ℕ) → ((k : ℕ) → k < n → f k ≡ g k)
     → all (sendIn S draws f) n ≡ all (sendIn S draws g) n
 in-same S draws f g n h =
     all-same (sendIn S draws f) (sendIn S draws g) n
     (λ k l.
     ap₂ (λ (e last : StoredSend). sendAfter S draws (cond (eqb k 0) 0 (last .draw)) e) (h k l) (h (k - 1) (omega arith)))
-
--- the sends of an archive, before they are read into a run
-pub sends-from : (b : List ℕ) → at b countPlace ≤ sendsMost
-    → all (sendIn (at b sitesPlace) (word b drawsPlace) (sendsFrom b (sendsPlace (at b sitesPlace)))) (at b countPlace)
-    ≡ sendsOk (runOf b)
-unfolding runOf networkOf
-sends-from b h =
-    in-same (at b sitesPlace) (word b drawsPlace) (sendsFrom b (sendsPlace (at b sitesPlace))) (sendAt (runOf b))
-    (at b countPlace)
-    (λ k l.
-    sym (over-below (sendsFrom b (sendsPlace (at b sitesPlace))) (at b countPlace) noSends k sendD l (omega arith)))
-    ∙ sends-in (runOf b)
-
--- with the head's numbers as the code reads them
-pub sends-read : (b : List ℕ) (S n draws : ℕ) → S ≡ at b sitesPlace → n ≡ at b countPlace
-    → draws ≡ word b drawsPlace → n ≤ sendsMost
-    → all (sendIn S draws (sendsFrom b (sendsPlace S))) n ≡ sendsOk (runOf b)
-sends-read b S n draws eS en ed h = rw (eS, ed, en) (sends-from b (omega arith))

@@ -1,0 +1,2 @@
+-- What the searches ask of the bytes; what they find is said in crate format.
+pub mod Head
