@@ -1,0 +1,259 @@
+#!/bin/sh
+# frozen.sh: what a landing answered stays as it was. Holds every seal and every line of tests/frozen/ (README.md there
+# has their form): the archives of the corpus and their lines in crates/batch/stdout, the single events, and what the
+# other programs are given and print. Fails too if something of that kind is in no file there. Prints one line.
+# frozen.sh --add NAME: writes the lines that no file there has, as tests/frozen/NAME.txt, and its seal.
+# Exit: 0 all as it was, or added; 1 something differs (named on standard error); 2 used in a wrong way.
+set -eu
+export LC_ALL=C
+root=$(CDPATH= cd -- "$(dirname -- "$0")/.." && pwd)
+cd "$root"
+folder=tests/frozen
+outputs=crates/batch/stdout
+
+fail() {
+    echo "frozen: $2" >&2
+    exit "$1"
+}
+
+landing=
+case "$#:${1:-}" in
+    0:) ;;
+    2:--add) landing=$2 ;;
+    *) fail 2 "usage: frozen.sh [--add NAME]" ;;
+esac
+if [ $# -gt 0 ]; then
+    case $landing in
+        '' | *[!A-Za-z0-9_-]*) fail 2 "a landing's name is of letters, digits, - and _" ;;
+    esac
+fi
+for file in crates/batch/stdin "$outputs"; do
+    [ -f "$file" ] || fail 1 "$file is missing"
+done
+if command -v sha256sum >/dev/null 2>&1; then
+    digest() { sha256sum -- "$@"; }
+elif command -v shasum >/dev/null 2>&1; then
+    digest() { shasum -a 256 -- "$@"; }
+else
+    fail 1 "neither sha256sum nor shasum is on the PATH"
+fi
+temp=$(mktemp -d) || fail 1 "no temporary folder"
+trap 'rm -rf "$temp"' EXIT
+trap 'exit 1' HUP INT TERM
+
+wrong() {
+    printf 'frozen: %s\n' "$1" >>"$temp/wrong"
+}
+
+# Ends with what is wrong, if something is: twenty lines of it.
+judge() {
+    [ -s "$temp/wrong" ] || return 0
+    head -n 20 "$temp/wrong" >&2
+    more=$(($(wc -l <"$temp/wrong") - 20))
+    [ "$more" -le 0 ] || echo "frozen: and $more more" >&2
+    exit 1
+}
+
+# growing FROM LESS PATH..: texts to which cases are added behind: from the line FROM on, but for the last LESS
+growing() {
+    from=$1
+    less=$2
+    shift 2
+    for path in "$@"; do
+        [ ! -f "$path" ] || echo "lines $from $(($(wc -l <"$path") - less)) $path"
+    done
+}
+
+# What is there to be frozen: archives, texts by lines, all other files that programs are given or print as a whole. The
+# first line of the first text counts the cases, the last of the second the files. (A text comes again as a whole.)
+there() {
+    for path in corpus/*.bin; do
+        [ ! -f "$path" ] || echo "archive ${path#corpus/}"
+    done
+    growing 2 0 crates/singles/stdin
+    growing 1 1 crates/rewrite/stdout
+    growing 1 0 crates/singles/stdout tests/clauses/*.txt crates/archive_cases/stdout crates/inspect/stdout
+    growing 1 0 crates/inspect/args crates/rewrite/args examples/*.txt
+    for path in corpus/typed/* crates/*/args crates/*/stdin crates/*/stdout crates/*/data/* examples/*.bin \
+        examples/logs/*; do
+        case $path in crates/batch/*) continue ;; esac
+        [ ! -f "$path" ] || echo "whole $path"
+    done
+}
+
+# What stands behind the first n words of a line.
+words='
+    function behind(n, line) {
+        while (n-- > 0) sub(/^[^ ]* /, "", line)
+        return line
+    }'
+
+# bare FILE..: frozen lines without their digests; `odd` for one that has not their form
+bare() {
+    awk "$words"'
+        function digest(word) { return length(word) == 64 && word !~ /[^0-9a-f]/ }
+        function number(word) { return word ~ /^[1-9][0-9]*$/ }
+        $1 == "archive" && NF > 3 && digest($2) && digest($3) { print $1 " " behind(3, $0); next }
+        $1 == "lines" && NF > 4 && number($2) && number($3) && $2 + 0 <= $3 + 0 && digest($4) {
+            print $1 " " $2 " " $3 " " behind(4, $0)
+            next
+        }
+        $1 == "whole" && NF > 2 && digest($2) { print $1 " " behind(2, $0); next }
+        { print "odd" }
+    ' "$@"
+}
+
+# unfrozen FROZEN THERE: what is there and no frozen line has; of a text the lines behind the frozen ones
+unfrozen() {
+    awk "$words"'
+        { path = behind($1 == "lines" ? 3 : 1, $0) }
+        part == 1 && $1 == "lines" { if ($3 + 0 > last[path]) last[path] = $3 + 0; next }
+        part == 1 { frozen[$1, path] = 1; next }
+        ("whole", path) in frozen { next }
+        $1 == "lines" {
+            text[path] = 1
+            from = last[path] >= $2 + 0 ? last[path] + 1 : $2 + 0
+            if (from <= $3 + 0) print $1 " " from " " $3 " " path
+            next
+        }
+        !(path in text) && !(($1, path) in frozen)
+    ' part=1 "$1" part=2 "$2"
+}
+
+# parts FILE: the lines that batch printed for each archive of the file, as $temp/parts/NAME: services, then the line
+# that begins with the name. The line of a name that batch was given and that is no archive ends a part too.
+parts() {
+    awk -v folder="$temp/parts/" '
+        part == 1 { if (sub(/^archive /, "")) archive[$0] = named[$0] = 1; next }
+        part == 2 { named[$0] = 1; next }
+        {
+            text = text $0 "\n"
+            at = index($0, ": ")
+            name = substr($0, 1, at - 1)
+            if (!at || !(name in named)) next
+            if (name in archive) {
+                printf "%s", text >>(folder name)
+                close(folder name)
+            }
+            text = ""
+        }
+    ' part=1 "$1" part=2 crates/batch/stdin part=3 "$outputs"
+}
+
+# spelled FILE: bare lines with the digests of today, all made by one call; - where nothing is there
+spelled() {
+    rm -rf "$temp/parts" "$temp/cuts"
+    mkdir "$temp/parts" "$temp/cuts"
+    parts "$1"
+    cuts=0
+    while read -r kind path; do
+        case $kind in
+            archive) printf '%s\n' "corpus/$path" "$temp/parts/$path" ;;
+            whole) printf '%s\n' "$path" ;;
+            lines)
+                cuts=$((cuts + 1))
+                from=${path%% *}
+                path=${path#* }
+                to=${path%% *}
+                path=${path#* }
+                [ -f "$path" ] || continue
+                tail -n "+$from" "$path" | head -n $((to - from + 1)) >"$temp/cuts/$cuts"
+                printf '%s\n' "$temp/cuts/$cuts"
+                ;;
+        esac
+    done <"$1" >"$temp/paths"
+    (
+        set -f
+        IFS='
+'
+        digest $(cat "$temp/paths") </dev/null >"$temp/digests" 2>/dev/null
+    ) || true
+    awk -v temp="$temp" "$words"'
+        function of(path) { return path in digest ? digest[path] : "-" }
+        part == 1 { digest[substr($0, 67)] = substr($0, 1, 64); next }
+        { path = behind($1 == "lines" ? 3 : 1, $0) }
+        $1 == "archive" { print $1 " " of("corpus/" path) " " of(temp "/parts/" path) " " path; next }
+        $1 == "lines" { print $1 " " $2 " " $3 " " of(temp "/cuts/" ++cuts) " " path; next }
+        $1 == "whole" { print $1 " " of(path) " " path; next }
+        { print }
+    ' part=1 "$temp/digests" part=2 "$1"
+}
+
+# compared TODAY FILE..: what differs between the frozen lines of the files and those of today, in the same order
+compared() {
+    today=$1
+    shift
+    awk -v outputs="$outputs" "$words"'
+        function held(what, was, now) {
+            if (now == "-") print "frozen: " what " missing (" landing ")"
+            else if (now != was) print "frozen: " what " not as in " landing
+        }
+        part == 1 { today[++lines] = $0; next }
+        today[++at] == $0 { next }
+        { landing = FILENAME; sub(/.*\//, "", landing); split(today[at], now, " ") }
+        now[1] == "archive" {
+            name = behind(3, $0)
+            held("corpus/" name ": its bytes are", $2, now[2])
+            held(outputs ": the lines of " name " are", $3, now[3])
+        }
+        now[1] == "lines" { held(behind(4, $0) ": lines " $2 " to " $3 " are", $4, now[4]) }
+        now[1] == "whole" { held(behind(2, $0) " is", $2, now[2]) }
+        now[1] == "odd" { print "frozen: " FILENAME ": line " FNR " has not the form of a line" }
+    ' part=1 "$today" part=2 "$@"
+}
+
+[ -z "$landing" ] || [ ! -e "$folder/$landing.txt" ] || fail 1 "$folder/$landing.txt is there, and is not changed"
+
+# The seals: each landing's file is there as it was, and no file is without a seal.
+: >"$temp/seals"
+[ ! -f "$folder/SEALS" ] || cp "$folder/SEALS" "$temp/seals"
+while read -r name count sum || [ -n "$name" ]; do
+    file=$folder/$name
+    if [ ! -f "$file" ]; then
+        wrong "$file is sealed and missing"
+    elif [ "$(($(wc -l <"$file")))" != "$count" ]; then
+        wrong "$file is sealed with $count lines and has $(($(wc -l <"$file")))"
+    elif [ "$(digest "$file" | cut -c 1-64)" != "$sum" ]; then
+        wrong "$file is not as it was sealed: a line was changed"
+    fi
+done <"$temp/seals"
+set -- /dev/null
+for file in "$folder"/*.txt; do
+    [ -f "$file" ] || continue
+    set -- "$@" "$file"
+    grep -q "^${file##*/} " "$temp/seals" || wrong "$file has no seal in $folder/SEALS"
+done
+
+# The lines: what each names is there today with the same digests. Then what no line has.
+bare "$@" >"$temp/frozen"
+spelled "$temp/frozen" >"$temp/today"
+compared "$temp/today" "$@" >>"$temp/wrong"
+there >"$temp/there"
+unfrozen "$temp/frozen" "$temp/there" >"$temp/new"
+
+if [ -n "$landing" ]; then
+    judge
+    [ -s "$temp/new" ] || fail 1 "nothing to add: everything there has its line"
+    spelled "$temp/new" >"$temp/lines"
+    bare "$temp/lines" | cmp -s - "$temp/new" ||
+        fail 1 "$(sed -n 's/^\(.*\) - \(.*\)$/\2/p' "$temp/lines" | head -n 1) has no lines in $outputs"
+    mkdir -p "$folder"
+    cp "$temp/lines" "$folder/$landing.txt"
+    count=$(($(wc -l <"$temp/lines")))
+    echo "$landing.txt $count $(digest "$temp/lines" | cut -c 1-64)" >>"$folder/SEALS"
+    echo "frozen: $folder/$landing.txt, $count lines, and its seal"
+    exit 0
+fi
+
+sed -e 's/^archive /corpus\//' -e 's/^whole //' -e 's/^lines \([0-9]*\) \([0-9]*\) \(.*\)/\3, lines \1 to \2/' \
+    -e "s|.*|frozen: &: in no file of $folder/ (scripts/frozen.sh --add NAME adds it)|" "$temp/new" >>"$temp/wrong"
+judge
+awk "$words"'
+    part == 1 { landings++; next }
+    $1 == "archive" { archives++; next }
+    !seen[behind($1 == "lines" ? 3 : 1, $0)]++ { others++ }
+    END {
+        printf "frozen: %d landing%s, %d archives, ", landings, landings == 1 ? "" : "s", archives
+        printf "%d other inputs and outputs as they were\n", others
+    }
+' part=1 "$temp/seals" part=2 "$temp/frozen"
