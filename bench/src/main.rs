@@ -43,6 +43,7 @@ fn player(rounds: usize) {
     println!();
 }
 
+/// Reading, checking and writing. Of the checks the refusals are compared, also with the last send at site 255.
 fn reader_and_writer(rounds: usize) {
     println!("| bytes | work | second model, ns | product, ns | ratio |");
     println!("|---:|---|---:|---:|---:|");
@@ -51,8 +52,15 @@ fn reader_and_writer(rounds: usize) {
         let a = || timed(|| second::read(&mut theirs, TIMES)).0;
         let b = || timed(|| product::read(&mut ours, TIMES)).0;
         row(&format!("{} | read", bytes.len()), medians(rounds, TIMES as f64, a, b));
-        let (mut theirs, mut ours) = (vec![0; bytes.len()], vec![0; bytes.len()]);
         let length = bytes.len();
+        let mut spoiled = bytes.clone();
+        spoiled[length - 3] = 255;
+        let refusals = [second::check(&mut spoiled, TIMES), product::check(&mut spoiled, TIMES)];
+        assert_eq!(refusals, [8 * TIMES; 2], "the refusals of {length} bytes");
+        let a = || timed(|| assert_eq!(second::check(&mut theirs, TIMES), 0)).0;
+        let b = || timed(|| assert_eq!(product::check(&mut ours, TIMES), 0)).0;
+        row(&format!("{} | check", bytes.len()), medians(rounds, TIMES as f64, a, b));
+        let (mut theirs, mut ours) = (vec![0; bytes.len()], vec![0; bytes.len()]);
         let a = || timed(|| assert_eq!(second::write(&bytes, &mut theirs, TIMES), length)).0;
         let b = || timed(|| assert_eq!(product::write(&bytes, &mut ours, TIMES), length)).0;
         row(&format!("{} | write", bytes.len()), medians(rounds, TIMES as f64, a, b));

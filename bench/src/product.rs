@@ -5,6 +5,7 @@ mod c {
         pub fn timing_play(bytes: *const u8, n: usize, book: *mut u8, room: usize) -> usize;
         pub fn timing_by_book(bytes: *const u8, n: usize, book: *mut u8, room: usize) -> usize;
         pub fn timing_read(bytes: *mut u8, n: usize, times: usize) -> usize;
+        pub fn timing_check(bytes: *mut u8, n: usize, times: usize) -> usize;
         pub fn timing_write(bytes: *const u8, n: usize, out: *mut u8, room: usize, times: usize) -> usize;
         pub fn timing_runs(
             bytes: *const u8,
@@ -33,6 +34,11 @@ pub fn play_by_book(bytes: &[u8], book: &mut [u8]) -> usize {
 /// Reads the archive so many times, each time with another seed.
 pub fn read(bytes: &mut [u8], times: usize) -> usize {
     unsafe { c::timing_read(bytes.as_mut_ptr(), bytes.len(), times) }
+}
+
+/// Checks the archive so many times, each time with another seed: the refusals, added up.
+pub fn check(bytes: &mut [u8], times: usize) -> usize {
+    unsafe { c::timing_check(bytes.as_mut_ptr(), bytes.len(), times) }
 }
 
 /// Reads the archive and writes it so many times: its length.

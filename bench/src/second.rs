@@ -20,6 +20,18 @@ pub fn read(bytes: &mut [u8], times: usize) {
     }
 }
 
+/// What `product::check` answers. The second model has no check of its own: it reads, and the refusal alone is
+/// looked at.
+pub fn check(bytes: &mut [u8], times: usize) -> usize {
+    let mut sum = 0;
+    for k in 1..=times {
+        bytes[9] = (k % 255 + 1) as u8;
+        let refusal = black_box(archive::read(black_box(bytes)).err());
+        sum = sum % 65_536 + refusal.map_or(0, |refusal| usize::from(refusal.number()));
+    }
+    sum
+}
+
 /// Reads the archive and writes it so many times: its length.
 pub fn write(bytes: &[u8], room: &mut [u8], times: usize) -> usize {
     let mut run = archive::read(bytes).expect("a valid archive");

@@ -1,4 +1,4 @@
-// Reading and writing, many times over.
+// Reading, checking and writing, many times over.
 use types::Run;
 
 // The last places of the run, put together. They are fixed, so that reading them copies nothing else; the reader, which
@@ -33,6 +33,21 @@ pub extern "C" fn timing_read(bytes: &mut [u8], times: usize) -> usize {
         last = picked(decoded.run);
     }
     last
+}
+
+// Checks the archive so many times, each time with another last byte of its seed, and answers the refusals added up.
+// Before each the sum is cut to 16 bits.
+#[no_mangle]
+pub extern "C" fn timing_check(bytes: &mut [u8], times: usize) -> usize {
+    let mut sum: usize = 0;
+    let mut k: usize = 0;
+    while k < times {
+        k += 1;
+        reseed(bytes, k);
+        let refusal = archive::check(bytes);
+        sum = sum % 65536 + base::wide(refusal);
+    }
+    sum
 }
 
 // Reads the archive and writes it so many times, each time with another seed; answers the length, 0 if it was refused.

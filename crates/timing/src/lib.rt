@@ -4,6 +4,7 @@
 mod archives;
 mod events;
 
+pub use archives::timing_check;
 pub use archives::timing_read;
 pub use archives::timing_write;
 pub use events::timing_runs;
