@@ -11,7 +11,8 @@ cd "$(dirname "$0")/.."
 # Crates that are not looked at:
 #   settled   the theorems; it has no code
 #   timing    for the benchmark alone: it calls the public functions so many times, and nothing that is shipped uses it
-unseen="settled timing"
+#   stack     for the test of the stack alone: the reader, called once
+unseen="settled timing stack"
 
 # Libraries without a function, types, definitions and theorems alone; they are looked at all the same.
 bare="model theorems layout format lines calls"

@@ -20,13 +20,11 @@ fn told(run: types::Run, k: usize) -> usize
     base::wide(channel) + 256 * routed
 }
 
-// Reads the archive: its refusal, 1 to 8, or 16 and what k picks of its run.
+// Reads the archive: its refusal, and what k picks of its run, 0 where it is refused. The two are added up without a
+// branch, as in timing.
 #[no_mangle]
 pub extern "C" fn stack_read(bytes: &[u8], k: usize) -> usize {
     let decoded = archive::read(bytes);
     let refusal = decoded.refusal;
-    if refusal != 0 {
-        return base::wide(refusal);
-    }
-    16 + told(decoded.run, k)
+    base::wide(refusal) + told(decoded.run, k)
 }
