@@ -1,7 +1,7 @@
 /*
  * Fennqualo's library for C: plays, checks and copies archives (docs/FORMAT.md has their form, docs/MODEL.md what they
  * mean). Link libfennqualo.a; it needs memcpy and memset and nothing else, keeps nothing between calls, and may be
- * called from many threads at once. It is compiled for x86-64 Linux. A call takes less than 64 KB of stack.
+ * called from many threads at once. It is compiled for x86-64 Linux. How much stack a call takes is said with it, below.
  *
  * Slices. A slice is a pointer and the number of elements behind it. The caller sees to it that
  *   - the elements are there, and a uint64_t slice is aligned as any uint64_t array is;
@@ -54,18 +54,32 @@ extern "C" {
 #define FENNQUALO_ROOM 14
 
 /*
- * Plays an archive. The services go to the front of the book, in order; the four counts to the front of counts.
+ * The stack that a call takes, in bytes, from its return address down: the most that was measured on x86-64 (204, 236
+ * and 17,544 bytes, over good and damaged archives of every length), rounded up. It is measured, not proved; memcpy and
+ * memset are the caller's own, and those of glibc are counted in.
+ */
+#define FENNQUALO_CHECK_STACK 256
+#define FENNQUALO_COPY_STACK 256
+#define FENNQUALO_PLAY_STACK 18432
+
+/*
+ * Plays an archive. The services go to the front of the book, in order; the four counts to the front of counts. It takes
+ * FENNQUALO_PLAY_STACK bytes of stack.
  * Refusals: 1 to 8; 14 if the book is shorter than 4 bytes for each target of each stored send (FENNQUALO_BOOK_MOST is
  * always enough), or if counts has fewer than FENNQUALO_COUNTS places.
  */
 uint8_t fennqualo_play(const uint8_t *archive, size_t archive_length, uint8_t *book, size_t book_length,
                        uint64_t *counts, size_t counts_length);
 
-/* Checks an archive. Refusals: 1 to 8; 0 means that fennqualo_play, with room enough, plays it. */
+/*
+ * Checks an archive, in FENNQUALO_CHECK_STACK bytes of stack: all is read where it lies, nothing is unpacked.
+ * Refusals: 1 to 8; 0 means that fennqualo_play, with room enough, plays it.
+ */
 uint8_t fennqualo_check(const uint8_t *archive, size_t archive_length);
 
 /*
- * Reads an archive and writes it at the front of out: the same archive_length bytes.
+ * Checks an archive and copies it to the front of out: the same archive_length bytes, which are those that the writer
+ * gives for its run. It takes FENNQUALO_COPY_STACK bytes of stack.
  * Refusals: 1 to 8; 14 if out is shorter than the archive (FENNQUALO_ARCHIVE_MOST is always enough).
  */
 uint8_t fennqualo_copy(const uint8_t *archive, size_t archive_length, uint8_t *out, size_t out_length);

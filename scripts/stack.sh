@@ -1,7 +1,8 @@
 #!/bin/sh
 # stack.sh: measures the stack that the calls of the C library (crate `exports`) and the archive reader (crate `stack`)
 # take, on the corpus and on damaged archives, checks their answers, and fails where a limit is reached: tests/stack/
-# has the limits and says what is counted. Run it after `rt ci` or `rt check`.
+# has the limits and says what is counted. Then examples/small_stack.c, which checks archives in a task with 4 KiB of stack,
+# against its expected output. Run it after `rt ci` or `rt check`.
 # On x86-64 both libraries are the kit's own. On another machine they are their own LLVM modules, compiled for it
 # (scripts/native.sh), and the lines say so; where that is not possible one line says that the test is left out, and the
 # exit status is 0. It needs cc (or what CC names). What it builds stays in target/stack/. Nothing is fetched.
@@ -50,3 +51,17 @@ cd "$root"
     end 1 "tests/stack does not compile"
 }
 "$built/stack" corpus "$@" || end 1 "a limit is reached, or something is wrong: see above"
+
+# What the example prints for each command of its expected output, which stands behind `$ `.
+"$cc" -std=c99 -O2 -Wall -Wextra -pedantic -Werror -Iinclude examples/small_stack.c -L"$built" -lfennqualo -Wl,-z,now \
+    -o "$built/small_stack" || end 1 "examples/small_stack.c does not compile"
+cd "$root/examples"
+grep '^\$ small_stack ' small_stack.txt | while read -r _ _ names; do
+    echo "\$ small_stack $names"
+    status=0
+    # shellcheck disable=SC2086
+    "$built/small_stack" $names || status=$?
+    echo "exit $status"
+done >"$built/small_stack.txt"
+diff small_stack.txt "$built/small_stack.txt" >&2 || end 1 "examples/small_stack.c does not print what small_stack.txt has (<)"
+echo "stack: small_stack, archives checked in a task with 4 KiB of stack, as expected"

@@ -2,7 +2,8 @@
  * stack CORPUS [WORDS]: measures the stack that fennqualo_check, fennqualo_copy, fennqualo_play (include/fennqualo.h)
  * and the archive reader (stack_read, crates/stack) take, and holds it to the limits below; measure.c says what is
  * counted. Every *.bin file of the folder CORPUS goes through the four calls, and so do damaged ones made of each that
- * is accepted; what the calls answer is checked too. WORDS, as `compiled for aarch64`, are added to each figure's line.
+ * is accepted; what the calls answer is checked too. WORDS, as `compiled for aarch64`, are added to each figure's line;
+ * without them the figures are held to those of the header too.
  * Exit: 0 all is well; 1 a limit is reached, an answer is wrong, or something is not there to be seen; 2 wrong usage.
  */
 #define _XOPEN_SOURCE 600
@@ -292,6 +293,11 @@ int main(int count, char **words)
     good &= print_figure(COPY, behind, "", most[COPY], COPY_LIMIT);
     good &= print_figure(PLAY, behind, "", most[PLAY], 0);
     good &= print_figure(READ, behind, beside, reader, READ_LIMIT);
+    if (count == 2) { /* the header speaks of x86-64 */
+        good &= holds(most[CHECK] <= FENNQUALO_CHECK_STACK, "include/fennqualo.h says less of fennqualo_check");
+        good &= holds(most[COPY] <= FENNQUALO_COPY_STACK, "include/fennqualo.h says less of fennqualo_copy");
+        good &= holds(most[PLAY] <= FENNQUALO_PLAY_STACK, "include/fennqualo.h says less of fennqualo_play");
+    }
     printf("stack: %lu archives of the corpus and %lu damaged ones, %lu accepted; %lu calls, every answer right\n",
            (unsigned long)archives, (unsigned long)damaged, (unsigned long)refusals[0],
            (unsigned long)(made[CHECK] + made[COPY] + made[PLAY] + made[READ]));

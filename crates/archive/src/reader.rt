@@ -148,12 +148,16 @@ fn refused(refusal: u8) -> Decoded
 }
 
 // The run that the bytes stand for, with room beyond S sites and N sends zero; or the refusal, 1 to 8, and the
-// all-zero run.
+// all-zero run. What is refused behind the head, and what in it, return apart: with one return for both the compiler lays
+// the sends where each fourth of them crosses a line of the cache (docs/PERFORMANCE.md).
 pub fn read(bytes: &[u8]) -> Decoded
     ensures { λ r. ⌜ r ≡ decode (now (bytes .entry)) ⌝ }
 {
     let fault = faults::find(bytes);
     let refusal = fault.refusal;
+    if 5 < refusal {
+        return refused(refusal);
+    }
     if refusal != 0 {
         return refused(refusal);
     }

@@ -1,8 +1,10 @@
 -- `reader::read` meets its contract, one law of Answers for each way. Assumes nothing.
 use mathlib.Core.Path.{sym, ap, _∙_}
+use native.Mathlib.Omega.{arith}
 use Rattle.format.specs.declared.Fault.{Fault}
 use Rattle.faults.proofs.HeadLaws.{read-passes}
 use Rattle.archive.proofs.Answers.{fault-refusal, decode-no, decode-yes}
+use native.Mathlib.Omega.{arith}
 use borrow.Author.Needs.{needs}
 use Rattle.archive.proofs.reader.read.Statement.{statement}
 use Rattle.archive.proofs.reader.read.Tie as tie
@@ -21,18 +23,41 @@ refused-requires c κs = search needs
 returns : tie.Need-returns
 returns c =
     let e = ap (λ (x : Fault). x .refusal) (c .before .before .find .ensures) ∙ fault-refusal _ in
-    c .refused .ensures ∙ decode-no _ _ e (c .before .if1 .taken)
+    c .refused .ensures ∙ decode-no _ _ e (λ z. omega (arith, z, c .before .if1 .taken))
 
-read-run-requires : tie.Need-read-run-requires
-read-run-requires c κs =
-    let if1 = c .if1 in
-    let find = c .before .find in
-    let e = ap (λ (x : Fault). x .refusal) (find .ensures) ∙ fault-refusal _ in read-passes _ (sym e ∙ if1 .left)
+refused-requires-2 : tie.Need-refused-requires-2
+refused-requires-2 c κs = search needs
 
 returns-2 : tie.Need-returns-2
 returns-2 c =
-    let e = ap (λ (x : Fault). x .refusal) (c .before .before .find .ensures) ∙ fault-refusal _ in
-    decode-yes _ _ _ e (c .before .if1 .left) (c .read-run .ensures)
+    let refused2 = c .refused2 in
+    let if2 = c .before .if2 in
+    let find = c .before .before .before .find in
+    let e = ap (λ (x : Fault). x .refusal) (find .ensures) ∙ fault-refusal _ in
+    refused2 .ensures ∙ decode-no _ _ e (if2 .taken)
+
+read-run-requires : tie.Need-read-run-requires
+read-run-requires c κs =
+    let if2 = c .if2 in
+    let find = c .before .before .find in
+    let e = ap (λ (x : Fault). x .refusal) (find .ensures) ∙ fault-refusal _ in read-passes _ (sym e ∙ if2 .left)
+
+returns-3 : tie.Need-returns-3
+returns-3 c =
+    let read-run = c .read-run in
+    let if2 = c .before .if2 in
+    let find = c .before .before .before .find in
+    let e = ap (λ (x : Fault). x .refusal) (find .ensures) ∙ fault-refusal _ in
+    decode-yes _ _ _ e (if2 .left) (read-run .ensures)
 
 pub read-spec : {M : Type 1} → statement M
-read-spec = tie.close (tie.spec find-requires refused-requires returns read-run-requires returns-2)
+read-spec =
+    tie.close
+    (tie.spec
+    find-requires
+    refused-requires
+    returns
+    refused-requires-2
+    returns-2
+    read-run-requires
+    returns-3)
