@@ -132,7 +132,7 @@ pub fn check(archive: &[u8]) -> Result<(), Refusal> {
     Refusal::check(unsafe { library::fennqualo_check(archive.as_ptr(), archive.len()) })
 }
 
-/// Reads an archive and writes it: the same bytes, in a buffer of their own.
+/// Checks an archive and copies it: the same bytes, in a buffer of their own.
 pub fn copy(archive: &[u8]) -> Result<Vec<u8>, Refusal> {
     let mut out = vec![0; archive.len()];
     // SAFETY: two slices that are there; `out` was made here, so the two do not overlap.

@@ -135,12 +135,11 @@ loop-again c =
     let word-at = past .before .word-at in
     let args = past .before .before .before .args in
     let pre = past .before .before .before .pre in
-    let a = args in
     let e =
-    send-tested (a .b .now) (pre .0) (a .sites) (a .sends) (loop .k) _ (pre .1) (pre .2) refl (loop-test .taken) (pre .3) _ _
+    send-tested (args .b .now) (pre .0) (args .sites) (args .sends) (loop .k) _ (pre .1) (pre .2) refl (loop-test .taken) (pre .3) _ _
     (word-at2 .ensures) (word-at3 .ensures) _ _ _ (word-at .ensures) (loop .inv .1) (stored-ok .ensures) in (
       omega arith,
-      draw-kept (a .b .now) (pre .0) (a .sites) (a .sends) (loop .k) _ (pre .1) (pre .2) refl (loop-test .taken) (pre .3) _ _
+      draw-kept (args .b .now) (pre .0) (args .sites) (args .sends) (loop .k) _ (pre .1) (pre .2) refl (loop-test .taken) (pre .3) _ _
           (word-at2 .ensures) (word-at3 .ensures),
       all-more _ _ (loop .inv .2) (sym e ∙ if1 .taken),
     )
@@ -157,11 +156,10 @@ returns c =
     let word-at = past .before .word-at in
     let args = past .before .before .before .args in
     let pre = past .before .before .before .pre in
-    let a = args in
     let e =
-    send-tested (a .b .now) (pre .0) (a .sites) (a .sends) (loop .k) _ (pre .1) (pre .2) refl (loop-test .taken) (pre .3) _ _
+    send-tested (args .b .now) (pre .0) (args .sites) (args .sends) (loop .k) _ (pre .1) (pre .2) refl (loop-test .taken) (pre .3) _ _
     (word-at2 .ensures) (word-at3 .ensures) _ _ _ (word-at .ensures) (loop .inv .1) (stored-ok .ensures) in
-    left-at _ (a .sends) (loop .k) (loop-test .taken) (loop .inv .2) (sym e ∙ if1 .left)
+    left-at _ (args .sends) (loop .k) (loop-test .taken) (loop .inv .2) (sym e ∙ if1 .left)
 
 returns-2 : tie.Need-returns-2 Inv-loop μ-loop
 returns-2 c =
