@@ -5,6 +5,7 @@ mod send;
 
 pub use network::is_input;
 pub use network::network_refusal;
+pub use network::ports_by;
 pub use network::route_ok;
 pub use network::sizes_ok;
 pub use range::event_refusal;

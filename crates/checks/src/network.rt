@@ -7,7 +7,7 @@ ghost use lib.Dec.{ltb};
 ghost use Rattle.base.specs.Sizes.{sitesMost, portCount};
 ghost use Rattle.base.specs.All.{all};
 ghost use Rattle.model.specs.Network.{channelsOk, routeOk, routesOk, networkRefusal};
-ghost use Rattle.checks.specs.Network.{sizesIn, portsOf, routeBy};
+ghost use Rattle.checks.specs.Network.{sizesIn, portsBy, portsOf, routeBy};
 use types::Network;
 
 // S, T and D within their limits.
@@ -54,19 +54,16 @@ fn channels_ok(network: Network) -> bool
     true
 }
 
-// The hex digits that may stand in a list of site s: 0, and the ports with a channel.
-fn ports_of(network: Network, s: usize) -> [bool; 16]
-    requires { ⌜ s < sitesMost ⌝ }
-    ensures { λ r. ⌜ r ≡ portsOf network s ⌝ }
+// The hex digits that may stand in a list of a site, by whether its ports 1 to 4 have a channel: 0, and those that have.
+pub fn ports_by(first: bool, second: bool, third: bool, last: bool) -> [bool; 16]
+    ensures { λ r. ⌜ r ≡ portsBy first second third last ⌝ }
 {
-    let channels = network.channels;
-    let at = base::PORTS * s;
     [
         true,
-        channels[at] != base::NO_CHANNEL,
-        channels[at + 1] != base::NO_CHANNEL,
-        channels[at + 2] != base::NO_CHANNEL,
-        channels[at + 3] != base::NO_CHANNEL,
+        first,
+        second,
+        third,
+        last,
         false,
         false,
         false,
@@ -79,6 +76,19 @@ fn ports_of(network: Network, s: usize) -> [bool; 16]
         false,
         false,
     ]
+}
+
+fn ports_of(network: Network, s: usize) -> [bool; 16]
+    requires { ⌜ s < sitesMost ⌝ }
+    ensures { λ r. ⌜ r ≡ portsOf network s ⌝ }
+{
+    let channels = network.channels;
+    let at = base::PORTS * s;
+    let first = channels[at] != base::NO_CHANNEL;
+    let second = channels[at + 1] != base::NO_CHANNEL;
+    let third = channels[at + 2] != base::NO_CHANNEL;
+    let last = channels[at + 3] != base::NO_CHANNEL;
+    ports_by(first, second, third, last)
 }
 
 // The route from site s to site t, where the digits in `ports` may stand: all zero from a site to itself, else a list.

@@ -41,22 +41,9 @@ pub(crate) fn ports_at(b: &[u8], s: usize) -> [bool; 16]
     ensures { λ r. ⌜ r ≡ portsOf (networkOf (now (b .entry))) s ⌝ }
 {
     let at = 13 + base::PORTS * s;
-    [
-        true,
-        b[at] != base::NO_CHANNEL,
-        b[at + 1] != base::NO_CHANNEL,
-        b[at + 2] != base::NO_CHANNEL,
-        b[at + 3] != base::NO_CHANNEL,
-        false,
-        false,
-        false,
-        false,
-        false,
-        false,
-        false,
-        false,
-        false,
-        false,
-        false,
-    ]
+    let first = b[at] != base::NO_CHANNEL;
+    let second = b[at + 1] != base::NO_CHANNEL;
+    let third = b[at + 2] != base::NO_CHANNEL;
+    let last = b[at + 3] != base::NO_CHANNEL;
+    checks::ports_by(first, second, third, last)
 }

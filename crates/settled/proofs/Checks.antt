@@ -10,6 +10,7 @@ use Rattle.checks.proofs.place_ok as the-place-ok
 use Rattle.checks.proofs.send_fault as the-send-fault
 use Rattle.checks.proofs.sizes_ok as the-sizes-ok
 use Rattle.checks.proofs.is_input as the-is-input
+use Rattle.checks.proofs.ports_by as the-ports-by
 use Rattle.checks.proofs.route_ok as the-route-ok
 use Rattle.checks.proofs.stored_ok as the-stored-ok
 
@@ -33,6 +34,9 @@ sizes-ok-settled = settled (λ κs a x y p q. refl) (λ κs a x y p q i. (same p
 
 pub is-input-settled : Settles the-is-input.ended (λ M. the-is-input.clauses) (λ M. the-is-input.spec)
 is-input-settled = settled (λ κs a x y p q. refl) (λ κs a x y p q i. (same p q i, x .1))
+
+pub ports-by-settled : Settles the-ports-by.ended (λ M. the-ports-by.clauses) (λ M. the-ports-by.spec)
+ports-by-settled = settled (λ κs a x y p q. refl) (λ κs a x y p q i. (same p q i, x .1))
 
 pub route-ok-settled : Settles the-route-ok.ended (λ M. the-route-ok.clauses) (λ M. the-route-ok.spec)
 route-ok-settled = settled (λ κs a x y p q. refl) (λ κs a x y p q i. (same p q i, x .1))

@@ -1,49 +1,54 @@
--- `network::ports_of` meets its contract: the table is the definition's. Assumes nothing.
-use mathlib.Core.Path.{refl}
+-- `network::ports_of` meets its contract: the flags are those of the site's channels. Assumes nothing.
+use mathlib.Core.Path.{_∙_, refl}
 use native.Mathlib.Nat.{add-zero}
 use borrow.Author.Needs.{needs}
 use Rattle.checks.proofs.network.ports_of.Statement.{statement}
 use Rattle.checks.proofs.network.ports_of.Tie as tie
 use Rattle.checks.proofs.network.ports_of.Reads as reads
 use Rattle.checks.proofs.network.ports_of.Lts as lts
+use Rattle.checks.proofs.network.ports_by.Reads as ports-by-reads
 
 mul-at : tie.Need-mul-at
 mul-at c = search needs
 
-array-read-t7 : tie.Need-array-read-t7
-array-read-t7 c = search needs
+array-read-first : tie.Need-array-read-first
+array-read-first c = search needs
 
-add-t9 : tie.Need-add-t9
-add-t9 c = search needs
+add-second : tie.Need-add-second
+add-second c = search needs
 
-array-read-t12 : tie.Need-array-read-t12
-array-read-t12 c = search needs
+array-read-second : tie.Need-array-read-second
+array-read-second c = search needs
 
-add-t14 : tie.Need-add-t14
-add-t14 c = search needs
+add-third : tie.Need-add-third
+add-third c = search needs
 
-array-read-t17 : tie.Need-array-read-t17
-array-read-t17 c = search needs
+array-read-third : tie.Need-array-read-third
+array-read-third c = search needs
 
-add-t19 : tie.Need-add-t19
-add-t19 c = search needs
+add-last : tie.Need-add-last
+add-last c = search needs
 
-array-read-t22 : tie.Need-array-read-t22
-array-read-t22 c = search needs
+array-read-last : tie.Need-array-read-last
+array-read-last c = search needs
+
+ports-by-requires : tie.Need-ports-by-requires
+ports-by-requires c κs = search needs
 
 returns : tie.Need-returns
-returns c = rw add-zero refl
+returns c = c .ports-by .ensures ∙ rw add-zero refl
 
 pub ports-of-spec : {M : Type 1} → statement M
 ports-of-spec =
     tie.close
     (tie.spec
     mul-at
-    array-read-t7
-    add-t9
-    array-read-t12
-    add-t14
-    array-read-t17
-    add-t19
-    array-read-t22
+    array-read-first
+    add-second
+    array-read-second
+    add-third
+    array-read-third
+    add-last
+    array-read-last
+    ports-by-requires
     returns)
