@@ -13,7 +13,7 @@ use Rattle.types.specs.declared.Run.{Run}
 use Rattle.model.specs.Network.{sizesOk, channelsOk, routesOk}
 use Rattle.model.specs.Runs.{sendsOk, storedRefusal}
 use Rattle.checks.proofs.NetworkLaws.{sizes-few}
-use Rattle.format.specs.Format.{networkOf, runOf}
+use Rattle.format.specs.Format.{runOf}
 use Rattle.format.specs.Refusals.{readRefusal}
 use Rattle.faults.proofs.HeadLaws.{head-passes}
 use Rattle.archive.specs.Code.{Fit}

@@ -11,7 +11,6 @@ use Rattle.format.specs.Format.{networkOf, runOf}
 use Rattle.format.specs.Refusals.{headThen, readRefusal}
 use Rattle.model.specs.Runs.{bodyRefusal}
 use Rattle.machine.specs.Play.{playRefusal}
-use Rattle.types.specs.declared.Counts.{Counts}
 use Rattle.calls.specs.Calls.{callRefusal, bookAfter, fourCounts, countsAfter, copyRefusal, copyAfter}
 
 abbrev runR : List ℕ

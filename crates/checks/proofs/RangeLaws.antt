@@ -3,19 +3,18 @@
 use mathlib.Core.Path.{_≡_, refl, sym, ap, ap₂, _∙_}
 use mathlib.Core.Bool.{Bool, true, false, not, _&&_, and-true, and-false, or-false, and-assoc}
 use mathlib.Core.List.{List}
-use Prim.Native.Nat.{ℕ, zero, suc, _+_, _≤_, _<_}
+use Prim.Native.Nat.{ℕ, zero, suc, _+_, _≤_}
 use native.Mathlib.Omega.{arith}
 use native.Mathlib.Numerals.{add-one}
 use borrow.Author.Tests.{le-ltb, le-leb, lt-leb, ne-eqb, eqb-true, not-true}
-use lib.Dec.{eqb, ltb, leb}
-use lib.ListN.{getD}
+use lib.Dec.{eqb, leb}
 use Rattle.base.specs.Sizes.{inputCount, outputCount, queueRoom}
-use Rattle.base.specs.Bools.{implies, pick, alike, clash, either-way, both3, implies-by, pick-cond}
-use Rattle.base.specs.All.{all, all-by, all-same, any, any-at}
+use Rattle.base.specs.Bools.{implies, pick, alike, clash, either-way, both3, implies-by}
+use Rattle.base.specs.All.{all, all-by, all-same, any-at}
 use Rattle.types.specs.Phases.{isFree, connected, splitting, aborting}
 use Rattle.model.specs.Types.{Phase, Free, Seek, Open, Wait, Done, Last, Aborted, FinAbort}
-use Rattle.model.specs.Types.{Input, Output, OutEntry, InEntry, OutQueue, InQueue, Site, mark, outOf, inAt, outAt, outEntry, inEntry}
-use Rattle.model.specs.Range.{tagOk, anyMark, anyRemote, zeroInput, zeroOutput, zeroOutEntry, zeroInEntry, fedBy, inputOk, outputOk}
+use Rattle.model.specs.Types.{Input, Output, Site, mark, outOf, inAt, outAt, outEntry, inEntry}
+use Rattle.model.specs.Range.{tagOk, anyMark, anyRemote, zeroInput, zeroOutput, fedBy, inputOk, outputOk}
 use Rattle.model.specs.Range.{outEntryOk, inEntryOk, outQueueOk, inQueueOk, siteOk, zeroSite}
 use Rattle.checks.specs.Range.{connectionOk, netPlacesOk}
 

@@ -1,7 +1,7 @@
 -- The test of a send after the last one's draw number is the model's test of it. Assumes nothing.
-use mathlib.Core.Path.{_≡_, refl, sym, ap, ap₂, _∙_}
+use mathlib.Core.Path.{_≡_, refl, sym, ap}
 use mathlib.Core.Bool.{Bool, true, false, cond, _&&_, _||_}
-use Prim.Native.Nat.{ℕ, _+_, _-_, _≤_, _<_}
+use Prim.Native.Nat.{ℕ, _+_, _-_}
 use native.Mathlib.Omega.{arith}
 use borrow.Author.Tests.{ne-eqb, le-leb}
 use lib.Dec.{eqb, ltb, leb}
@@ -11,7 +11,7 @@ use Rattle.types.specs.declared.StoredSend.{StoredSend}
 use Rattle.types.specs.declared.Run.{Run}
 use Rattle.model.specs.Types.{sendAt}
 use Rattle.model.specs.Runs.{sendOk, sendsOk}
-use Rattle.checks.specs.Sends.{drawBefore, sendAfter, sendIn}
+use Rattle.checks.specs.Sends.{drawBefore, sendIn}
 
 pub draw-next : (f : ℕ → StoredSend) (k : ℕ) → f k .draw ≡ drawBefore f (k + 1)
 draw-next f k =
@@ -38,11 +38,3 @@ send-in r k =
 -- the sends of a run
 pub sends-in : (r : Run) → all (sendIn (r .network .sites) (r .draws) (sendAt r)) (r .count) ≡ sendsOk r
 sends-in r = all-same (sendIn (r .network .sites) (r .draws) (sendAt r)) (sendOk r) (r .count) (λ k h. send-in r k)
-
--- two ways to the same sends
-pub in-same : (S draws : ℕ) (f g : ℕ → StoredSend) (n : ℕ) → ((k : ℕ) → k < n → f k ≡ g k)
-    → all (sendIn S draws f) n ≡ all (sendIn S draws g) n
-in-same S draws f g n h =
-    all-same (sendIn S draws f) (sendIn S draws g) n
-    (λ k l.
-    ap₂ (λ (e last : StoredSend). sendAfter S draws (cond (eqb k 0) 0 (last .draw)) e) (h k l) (h (k - 1) (omega arith)))

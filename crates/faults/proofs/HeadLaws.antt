@@ -20,9 +20,9 @@ use Rattle.format.specs.Format.{lengthWith, networkOf, runOf}
 use Rattle.format.specs.Refusals.{lengthOk, sizeOk, headThen, readRefusal}
 use Rattle.faults.specs.Head.{Head}
 
-few-sites : (b : List ℕ) → sizesOk (networkOf b) ≡ true → at b sitesPlace ≤ sitesMost
+sites-passed : (b : List ℕ) → sizesOk (networkOf b) ≡ true → at b sitesPlace ≤ sitesMost
 unfolding networkOf
-few-sites b h = sizes-few (networkOf b) h .0
+sites-passed b h = sizes-few (networkOf b) h .0
 
 -- 1 to 5 are not given
 pub head-passes : (b : List ℕ) (rest : ℕ) → headThen b rest ≡ 0 → Head b × (rest ≡ 0)
@@ -34,7 +34,7 @@ head-passes b rest h =
     let x = second-of (eqb (quad b 6) 0) 4 _ 0 (λ e. omega arith) (s .1) in
     let z = first-of (sizeOk b) rest 5 0 (λ e. omega arith) (x .1) in
     let w = both (leb headLength (length b)) (eqb (word b 0) (length b)) (a .0) in
-    let few = few-sites b (s .0) in (
+    let few = sites-passed b (s .0) in (
       record {
         enough = leb-true _ _ (w .0);
         field = eqb-true _ _ (w .1);

@@ -11,7 +11,7 @@ use Rattle.model.specs.Network.{channelOk, channelsOk, routesOk}
 use Rattle.model.specs.Runs.{sendOk, sendsOk, bodyRefusal}
 use Rattle.format.specs.declared.Fault.{Fault}
 use Rattle.format.specs.Format.{at, sitesPlace, countPlace, networkOf, runOf}
-use Rattle.format.specs.Refusals.{headThen, readRefusal}
+use Rattle.format.specs.Refusals.{headThen}
 use Rattle.format.specs.First.{first, Fails, found-at, none-found}
 use Rattle.format.specs.Faults.{numberedOk, faultOf}
 use Rattle.faults.proofs.HeadLaws.{read-head, read-body}

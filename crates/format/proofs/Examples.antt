@@ -2,7 +2,7 @@
 -- it alone gives, with some where several hold and the lowest number is due. Assumes nothing.
 use mathlib.Core.Path.{_≡_, refl}
 use mathlib.Core.List.{List, [], _∷_, _++_, map}
-use Prim.Native.Nat.{ℕ, _+_}
+use Prim.Native.Nat.{ℕ}
 use lib.ListN.{set, take, replicate}
 use Rattle.base.specs.Over.{over}
 use Rattle.base.specs.All.{all}

@@ -2,7 +2,6 @@
 use mathlib.Core.Path.{_≡_, refl}
 use mathlib.Core.List.{[], _∷_}
 use mathlib.Core.Bool.{true, false}
-use Prim.Native.Nat.{ℕ}
 use Rattle.types.specs.declared.Connection.the-variants.{AllRemote, SomeLocal}
 use Rattle.types.specs.declared.Received.the-variants.{Abort as gotAbort}
 use Rattle.types.specs.declared.Terminator.the-variants.{None as tNone, Abort as tAbort, KeepLocal as tKeep}

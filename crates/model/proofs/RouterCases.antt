@@ -1,6 +1,6 @@
 -- The router's rules and the tries on one network, typed from document 01: each row is what the definitions compute
 -- beside what the document says. Demand 3 holds for routers of other tastes too; these rows do not.
-use Prim.Native.Nat.{ℕ, zero, suc, _+_}
+use Prim.Native.Nat.{ℕ, zero, suc}
 use mathlib.Core.Path.{_≡_, refl}
 use mathlib.Core.Bool.{true, false}
 use mathlib.Core.List.{List, [], _∷_, _++_, map}

@@ -1,5 +1,5 @@
 -- Stored runs by computation: run R of document 01, a late send, and a run worked out by hand, draw by draw.
-use Prim.Native.Nat.{ℕ, _-_}
+use Prim.Native.Nat.{ℕ}
 use mathlib.Core.Path.{_≡_, refl}
 use mathlib.Core.List.{[], _∷_}
 use lib.ListN.{set, replicate}

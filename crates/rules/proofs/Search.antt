@@ -1,8 +1,8 @@
 -- One turn of each search of the router, as its loops take it. Assumes nothing.
 use mathlib.Core.Path.{_≡_, refl, sym, ap, _∙_}
-use mathlib.Core.Bool.{Bool, true, false, cond, not, _&&_, _||_, and-false}
+use mathlib.Core.Bool.{Bool, true, false, cond, _&&_, _||_, and-false}
 use mathlib.Core.List.{List, [], _∷_}
-use Prim.Native.Nat.{ℕ, suc, _+_, _-_, _^_, _≤_, _<_}
+use Prim.Native.Nat.{ℕ, _+_, _^_, _≤_, _<_}
 use native.Mathlib.Omega.{arith}
 use native.Mathlib.Numerals.{add-one}
 use borrow.Author.Tests.{lt-ltb, eqb-false, leb-true}
@@ -20,7 +20,7 @@ use Rattle.rules.specs.declared.ports.Gathering.{Gathering}
 use Rattle.types.specs.declared.Network.{Network}
 use Rattle.types.specs.declared.Output.{Output}
 use Rattle.types.specs.declared.Connection.the-variants.{Unicast, Passthru, AllRemote, SomeLocal}
-use Rattle.model.specs.Router.{Choice, Chosen, Unserved, Gathered, Every, Missing, firstPort, serves, gather, isEmpty, isChosen}
+use Rattle.model.specs.Router.{Choice, Chosen, Unserved, Gathered, Every, Missing, firstPort, serves, isEmpty, isChosen}
 use Rattle.model.specs.Router.{chosenCount, firstChosen, oneOutput, toOwn, toOther, spread, orElse, route}
 use Rattle.rules.specs.Router.{ofGathered, ofChoice, several}
 

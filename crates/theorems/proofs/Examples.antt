@@ -1,6 +1,6 @@
 -- Document 01, "Runs with known ends": P1 to P9, one table under one theorem. Each row is what the definitions compute
 -- beside what the document says.
-use Prim.Native.Nat.{ℕ, _+_}
+use Prim.Native.Nat.{ℕ}
 use mathlib.Core.Path.{_≡_, refl}
 use mathlib.Core.List.{List, [], _∷_, _++_, map}
 use lib.ListN.{replicate}

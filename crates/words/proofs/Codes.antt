@@ -1,24 +1,22 @@
 -- RUN's arms by the code number, and what an arm asks of the words. Assumes what each law names.
-use mathlib.Core.Path.{_≡_, refl, ap, _∙_}
+use mathlib.Core.Path.{_≡_, refl}
 use mathlib.Core.List.{List}
-use mathlib.Core.Bool.{true, false, cond, _&&_}
-use Prim.Native.Nat.{ℕ, suc, _+_, _-_, _*_, _<_, _≤_}
+use Prim.Native.Nat.{ℕ, suc, _-_, _<_}
 use native.Mathlib.Omega.{arith}
 use borrow.Author.Tests.{lt-ltb, le-ltb, le-leb, ne-eqb}
-use lib.Dec.{eqb, ltb, leb}
-use lib.ListN.{length, getD}
+use lib.ListN.{length}
 use Rattle.base.specs.Sizes.{sitesMost, inputCount}
 use Rattle.types.specs.declared.Input.{Input}
 use Rattle.types.specs.declared.Network.{Network}
 use Rattle.types.specs.declared.Site.{Site}
 use Rattle.types.specs.declared.Ran.the-variants.{the-data as Ran, Nothing}
-use Rattle.model.specs.Types.{outAt, noInput}
+use Rattle.model.specs.Types.{outAt}
 use Rattle.model.specs.Network.{channel, isChannel}
 use Rattle.model.specs.Places.{channelOutput}
-use Rattle.model.specs.Steps.{Idle, passTurn, netOutput, act, ends, farEnd}
+use Rattle.model.specs.Steps.{netOutput, act, ends}
 use Rattle.layout.specs.Layout.{wordCount}
 use Rattle.layout.specs.Words.{sitesOf}
-use Rattle.words.specs.Events.{Did, DidPass, RunAsks, Seekable, BytesWithin, networkBy, siteIn, endOf}
+use Rattle.words.specs.Events.{Did, DidPass, RunAsks, Seekable, networkBy, siteIn, endOf}
 use Rattle.rules.specs.Acts.{inputAct, localAct, queueAct, operatorAct, timeoutAct}
 use Rattle.words.proofs.Acts.{did-nothing}
 

@@ -5,7 +5,7 @@ use Prim.Native.Nat.{ℕ}
 use lib.ListN.{replicate, set}
 use Rattle.base.specs.All.{all, any}
 use Rattle.base.specs.Over.{over}
-use Rattle.sets.specs.Sets.{has, plus, minus, sizeIn, lowest}
+use Rattle.sets.specs.Sets.{has, plus, minus}
 use Rattle.types.specs.declared.Network.{Network}
 use Rattle.types.specs.declared.Ran.the-variants.{Changed, Refused as RunRefused}
 use Rattle.types.specs.declared.Sent.the-variants.{Accepted, Refused as SendRefused}

@@ -1,13 +1,12 @@
 -- Codes 0 to 4 in place: readiness by the packed words, and what each way of the code makes of the definition. Assumes what each law names.
 use mathlib.Core.Path.{_≡_, refl, sym, ap, subst, _∙_}
-use mathlib.Core.List.{List, _∷_}
+use mathlib.Core.List.{List}
 use mathlib.Core.Bool.{Bool, true, _&&_, _||_}
 use Prim.Native.Nat.{ℕ, suc, _+_, _*_, _/_, _%_, _<_, _≤_}
 use native.Mathlib.Numerals.{add-one}
 use borrow.Author.Tests.{lt-ltb, le-leb, eq-eqb}
 use lib.Dec.{eqb}
 use lib.ListN.{length}
-use Rattle.base.specs.Bools.{and}
 use Rattle.base.specs.Sizes.{sitesMost}
 use Rattle.sets.specs.Sets.{targets}
 use Rattle.types.specs.Numbers.{stateNumber}

@@ -13,7 +13,7 @@ use Rattle.model.specs.Owing.{owedPairs}
 use Rattle.model.specs.Runs.{playedRun, countsOf}
 use Rattle.machine.specs.Play.{Playable, bookIn}
 use Rattle.machine.specs.Progress.{Progress, progress, no-turn, cappedAt, capped-same}
-use Rattle.machine.proofs.PlayerTurns.{Playing, known, next-most, accepted-most, pairs-most, network-valid, state-in-range, more, ended}
+use Rattle.machine.proofs.PlayerTurns.{Playing, next-most, accepted-most, pairs-most, network-valid, state-in-range, more, ended}
 use Rattle.machine.proofs.ProgressLaws.{stored-sends}
 use Rattle.machine.proofs.ProgressLawsOrder.{draw-below}
 use Rattle.words.specs.declared.player.Tally.{Tally}

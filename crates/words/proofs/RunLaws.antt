@@ -1,13 +1,12 @@
 -- RUN in place is the model's RUN on the state, and what it asks a valid network and a state in range give. Assumes what each law names.
 use Prim.Native.Nat.{ℕ, _*_, _<_, _%_}
-use mathlib.Core.Path.{_≡_, refl, ap, ap₂, _∙_}
+use mathlib.Core.Path.{_≡_, ap, ap₂}
 use mathlib.Core.List.{List}
 use mathlib.Core.Bool.{true}
-use lib.ListN.{length, getD}
+use lib.ListN.{length}
 use Rattle.base.specs.Sizes.{sitesMost, portCount}
 use Rattle.sets.proofs.Laws.{targets-by}
 use Rattle.types.specs.declared.Site.{Site}
-use Rattle.types.specs.declared.State.{State}
 use Rattle.types.specs.declared.Network.{Network}
 use Rattle.types.specs.declared.Ran.the-variants.{the-data as Ran}
 use Rattle.model.specs.Range.{inRange}

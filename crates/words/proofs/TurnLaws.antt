@@ -1,12 +1,11 @@
 -- A turn over words is a turn of the run: a send tried, a draw made, the one or the other. Assumes what each law names.
-use Prim.Native.Nat.{ℕ, _+_, _%_, _≤_, _<_}
+use Prim.Native.Nat.{ℕ, _+_, _≤_, _<_}
 use mathlib.Core.Path.{_≡_, refl, sym, ap, ap₂, subst, _∙_}
 use mathlib.Core.List.{List, []}
 use mathlib.Core.Bool.{Bool, true, false, cond, _&&_}
 use native.Mathlib.Omega.{arith}
 use borrow.Author.Tests.{ltb-true}
 use lib.Dec.{eqb, ltb}
-use lib.ListN.{length}
 use Rattle.base.specs.Bools.{clash}
 use Rattle.base.specs.Sizes.{sitesMost}
 use Rattle.sets.specs.Sets.{size}
@@ -28,10 +27,9 @@ use Rattle.machine.specs.declared.clock.Clock.{Clock}
 use Rattle.machine.specs.Clock.{advanced}
 use Rattle.machine.specs.Progress.{Progress, due, answered, sendTurn, drew, drawTurn, entriesBy, bookBy, turned}
 use Rattle.words.specs.declared.player.Tally.{Tally}
-use Rattle.layout.specs.Layout.{wordCount}
 use Rattle.layout.specs.Words.{sitesOf, stateOf}
 use Rattle.words.specs.Events.{Did, Took, tried, networkBy, siteIn}
-use Rattle.words.specs.Turned.{standing, Turnable, triedSend, Tried, ranBy, Drew, Turned}
+use Rattle.words.specs.Turned.{standing, triedSend, Tried, ranBy, Drew, Turned}
 use Rattle.machine.proofs.ProgressLaws.{is-due}
 use Rattle.words.proofs.RunLaws.{ran-answer, ran-state}
 

@@ -1,5 +1,5 @@
 -- RUN and SEND in place: what they ask of the words, what an arm of RUN decides, what the words are after it.
-use Prim.Native.Nat.{ℕ, suc, _+_, _*_, _<_, _≤_, _^_, _%_}
+use Prim.Native.Nat.{ℕ, suc, _+_, _*_, _<_, _≤_}
 use mathlib.Core.Path.{_≡_}
 use mathlib.Core.List.{List, [], _∷_}
 use mathlib.Core.Bool.{Bool, true, cond, _&&_}

@@ -1,6 +1,5 @@
 -- `fennqualo_copy` meets its contract, one law of CopyWays for each way. Assumes nothing.
 use denote.Ref.{now}
-use native.Mathlib.Omega.{arith}
 use Rattle.exports.proofs.CopyWays.{copy-refused, copy-short, copy-done}
 use borrow.Author.Needs.{needs}
 use Rattle.exports.proofs.fennqualo_copy.Statement.{statement}

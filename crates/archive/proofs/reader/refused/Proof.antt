@@ -1,5 +1,5 @@
 -- `reader::refused` meets its contract. Assumes nothing.
-use mathlib.Core.Path.{_≡_, refl}
+use mathlib.Core.Path.{refl}
 use borrow.Author.Needs.{needs}
 use Rattle.archive.proofs.reader.refused.Statement.{statement}
 use Rattle.archive.proofs.reader.refused.Tie as tie

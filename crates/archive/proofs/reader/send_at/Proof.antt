@@ -1,7 +1,5 @@
 -- `reader::send_at` meets its contract: its fields are the definition's. Assumes nothing.
 use mathlib.Core.Path.{refl}
-use Prim.Native.Nat.{_+_}
-use native.Mathlib.Omega.{arith}
 use borrow.Author.Needs.{needs}
 use Rattle.archive.proofs.reader.send_at.Statement.{statement}
 use Rattle.archive.proofs.reader.send_at.Tie as tie

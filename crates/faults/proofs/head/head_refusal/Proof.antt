@@ -1,5 +1,5 @@
 -- `head::head_refusal` meets its contract, one law of HeadLaws for each way. Assumes nothing.
-use mathlib.Core.Path.{refl, sym, ap₂, _∙_}
+use mathlib.Core.Path.{sym, ap₂, _∙_}
 use mathlib.Core.Bool.{true, false}
 use Prim.Native.Nat.{ℕ, _+_, _*_}
 use Rattle.faults.proofs.HeadLaws.{sizes-read, head-short, head-field, head-version, head-sizes, head-seed, head-size, head-by}

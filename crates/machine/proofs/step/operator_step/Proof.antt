@@ -1,4 +1,4 @@
-use mathlib.Core.Path.{refl, _∙_}
+use mathlib.Core.Path.{_∙_}
 use Rattle.model.specs.Places.{operator}
 use Rattle.machine.proofs.Lifts.{work-took}
 use borrow.Author.Needs.{needs}

@@ -1,7 +1,6 @@
-use mathlib.Core.Path.{refl, sym}
-use lib.ListN.{length-set, length}
+use mathlib.Core.Path.{sym}
+use lib.ListN.{length-set}
 use denote.Ref.{now}
-use Prim.Native.Nat.{_+_, _*_, _≤_, _<_}
 use native.Mathlib.Omega.{arith}
 use Rattle.machine.specs.Progress.{enteredAt, no-room, room-left}
 use native.Mathlib.Omega.{arith}

@@ -1,4 +1,3 @@
-use mathlib.Core.Path.{refl}
 use borrow.Author.Needs.{needs}
 use Rattle.machine.proofs.turns.enter_answer.Statement.{statement}
 use Rattle.machine.proofs.turns.enter_answer.Tie as tie

@@ -1,7 +1,5 @@
 -- `adding::add_answer` meets its contract: the line is composed at the front of a room and added whole. Assumes nothing.
 use Rattle.io.specs.Counts.{Counts}
-use lib.ListN.{take}
-use mathlib.Core.Path.{_≡_}
 use Rattle.lines.specs.Text.{answerLine}
 use Rattle.report.proofs.Puts.{front-counts}
 use Rattle.report.proofs.Adds.{front-is}

@@ -1,6 +1,5 @@
 use mathlib.Core.Path.{_≡_}
 use native.Mathlib.Omega.{arith}
-use Prim.Native.Nat.{_≤_}
 use lib.ListN.{length}
 use Rattle.rules.proofs.Queued.{unstored}
 use native.Mathlib.Omega.{arith}

@@ -1,4 +1,4 @@
-use mathlib.Core.Path.{_≡_, sym, _∙_}
+use mathlib.Core.Path.{sym}
 use Rattle.rules.proofs.Search.{served-first, unserved-next}
 use borrow.Author.Needs.{needs}
 use Rattle.rules.proofs.router.choose_several.Statement.{statement}

@@ -1,5 +1,4 @@
-use mathlib.Core.Path.{refl}
-use mathlib.Core.Path.{_≡_, sym, ap, _∙_}
+use mathlib.Core.Path.{sym, ap, _∙_}
 use mathlib.Core.Bool.{true, false}
 use Rattle.rules.specs.Turns.{ofInputTurn}
 use Rattle.rules.proofs.Cut.{cut-by}

@@ -1,10 +1,7 @@
 use Rattle.words.proofs.Acts.{pass-rests, pass-never}
-use Rattle.words.proofs.Acts.{channel-done, did-nothing}
-use Rattle.layout.proofs.Rests.{channel-rests}
-use Rattle.words.proofs.Acts.{pass-none}
+use Rattle.words.proofs.Acts.{channel-done}
 use mathlib.Core.Path.{sym, ap, _∙_}
 use mathlib.Core.Bool.{not}
-use native.Mathlib.Numerals.{add-one}
 use borrow.Author.Tests.{eq-eqb, ne-eqb}
 use borrow.Author.Needs.{needs}
 use Rattle.words.proofs.arms.channel_in_place.Statement.{statement}

@@ -1,6 +1,5 @@
 use Rattle.words.proofs.Acts.{local-none}
-use Rattle.words.proofs.Acts.{local-done, did-nothing}
-use Rattle.words.proofs.Acts.{local-idle}
+use Rattle.words.proofs.Acts.{local-done}
 use mathlib.Core.Path.{sym, _∙_}
 use borrow.Author.Needs.{needs}
 use Rattle.words.proofs.arms.local_in_place.Statement.{statement}

@@ -1,6 +1,5 @@
 use Rattle.words.proofs.Acts.{operator-none}
-use Rattle.words.proofs.Acts.{work-done, did-nothing}
-use Rattle.words.proofs.Acts.{operator-idle}
+use Rattle.words.proofs.Acts.{work-done}
 use borrow.Author.Needs.{needs}
 use Rattle.words.proofs.arms.operator_in_place.Statement.{statement}
 use Rattle.words.proofs.arms.operator_in_place.Tie as tie

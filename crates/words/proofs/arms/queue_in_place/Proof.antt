@@ -1,8 +1,5 @@
 use Rattle.words.proofs.Acts.{queue-none}
-use Rattle.words.proofs.Acts.{queue-done, did-nothing}
-use Rattle.words.proofs.Acts.{queue-idle}
-use mathlib.Core.Path.{sym, _∙_}
-use borrow.Author.Tests.{eq-eqb}
+use Rattle.words.proofs.Acts.{queue-done}
 use borrow.Author.Needs.{needs}
 use Rattle.words.proofs.arms.queue_in_place.Statement.{statement}
 use Rattle.words.proofs.arms.queue_in_place.Tie as tie

@@ -1,6 +1,4 @@
 use Rattle.words.proofs.Acts.{timeout-done, timeout-none}
-use Rattle.words.proofs.Acts.{input-done, did-nothing}
-use Rattle.words.proofs.Acts.{timeout-idle}
 use mathlib.Core.Path.{sym, _∙_}
 use borrow.Author.Needs.{needs}
 use Rattle.words.proofs.arms.timeout_in_place.Statement.{statement}

@@ -1,5 +1,5 @@
 use Rattle.words.proofs.Publics.{sized}
-use mathlib.Core.Path.{refl, sym, _∙_}
+use mathlib.Core.Path.{sym, _∙_}
 use Rattle.words.specs.Owing.{owedWords}
 use borrow.Author.Needs.{needs}
 use Rattle.words.proofs.owing.owed.Statement.{statement}

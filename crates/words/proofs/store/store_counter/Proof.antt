@@ -1,5 +1,4 @@
 use Rattle.layout.proofs.Storing.{stored-counter}
-use native.Mathlib.Omega.{arith}
 use borrow.Author.Needs.{needs}
 use Rattle.words.proofs.store.store_counter.Statement.{statement}
 use Rattle.words.proofs.store.store_counter.Tie as tie

@@ -1,4 +1,4 @@
-use mathlib.Core.Path.{_≡_, sym, _∙_}
+use mathlib.Core.Path.{sym, _∙_}
 use Rattle.checks.proofs.RangeLaws.{free-input, used-input}
 use borrow.Author.Needs.{needs}
 use Rattle.checks.proofs.range.places.input_ok.Statement.{statement}
