@@ -55,8 +55,8 @@ extern "C" {
 
 /*
  * The stack that a call takes, in bytes, from its return address down: the most that was measured on x86-64 (204, 236
- * and 17,544 bytes, over good and damaged archives of every length), rounded up. It is measured, not proved; memcpy and
- * memset are the caller's own, and those of glibc are counted in.
+ * and 17,544 bytes, over the corpus and archives cut and damaged from it), rounded up. It is measured, not proved; memcpy
+ * and memset are the caller's own, and those of glibc are counted in.
  */
 #define FENNQUALO_CHECK_STACK 256
 #define FENNQUALO_COPY_STACK 256

@@ -59,8 +59,8 @@ static uint64_t word_at(const uint8_t *bytes, size_t at)
 }
 
 /*
- * What stack_read answers for an archive: the number that crates/stack makes of a channel, a route and a send, by the
- * archive's own bytes (docs/FORMAT.md). Places beyond S sites or N sends are 0.
+ * What stack_read answers for an archive: 16 and the number that crates/stack makes of a channel, a route and a send, by
+ * the archive's own bytes (docs/FORMAT.md). Places beyond S sites or N sends are 0.
  */
 static uint64_t picked(const uint8_t *bytes, size_t k)
 {
@@ -79,7 +79,7 @@ static uint64_t picked(const uint8_t *bytes, size_t k)
     if (k % 64 < 4 * sites) {
         number += bytes[13 + k % 64];
     }
-    return number;
+    return 16 + number;
 }
 
 static void judge_read(size_t k, size_t refusal)
