@@ -11,7 +11,7 @@ use borrow.Author.Tests.{ltb-true}
 use lib.Dec.{eqb, ltb, leb}
 use lib.Pow.{pow-mono}
 use lib.ListN.{length, getD}
-use Rattle.base.specs.Sizes.{portCount}
+use Rattle.base.specs.Sizes.{portCount, sitesMost, sendsMost}
 use Rattle.base.specs.Bools.{both}
 use Rattle.base.specs.All.{all-at}
 use Rattle.base.specs.Over.{over, over-same}
@@ -168,19 +168,19 @@ module _ (b : List ℕ) (w : Bytes b) where
       record {
         tries = w 4;
         channels = filled (λ (x : ℕ). x < 256) _ (portCount * at b 3) noChannels 0 (λ i. w (headLength + i))
-            (λ i. omega (arith, same-at {A = ℕ} 64 i 0));
+            (λ i. omega (arith, same-at {A = ℕ} (portCount * sitesMost) i 0));
         routes = filled (λ (x : ℕ). x < 65536) _ (at b 3 * at b 3) noRoutes 0
-            (λ k. word-fits (routesPlace (at b 3) + 2 * k)) (λ i. omega (arith, same-at {A = ℕ} 256 i 0));
+            (λ k. word-fits (routesPlace (at b 3) + 2 * k)) (λ i. omega (arith, same-at {A = ℕ} (sitesMost * sitesMost) i 0));
         seed = omega (arith, word-fits 6, word-fits 8);
         draws = word-fits 10;
         marks =
             filled (λ (e : StoredSend). e .draw < 65536) _ (at b 12) noSends sendD
             (λ k. word-fits (sendsPlace (at b 3) + 5 * k))
-            (λ i. subst (λ (e : StoredSend). e .draw < 65536) (sym (same-at 255 i sendD)) (omega arith));
+            (λ i. subst (λ (e : StoredSend). e .draw < 65536) (sym (same-at sendsMost i sendD)) (omega arith));
         sites =
             filled (λ (e : StoredSend). e .site < 256) _ (at b 12) noSends sendD
             (λ k. w (sendsPlace (at b 3) + 5 * k + 2))
-            (λ i. subst (λ (e : StoredSend). e .site < 256) (sym (same-at 255 i sendD)) (omega arith));
+            (λ i. subst (λ (e : StoredSend). e .site < 256) (sym (same-at sendsMost i sendD)) (omega arith));
       }
 
   read-stored : readRefusal b ≡ 0 → storedRefusal (runOf b) ≡ 0

@@ -84,7 +84,7 @@ abbrev pub Fed : List ℕ → List Bool → ℕ → Type 0
 Fed cs fed c = (x : ℕ) → x < portCount * sitesMost → all (λ d. not (eqb (byteAt cs d) x)) c ≡ not (getD fed x false)
 
 pub fed-none : (cs : List ℕ) → Fed cs (replicate (portCount * sitesMost) false) 0
-fed-none cs x h = all-none (λ d. not (eqb (byteAt cs d) x)) ∙ ap not (sym (same-at 64 x false))
+fed-none cs x h = all-none (λ d. not (eqb (byteAt cs d) x)) ∙ ap not (sym (same-at (portCount * sitesMost) x false))
 
 -- a byte that is no channel
 pub fed-skip : (cs : List ℕ) (fed : List Bool) (c : ℕ) → Fed cs fed c → byteAt cs c ≡ noChannel → Fed cs fed (c + 1)

@@ -4,16 +4,16 @@ use mathlib.Core.Path.{_≡_, refl}
 use mathlib.Core.List.{List, [], _∷_, _++_, map}
 use Prim.Native.Nat.{ℕ}
 use lib.ListN.{set, take, replicate}
+use Rattle.base.specs.Sizes.{noChannel}
 use Rattle.base.specs.Over.{over}
 use Rattle.base.specs.All.{all}
 use Rattle.base.specs.Answers.{atFront}
 use Rattle.types.specs.declared.Run.{Run}
-use Rattle.model.specs.Types.{sendD}
-use Rattle.model.specs.Network.{noRoutes}
 use Rattle.model.specs.Runs.{storedRefusal}
 use Rattle.format.specs.Format.{each, headBytes, channelBytes, routeBytes, sendsBytes, encode, networkOf, runOf, noRun}
 use Rattle.format.specs.Refusals.{readRefusal, headThen, decode, writeRefusal, written}
 use Rattle.model.specs.Runs.{bodyRefusal}
+use Rattle.model.proofs.Made.{netWith, runOn}
 
 -- ---- "Run R: 00 18 01 01 03 01 00 00 00 01 00 02 01 FF FF FF FF 00 00 00 00 00 00 01."
 
@@ -23,20 +23,8 @@ bytesR =
 
 abbrev pub runR : Run
 runR =
-    record {
-      network =
-          record {
-            sites = 1;
-            depth = 1;
-            tries = 3;
-            channels = 255 ∷ 255 ∷ 255 ∷ 255 ∷ replicate 60 0;
-            routes = noRoutes;
-          };
-      seed = 1;
-      draws = 2;
-      count = 1;
-      sends = record { set = 1; draw = 0; site = 0 } ∷ replicate 254 sendD;
-    }
+    runOn (netWith 0 0 1 3 1 (noChannel ∷ noChannel ∷ noChannel ∷ noChannel ∷ []) []) 1 2
+    (record { set = 1; draw = 0; site = 0 } ∷ [])
 
 pub read-R : decode bytesR ≡ record { refusal = 0; run = runR }
 unfolding decode readRefusal headThen bodyRefusal runOf networkOf over all
@@ -57,21 +45,11 @@ bytesTwo =
 
 abbrev pub runTwo : Run
 runTwo =
-    record {
-      network =
-          record {
-            sites = 2;
-            depth = 4;
-            tries = 8;
-            channels = 4 ∷ 255 ∷ 255 ∷ 255 ∷ 0 ∷ 255 ∷ 255 ∷ 255 ∷ replicate 56 0;
-            routes = 0 ∷ 4096 ∷ 4096 ∷ 0 ∷ replicate 252 0;
-          };
-      seed = 7;
-      draws = 1000;
-      count = 2;
-      sends =
-          record { set = 3; draw = 0; site = 0 } ∷ record { set = 1; draw = 500; site = 1 } ∷ replicate 253 sendD;
-    }
+    runOn
+    (netWith 0 0 2 8 4 (4 ∷ noChannel ∷ noChannel ∷ noChannel ∷ 0 ∷ noChannel ∷ noChannel ∷ noChannel ∷ [])
+    (0 ∷ 4096 ∷ 4096 ∷ 0 ∷ []))
+    7 1000
+    (record { set = 3; draw = 0; site = 0 } ∷ record { set = 1; draw = 500; site = 1 } ∷ [])
 
 pub read-two : decode bytesTwo ≡ record { refusal = 0; run = runTwo }
 unfolding decode readRefusal headThen bodyRefusal runOf networkOf over all

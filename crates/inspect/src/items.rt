@@ -50,7 +50,7 @@ fn add_beyond(text: &mut [u8], at: usize, byte: usize, end: usize) -> usize {
 
 // The first channel with this byte.
 fn first_to(b: &[u8], byte: usize) -> usize {
-    for m in 0usize..64 {
+    for m in 0usize..base::PORTS * base::SITES {
         if held::channel(b, m) == byte {
             return m;
         }
@@ -166,7 +166,7 @@ fn is_loose(b: &[u8], from: usize, port: usize) -> bool {
     if port == 0 {
         return false;
     }
-    held::channel(b, base::PORTS * (from % 64) + (port - 1) % 4) == 255
+    held::channel(b, base::PORTS * (from % base::SITES) + (port - 1) % 4) == 255
 }
 
 // The first of four that holds; 4 if none does.
@@ -199,7 +199,7 @@ pub fn add_send(text: &mut [u8], at: usize, b: &[u8], m: usize) -> usize {
     }
     let set = held::word_at(b, place + 3);
     let beyond = first_beyond(set, sites);
-    if set == 0 || beyond < 16 {
+    if set == 0 || beyond < base::SITES {
         let numbers = [m, place + 3, place + 4, beyond, 0, 0];
         return add_targets(text, at, set, sites, numbers);
     }
@@ -231,14 +231,14 @@ fn add_sites(text: &mut [u8], at: usize, sites: usize) -> usize {
     fill(text, at, b", and there are sites 0 to %", numbers)
 }
 
-// The first site of the set, of 16, from S on; 16 if there is none.
+// The first site of the set, of those that a network has at most, from S on; that number if there is none.
 fn first_beyond(set: usize, sites: usize) -> usize {
-    for t in 0usize..16 {
+    for t in 0usize..base::SITES {
         if sites <= t && (set >> t) % 2 == 1 {
             return t;
         }
     }
-    16
+    base::SITES
 }
 
 // The draw number of send m.

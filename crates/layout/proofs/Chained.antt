@@ -15,7 +15,7 @@ use Rattle.model.specs.Types.{siteD, siteAt, setSite, withOutputs, noOutput, no
 use Rattle.layout.specs.Layout.{wordCount}
 use Rattle.layout.specs.Words.{sitesOf}
 use Rattle.layout.specs.Stored.{Stored, leavingAll, arrivedAll}
-use Rattle.layout.proofs.Decoded.{sixteen, site-at, five-outputs, eight-leaving, eight-arrived}
+use Rattle.layout.proofs.Decoded.{all-sites, site-at, five-outputs, eight-leaving, eight-arrived}
 
 -- ---- one after the other
 
@@ -37,7 +37,7 @@ then-far c d e xs u g p q = chained c d e xs (λ l. setSite l u (g (siteAt l u))
 pub then-own : (c d e : List ℕ) (s : ℕ) (x : Site) (f : Site → Site) → s < sitesMost → Stored c d (setSite (sitesOf c) s x)
     → Stored d e (setSite (sitesOf d) s (f (siteAt (sitesOf d) s))) → Stored c e (setSite (sitesOf c) s (f x))
 then-own c d e s x f hs p q =
-    let l = sixteen c in
+    let l = all-sites c in
     let g = ap f (getD-set-same (sitesOf c) s x siteD (omega arith)) in
     let r = then-far c d e (setSite (sitesOf c) s x) s f p q in
     record {

@@ -16,9 +16,9 @@ use Rattle.layout.specs.Packed.{inputFrom, outputFrom}
 use Rattle.layout.specs.Words.{setAt, fieldsAt, inputAt, outputAt, leavingAt, arrivedAt, siteOf, sitesOf}
 use Rattle.layout.proofs.Rows.{getD-rows, length-rows}
 
-pub sixteen : (c : List ℕ) → length (sitesOf c) ≡ sitesMost
+pub all-sites : (c : List ℕ) → length (sitesOf c) ≡ sitesMost
 unfolding sitesOf
-sixteen c = length-rows sitesMost (siteOf c)
+all-sites c = length-rows sitesMost (siteOf c)
 
 pub site-at : (c : List ℕ) (s : ℕ) → s < sitesMost → siteAt (sitesOf c) s ≡ siteOf c s
 unfolding sitesOf

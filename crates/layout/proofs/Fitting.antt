@@ -12,7 +12,7 @@ use Rattle.model.specs.Shapes.{Shaped, SiteShaped}
 use Rattle.layout.specs.Bytes.{Bytes, SiteBytes}
 use Rattle.layout.specs.Packed.{inputFrom, outputFrom, outEntryFrom, inEntryFrom}
 use Rattle.layout.specs.Words.{inputAt, outputAt, leavingAt, arrivedAt, siteOf, stateOf, wordsOf}
-use Rattle.layout.proofs.Decoded.{sixteen, site-at, in-at, out-at, leaving-at, arrived-at, five-inputs, five-outputs, eight-leaving, eight-arrived}
+use Rattle.layout.proofs.Decoded.{all-sites, site-at, in-at, out-at, leaving-at, arrived-at, five-inputs, five-outputs, eight-leaving, eight-arrived}
 use Rattle.layout.proofs.Unpacked.{unpacked}
 
 -- a number that is another's rest by 256
@@ -44,7 +44,7 @@ module _ (c : List ℕ) (s : ℕ) where
       }
 
 pub shaped : (c : List ℕ) → Shaped (stateOf c)
-shaped c = record { sixteen = sixteen c; site = λ s h. subst SiteShaped (sym (site-at c s h)) (site-shaped c s) }
+shaped c = record { all-sites = all-sites c; site = λ s h. subst SiteShaped (sym (site-at c s h)) (site-shaped c s) }
 
 pub bytes : (c : List ℕ) → Bytes (stateOf c)
 bytes c = record { site = λ s h. subst SiteBytes (sym (site-at c s h)) (site-bytes c s); counter = omega arith }

@@ -67,7 +67,7 @@ sites-back st h b =
     let c = wordsOf st in
     rows-same sitesMost (siteAt (st .sites)) (siteOf c)
     (λ s l. site-found c s (siteAt (st .sites) s) (λ k hk. set-word st s k l hk) (λ k hk. fields-word st s k l hk) (h .site s l) (b .site s l))
-    ∙ sym (spelled sitesMost siteD (st .sites) (h .sixteen))
+    ∙ sym (spelled sitesMost siteD (st .sites) (h .all-sites))
 
 pub unpacked : (st : State) → Shaped st → Bytes st → stateOf (wordsOf st) ≡ st
 unpacked st h b =

@@ -6,6 +6,7 @@ use mathlib.Core.Bool.{Bool, true, false, not, _&&_}
 use native.Mathlib.Omega.{arith}
 use borrow.Author.Tests.{ltb-true, eqb-true, lt-ltb}
 use lib.Dec.{eqb, ltb, leb}
+use Rattle.base.specs.Sizes.{sitesMost}
 use Rattle.base.specs.Bools.{both, both3, both6, implies, pick, alike, pick-at, either-way}
 use Rattle.base.specs.All.{all, all-at}
 use Rattle.sets.specs.Sets.{targets}
@@ -85,11 +86,11 @@ module _ (n : Network) (val : Valid n) (st : State) (h : inRange n st ≡ true) 
   abbrev isOk : ℕ → Bool
   isOk s = siteOk (n .sites) (n .tries) (n .depth) (st .counter) (at s)
 
-  place-at : (s : ℕ) → s < 16 → ltb s (n .sites) ≡ true → isOk s ≡ true
+  place-at : (s : ℕ) → s < sitesMost → ltb s (n .sites) ≡ true → isOk s ≡ true
   unfolding inRange
   place-at s hs =
       pick-at (ltb s (n .sites)) (isOk s) (zeroSite (at s))
-      (all-at (λ s. placeOk (n .sites) (n .tries) (n .depth) (st .counter) s (at s)) s 16 hs h) .0
+      (all-at (λ s. placeOk (n .sites) (n .tries) (n .depth) (st .counter) s (at s)) s sitesMost hs h) .0
 
   pub range-runnable : (s : ℕ) → s < n .sites → Runnable n s (at s)
   range-runnable s hs =

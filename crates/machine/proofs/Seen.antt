@@ -1,12 +1,12 @@
 -- RUN looks at the inputs at the ends of its own channels alone, and what it passes on goes to one of them. Assumes nothing.
-use Prim.Native.Nat.{ℕ, zero, suc, _-_, _/_, _%_, _<_}
+use Prim.Native.Nat.{ℕ, zero, suc, _-_, _/_, _%_, _<_, _*_}
 use mathlib.Core.Path.{_≡_, refl, sym, ap, ap₂, _∙_}
 use mathlib.Core.List.{List}
 use mathlib.Core.Bool.{Bool, true, false, cond, _&&_}
 use native.Mathlib.Omega.{arith}
 use borrow.Author.Tests.{ltb-true, le-leb}
 use lib.Dec.{eqb, ltb, leb}
-use Rattle.base.specs.Sizes.{portCount}
+use Rattle.base.specs.Sizes.{portCount, sitesMost}
 use Rattle.base.specs.Bools.{cond-ok, clash, implies, either-way}
 use Rattle.base.specs.All.{all-same}
 use Rattle.types.specs.declared.Phase.the-variants.{the-data as Phase, Free, Seek, Open, Wait, Done, Last, Abort as Aborted, FinAbort}
@@ -116,7 +116,7 @@ module _ (n : Network) (val : Valid n) (s : ℕ) (x : Site) (hs : s < n .sites) 
   work-ok (Cleared a b) h = absurd (clash (sym h))
   work-ok (Service a b q) h = absurd (clash (sym h))
 
-  along : (j : ℕ) (t : Turn Output Input) → channel n s (suc j) < 64 → PassOk (passTurn x (suc j) t)
+  along : (j : ℕ) (t : Turn Output Input) → channel n s (suc j) < portCount * sitesMost → PassOk (passTurn x (suc j) t)
   along j Stay l h = absurd (clash (sym h))
   along j (To o y) l h = l
 
@@ -164,7 +164,7 @@ end-seen n xs s within j hj {b = b} e {u = u} eu ey = ey ∙ go (isChannel b) re
 
     go : (t : Bool) → isChannel b ≡ t → cond t (inAt (siteAt xs u) (endPort b)) noInput ≡ byByte b
     go true t =
-        let low : b < 64 = omega (arith, e, within j hj (ap isChannel (sym e) ∙ t)) in
+        let low : b < portCount * sitesMost = omega (arith, e, within j hj (ap isChannel (sym e) ∙ t)) in
         let there : u ≡ b / 4 = omega (arith, eu, low) in
         rw (le-leb (suc j) 4 (omega arith), t) (ap (λ (u : ℕ). inAt (siteAt xs u) (endPort b)) there)
     go false t = rw (le-leb (suc j) 4 (omega arith), t) refl

@@ -6,7 +6,7 @@ use mathlib.Core.Bool.{Bool, true, false, cond, _&&_}
 use native.Mathlib.Omega.{arith}
 use borrow.Author.Tests.{ne-eqb, ltb-true}
 use lib.Dec.{eqb, ltb}
-use Rattle.base.specs.Sizes.{codeCount}
+use Rattle.base.specs.Sizes.{codeCount, sitesMost, queueRoom, packetsMost}
 use Rattle.base.specs.Bools.{first-of}
 use Rattle.sets.specs.Sets.{targets}
 use Rattle.types.specs.declared.Network.{Network}
@@ -76,18 +76,18 @@ module _ (n : Network) (st : State) where
     try-sent e = rw e refl
 
     -- what a SEND that is not refused is known by
-    pub send-room : n .sites ≤ 16 → n .depth ≤ 8 → sendFault n st s X ≡ 0
-        → (s < 16) × (st .counter < 255) × (siteAt (st .sites) s .outgoing .count < 8)
+    pub send-room : n .sites ≤ sitesMost → n .depth ≤ queueRoom → sendFault n st s X ≡ 0
+        → (s < sitesMost) × (st .counter < packetsMost) × (siteAt (st .sites) s .outgoing .count < queueRoom)
     send-room few deep e =
         let room = ltb (siteAt (st .sites) s .outgoing .count) (n .depth) in
-        let number = ltb (st .counter) 255 in
+        let number = ltb (st .counter) packetsMost in
         let a = first-of (ltb s (n .sites)) (cond (targets (n .sites) X) (cond number (cond room 0 11) 12) 10) 9 0 (λ e. omega arith) e in
         let b = first-of (targets (n .sites) X) (cond number (cond room 0 11) 12) 10 0 (λ e. omega arith) (a .1) in
         let c = first-of number (cond room 0 11) 12 0 (λ e. omega arith) (b .1) in
         let d = first-of room 0 11 0 (λ e. omega arith) (c .1) in
         let site = ltb-true s (n .sites) (a .0) in
         let entry = ltb-true (siteAt (st .sites) s .outgoing .count) (n .depth) (d .0) in
-        (omega (arith, site, few), ltb-true (st .counter) 255 (c .0), omega (arith, entry, deep))
+        (omega (arith, site, few), ltb-true (st .counter) packetsMost (c .0), omega (arith, entry, deep))
 
 -- ---- RUN is the change that it stores
 
@@ -116,7 +116,7 @@ change-seen n xs s code e =
 
 -- at a site of a valid network the change can be stored
 pub change-storable : (n : Network) → networkRefusal n ≡ 0 → (xs : List Site) (s code : ℕ) → s < n .sites → {c : Change}
-    → c ≡ changeOf n xs s code → (s < 16) × Passable c
+    → c ≡ changeOf n xs s code → (s < sitesMost) × Passable c
 unfolding changeOf
 change-storable n ok xs s code h e =
     let v = valid-ok n ok in

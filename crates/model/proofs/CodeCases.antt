@@ -23,18 +23,14 @@ use Rattle.model.specs.Places.{localOutput, deliver, channelOutput, outQ
 use Rattle.model.specs.Steps.{netOutput, act, run, enqueue}
 use Rattle.model.proofs.Shown.{ofInput, ofOutput, ofOutQueue, ofInQueue, each}
 use Rattle.model.proofs.Shown.{inp, out, leaving, arrived, outQ, inQ, alone, first, split}
+use Rattle.model.proofs.Made.{net}
 
 -- Three sites, T = 3, D = 2. Site 0's ports 1 and 3 lead to inputs 2 and 4 of site 1, its ports 2 and 4 to inputs 1 and 3 of
 -- site 2. Ports 1 of site 1 and 2 of site 2 lead to their own inputs 1 and 2; their other ports to inputs 3 and 1 of site 0.
 abbrev crossed : Network
 crossed =
-    record {
-      sites = 3;
-      depth = 2;
-      tries = 3;
-      channels = 5 ∷ 8 ∷ 7 ∷ 10 ∷ 4 ∷ 2 ∷ noChannel ∷ noChannel ∷ 0 ∷ 9 ∷ replicate 54 noChannel;
-      routes = 0 ∷ 4864 ∷ 9216 ∷ 8192 ∷ 0 ∷ 8192 ∷ 4096 ∷ 4096 ∷ 0 ∷ replicate 247 0;
-    }
+    net 3 3 2 (5 ∷ 8 ∷ 7 ∷ 10 ∷ 4 ∷ 2 ∷ noChannel ∷ noChannel ∷ 0 ∷ 9 ∷ [])
+    (0 ∷ 4864 ∷ 9216 ∷ 8192 ∷ 0 ∷ 8192 ∷ 4096 ∷ 4096 ∷ 0 ∷ [])
 
 pub crossed-valid : networkRefusal crossed ≡ 0
 unfolding networkRefusal all

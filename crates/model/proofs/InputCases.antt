@@ -5,7 +5,6 @@ use mathlib.Core.Path.{_≡_, refl}
 use mathlib.Core.Bool.{Bool, true, false, not}
 use mathlib.Core.List.{List, [], _∷_, map}
 use lib.Dec.{eqb}
-use lib.ListN.{replicate}
 use lib.Count.{trailingZeros}
 use Rattle.base.specs.Sizes.{noChannel}
 use Rattle.base.specs.All.{all}
@@ -18,18 +17,13 @@ use Rattle.model.specs.Network.{networkRefusal}
 use Rattle.model.specs.Router.{firstPort, orElse, route}
 use Rattle.model.specs.NetInput.{give, seek, inState, netInput}
 use Rattle.model.proofs.Shown.{ofInput, ofOutput, ofTurn, inp, out, alone, first, second, split, five}
+use Rattle.model.proofs.Made.{net}
 
 -- three sites, T = 3: site 0's ports 1 and 2 lead to sites 1 and 2, their ports 1 lead back
 abbrev three : Network
 three =
-    record {
-      sites = 3;
-      depth = 1;
-      tries = 3;
-      channels =
-          4 ∷ 8 ∷ noChannel ∷ noChannel ∷ 0 ∷ noChannel ∷ noChannel ∷ noChannel ∷ 1 ∷ replicate 55 noChannel;
-      routes = 0 ∷ 4096 ∷ 8192 ∷ 4096 ∷ 0 ∷ 4096 ∷ 4096 ∷ 4096 ∷ 0 ∷ replicate 247 0;
-    }
+    net 3 3 1 (4 ∷ 8 ∷ noChannel ∷ noChannel ∷ 0 ∷ noChannel ∷ noChannel ∷ noChannel ∷ 1 ∷ [])
+    (0 ∷ 4096 ∷ 8192 ∷ 4096 ∷ 0 ∷ 4096 ∷ 4096 ∷ 4096 ∷ 0 ∷ [])
 
 pub three-valid : networkRefusal three ≡ 0
 unfolding networkRefusal all

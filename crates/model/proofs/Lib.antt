@@ -1,4 +1,5 @@
 -- Computed tables: what the definitions give beside what document 01 says, row by row. The theorems stand in crate theorems.
+pub mod Made
 pub mod RunCases
 pub mod AnswerCases
 pub mod RouterCases

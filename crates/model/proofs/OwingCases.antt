@@ -5,7 +5,6 @@ use mathlib.Core.Path.{_≡_, refl}
 use mathlib.Core.Bool.{true, false}
 use mathlib.Core.List.{List, [], _∷_, _++_, map}
 use lib.ListN.{replicate}
-use Rattle.base.specs.Sizes.{noChannel}
 use Rattle.base.specs.Sums.{sum, isum}
 use Rattle.sets.specs.Sets.{has, sizeIn}
 use Rattle.model.specs.Types.{Unicast, Passthru, AllRemote, SomeLocal, Handed, gotEnd, gotAbort}
@@ -16,6 +15,7 @@ use Rattle.model.specs.Owing.{owesAs, owesInput, owesOutput, owesOutEntr
 use Rattle.model.specs.Owing.{pairsAs, pairsInput, pairsOutput, pairsOutEntry, pairsInEntry, owedPairs}
 use Rattle.model.specs.Runs.{bookRoom}
 use Rattle.model.proofs.Shown.{inp, out, leaving, arrived, outQ, inQ, alone, first, second}
+use Rattle.model.proofs.Made.{net}
 
 -- a place at site s with packet 5 and set X: what it owes to the sites 0 to 3, of packet 5, then of packet 6
 abbrev owes : Terminator → ℕ → ℕ → List ℕ
@@ -108,7 +108,7 @@ owed-read = refl
 abbrev runOf : ℕ → List ℕ → StoredRun
 runOf N Xs =
     record {
-      network = record { sites = 16; depth = 1; tries = 1; channels = replicate 64 noChannel; routes = replicate 256 0 };
+      network = net 16 1 1 [] [];
       seed = 1;
       draws = 9;
       count = N;

@@ -4,7 +4,7 @@ use Prim.Native.Nat.{ℕ}
 use mathlib.Core.Path.{_≡_, refl}
 use mathlib.Core.Bool.{Bool, true, false}
 use mathlib.Core.List.{List, [], _∷_, map}
-use lib.ListN.{set, replicate}
+use lib.ListN.{set}
 use Rattle.base.specs.Sizes.{noChannel}
 use Rattle.base.specs.All.{all, any}
 use Rattle.model.specs.Types.{Unicast, Passthru, AllRemote, SomeLocal, Handed, gotEnd, gotAbort}
@@ -13,17 +13,11 @@ use Rattle.model.specs.Types.{Phase, Free, Seek, Open, Wait, Done, Last,
 use Rattle.model.specs.Types.{Input, Output, OutEntry, InEntry, Site, State, Network, noMarks, noInput, noOutput, noState}
 use Rattle.model.specs.Types.{siteAt, withOutQueue, withInQueue, setIn, setOut, setSite}
 use Rattle.model.specs.Range.{inRange}
+use Rattle.model.proofs.Made.{net}
 
 -- two sites joined on ports 1 both ways: S = 2, T = 3, D = 2
 abbrev two : Network
-two =
-    record {
-      sites = 2;
-      depth = 2;
-      tries = 3;
-      channels = 4 ∷ noChannel ∷ noChannel ∷ noChannel ∷ 0 ∷ replicate 59 noChannel;
-      routes = 0 ∷ 4096 ∷ 4096 ∷ 0 ∷ replicate 252 0;
-    }
+two = net 2 3 2 (4 ∷ noChannel ∷ noChannel ∷ noChannel ∷ 0 ∷ []) (0 ∷ 4096 ∷ 4096 ∷ 0 ∷ [])
 
 -- a net-input: state, packet, set, connected outputs, tries; net-outputs: packet, set, input, head, terminator; entries
 inp : Phase → ℕ → ℕ → List Bool → ℕ → Input

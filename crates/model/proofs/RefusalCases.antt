@@ -11,13 +11,13 @@ use Rattle.model.specs.Types.{State, Network, noSite, noState, outAt, ou
 use Rattle.model.specs.Network.{networkRefusal}
 use Rattle.model.specs.Range.{inRange}
 use Rattle.model.specs.Events.{Event, Send, Run, runRefusal, sendRefusal}
+use Rattle.model.proofs.Made.{netWith}
 
 -- ---- networks of two sites
 
 -- S, T, D, the channels, the routes from 0 to 0, 0 to 1, 1 to 0, 1 to 1; "Room beyond .. is not looked at"
 net : ℕ → ℕ → ℕ → List ℕ → List ℕ → Network
-net S T D cs rs =
-    record { sites = S; depth = D; tries = T; channels = cs ++ replicate 56 9; routes = rs ++ replicate 252 9 }
+net S T D cs rs = netWith 9 9 S T D cs rs
 
 -- joined on all ports; on ports 1 to 3; on ports 1 and 2 from 0 to 1 and on port 1 back; on ports 2
 four : List ℕ
@@ -49,18 +49,11 @@ rowsAfter zero = []
 rowsAfter (suc k) = replicate 16 4096 ++ (0 ∷ rowsAfter k)
 
 ring : ℕ → Network
-ring S = record { sites = S; depth = 8; tries = 255; channels = channelsFrom 15 4; routes = 0 ∷ rowsAfter 15 }
+ring S = netWith 0 0 S 255 8 (channelsFrom 15 4) (0 ∷ rowsAfter 15)
 
 -- one site, its output 1 joined to its own input 1
 one : Network
-one =
-    record {
-      sites = 1;
-      depth = 1;
-      tries = 1;
-      channels = 0 ∷ noChannel ∷ noChannel ∷ noChannel ∷ replicate 60 0;
-      routes = replicate 256 0;
-    }
+one = netWith 0 0 1 1 1 (0 ∷ noChannel ∷ noChannel ∷ noChannel ∷ []) []
 
 -- ---- states
 

@@ -3,8 +3,7 @@
 use Prim.Native.Nat.{ℕ, zero, suc}
 use mathlib.Core.Path.{_≡_, refl}
 use mathlib.Core.Bool.{true, false}
-use mathlib.Core.List.{List, [], _∷_, _++_, map}
-use lib.ListN.{replicate}
+use mathlib.Core.List.{List, [], _∷_, map}
 use lib.Count.{trailingZeros}
 use Rattle.base.specs.Sizes.{noChannel}
 use Rattle.base.specs.All.{all, any}
@@ -16,22 +15,15 @@ use Rattle.types.specs.Numbers.{stateNumber, connectionNumber, connectionOf}
 use Rattle.model.specs.Network.{networkRefusal}
 use Rattle.model.specs.Router.{Choice, Chosen, Unserved, firstPort, gatherFrom, gather, spread, orElse, route}
 use Rattle.model.specs.NetInput.{Turn, Stay, To, occupy, marksOf, seek, inState}
+use Rattle.model.proofs.Made.{net}
 
 -- Four sites, T = 3. Site 0's ports 1, 2, 3 lead to sites 1, 2, 3, its port 4 to site 1 again; their ports 1 lead back.
 -- Its lists: ports 1, 4 to site 1; 2, 1 to site 2; 1, 3 to site 3.
 abbrev hub : Network
 hub =
-    record {
-      sites = 4;
-      depth = 1;
-      tries = 3;
-      channels =
-          (4 ∷ 8 ∷ 12 ∷ 5 ∷ 0 ∷ noChannel ∷ noChannel ∷ noChannel ∷ [])
-          ++ (1 ∷ noChannel ∷ noChannel ∷ noChannel ∷ 2 ∷ replicate 51 noChannel);
-      routes =
-          (0 ∷ 5120 ∷ 8448 ∷ 4864 ∷ 4096 ∷ 0 ∷ 4096 ∷ 4096 ∷ [])
-          ++ (4096 ∷ 4096 ∷ 0 ∷ 4096 ∷ 4096 ∷ 4096 ∷ 4096 ∷ 0 ∷ replicate 240 0);
-    }
+    net 4 3 1
+    (4 ∷ 8 ∷ 12 ∷ 5 ∷ 0 ∷ noChannel ∷ noChannel ∷ noChannel ∷ 1 ∷ noChannel ∷ noChannel ∷ noChannel ∷ 2 ∷ [])
+    (0 ∷ 5120 ∷ 8448 ∷ 4864 ∷ 4096 ∷ 0 ∷ 4096 ∷ 4096 ∷ 4096 ∷ 4096 ∷ 0 ∷ 4096 ∷ 4096 ∷ 4096 ∷ 4096 ∷ 0 ∷ [])
 
 pub hub-valid : networkRefusal hub ≡ 0
 unfolding networkRefusal all any

@@ -2,15 +2,14 @@
 use Prim.Native.Nat.{ℕ}
 use mathlib.Core.Path.{_≡_, refl}
 use mathlib.Core.List.{[], _∷_}
-use lib.ListN.{set, replicate}
+use lib.ListN.{set}
 use lib.Count.{trailingZeros}
-use Rattle.base.specs.Sizes.{noChannel}
 use Rattle.base.specs.All.{all, any}
 use Rattle.base.specs.Over.{over}
 use Rattle.base.specs.Sums.{sum, isum}
 use Rattle.sets.specs.Sets.{has, plus, minus, sizeIn, lowest}
 use Rattle.draws.specs.Draws.{drawn, valueAfter}
-use Rattle.model.specs.Types.{Network, Run as StoredRun, sendD}
+use Rattle.model.specs.Types.{Network, Run as StoredRun}
 use Rattle.model.specs.Router.{firstPort, gatherFrom, gather, spread, orElse, route}
 use Rattle.model.specs.NetInput.{hears, give, occupy, marksOf, seek, inState}
 use Rattle.model.specs.Places.{localOutput, deliver, channelOutput, outQueue, operate, cutAt}
@@ -18,15 +17,16 @@ use Rattle.model.specs.Steps.{netOutput, act, run, enqueue}
 use Rattle.model.specs.Events.{Send, Run}
 use Rattle.model.specs.Owing.{owedPairs}
 use Rattle.model.specs.Runs.{bodyRefusal, storedRefusal, marked, scriptTo, script, bookBytes, played, playedRun, countsOf}
+use Rattle.model.proofs.Made.{net, runOn}
 
 -- "one site"
 abbrev one : ℕ → Network
-one D = record { sites = 1; depth = D; tries = 3; channels = replicate 64 noChannel; routes = replicate 256 0 }
+one D = net 1 3 D [] []
 
 -- ---- run R: "00 18 01 01 03 01 00 00 00 01 00 02 01 FF FF FF FF 00 00 00 00 00 00 01", "accepted 1 pairs 1 serviced 0 owed 1"
 
 pub runR : StoredRun
-runR = record { network = one 1; seed = 1; draws = 2; count = 1; sends = record { set = 1; draw = 0; site = 0 } ∷ replicate 254 sendD }
+runR = runOn (one 1) 1 2 (record { set = 1; draw = 0; site = 0 } ∷ [])
 
 -- its one send before draw 0, then the two draws, which are P2's codes
 pub runR-script : script runR
@@ -42,7 +42,7 @@ runR-counts = refl
 
 -- "d may equal the number of draws": run R with its send after the last draw
 pub lateRun : StoredRun
-lateRun = record { network = one 1; seed = 1; draws = 2; count = 1; sends = record { set = 1; draw = 2; site = 0 } ∷ replicate 254 sendD }
+lateRun = runOn (one 1) 1 2 (record { set = 1; draw = 2; site = 0 } ∷ [])
 
 pub late-script : script lateRun
     ≡ record { draw = 0; event = Run 0 8 } ∷ record { draw = 1; event = Run 0 5 } ∷ record { draw = 2; event = Send 0 1 } ∷ []
@@ -55,18 +55,12 @@ late-script = refl
 
 pub handRun : StoredRun
 handRun =
-    record {
-      network = record { sites = 1; depth = 1; tries = 1; channels = replicate 64 noChannel; routes = replicate 256 0 };
-      seed = 539674;
-      draws = 8;
-      count = 4;
-      sends =
-          record { set = 1; draw = 0; site = 0 }
-          ∷ record { set = 1; draw = 0; site = 0 }
-          ∷ record { set = 1; draw = 4; site = 0 }
-          ∷ record { set = 1; draw = 8; site = 0 }
-          ∷ replicate 251 sendD;
-    }
+    runOn (net 1 1 1 [] []) 539674 8
+    (record { set = 1; draw = 0; site = 0 }
+    ∷ record { set = 1; draw = 0; site = 0 }
+    ∷ record { set = 1; draw = 4; site = 0 }
+    ∷ record { set = 1; draw = 8; site = 0 }
+    ∷ [])
 
 pub played-runs : (storedRefusal runR ∷ storedRefusal handRun ∷ []) ≡ (0 ∷ 0 ∷ [])
 unfolding runR handRun storedRefusal bodyRefusal all any

@@ -13,5 +13,5 @@ pub record SiteShaped (x : Site) : Type 0 where
   pub incoming : length (x .incoming .entries) ≡ queueRoom
 
 pub record Shaped (st : State) : Type 0 where
-  pub sixteen : length (st .sites) ≡ sitesMost
+  pub all-sites : length (st .sites) ≡ sitesMost
   pub site : (s : ℕ) → s < sitesMost → SiteShaped (siteAt (st .sites) s)

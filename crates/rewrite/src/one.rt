@@ -4,7 +4,10 @@ use std::num::wrapping_add_u64;
 use types::Run;
 
 // The bytes of the longest archive.
-const MOST: usize = 1864;
+const MOST: usize = 13
+    + base::PORTS * base::SITES
+    + 2 * base::SITES * base::SITES
+    + 5 * base::SENDS;
 // What a room is filled with before the writer gets it.
 const FILL: u8 = 165;
 

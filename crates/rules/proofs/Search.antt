@@ -9,7 +9,7 @@ use borrow.Author.Tests.{lt-ltb, eqb-false, leb-true}
 use lib.Dec.{eqb, ltb, leb}
 use lib.ListN.{getD, set, length, drop, drop-of-length-le}
 use lib.Seq.{drop-cons}
-use Rattle.base.specs.Sizes.{portCount}
+use Rattle.base.specs.Sizes.{portCount, setBits, sitesMost}
 use Rattle.base.specs.Bools.{both, cond-ok, clash}
 use Rattle.sets.specs.Sets.{has, only, minus, size, lowest}
 use Rattle.sets.proofs.Laws.{minus-le}
@@ -123,13 +123,13 @@ module _ (s X : ℕ) where
   missing-spread Missing r e h = refl
 
 -- X is {s}, as the code makes {s}
-pub own-test : (s X r : ℕ) → s < 64 → r ≡ cond (ltb s 64) (only s) 0 → eqb X r ≡ eqb X (only s)
-own-test s X r h e = ap (eqb X) (e ∙ ap (λ b. cond b (only s) 0) (lt-ltb s 64 h))
+pub own-test : (s X r : ℕ) → s < setBits → r ≡ cond (ltb s setBits) (only s) 0 → eqb X r ≡ eqb X (only s)
+own-test s X r h e = ap (eqb X) (e ∙ ap (λ b. cond b (only s) 0) (lt-ltb s setBits h))
 
 -- the lowest target, and the lowest other than s, lie within the network
-pub lowest-in : (S X : ℕ) → S ≤ 16 → 0 < X → X < 2 ^ S → lowest X < S
+pub lowest-in : (S X : ℕ) → S ≤ sitesMost → 0 < X → X < 2 ^ S → lowest X < S
 lowest-in S X l p h = lowest-lt S X (omega arith) p h
 
-pub other-in : (S s X : ℕ) → S ≤ 16 → s < S → 0 < X → X < 2 ^ S → eqb (size X) 1 ≡ false → lowest (minus s X) < S
+pub other-in : (S s X : ℕ) → S ≤ sitesMost → s < S → 0 < X → X < 2 ^ S → eqb (size X) 1 ≡ false → lowest (minus s X) < S
 other-in S s X l hs p h e =
-    lowest-lt S (minus s X) (omega arith) (minus-pos 64 s X (omega arith) p (eqb-false (size X) 1 e)) (omega (arith, minus-le s X))
+    lowest-lt S (minus s X) (omega arith) (minus-pos setBits s X (omega arith) p (eqb-false (size X) 1 e)) (omega (arith, minus-le s X))

@@ -37,13 +37,13 @@ fn network_of(
     sites: u64,
     tries: u64,
     depth: u64,
-    channel: &[u64; 256],
-    route: &[u64; 256],
+    channel: &[u64; text::LONGEST],
+    route: &[u64; text::LONGEST],
 ) -> Network {
-    let mut channels = [0u8; 64];
-    let mut routes = [0u16; 256];
+    let mut channels = [0u8; base::PORTS * base::SITES];
+    let mut routes = [0u16; text::LONGEST];
     let mut i: usize = 0;
-    while i < 256 {
+    while i < text::LONGEST {
         channels[i / 4] = site::byte_of(channel[i / 4]);
         routes[i] = short_of(route[i]);
         i += 1;
@@ -61,9 +61,9 @@ fn read_network(piece: &mut [u8; PIECE], from: Cursor) -> ReadNetwork {
     let sites = text::number(piece, from);
     let tries = text::number(piece, sites.cursor);
     let depth = text::number(piece, tries.cursor);
-    let mut channels = [0u64; 256];
+    let mut channels = [0u64; text::LONGEST];
     let behind = text::filled(piece, depth.cursor, &mut channels);
-    let mut routes = [0u64; 256];
+    let mut routes = [0u64; text::LONGEST];
     let cursor = text::filled(piece, behind, &mut routes);
     let network = network_of(sites.value, tries.value, depth.value, &channels, &routes);
     ReadNetwork { network, cursor }

@@ -116,13 +116,16 @@ pub(crate) fn number(piece: &mut [u8; PIECE], from: Cursor) -> ReadNumber {
     ReadNumber { value, cursor }
 }
 
+// As many numbers as the longest list has, that of the routes.
+pub(crate) const LONGEST: usize = base::SITES * base::SITES;
+
 // The numbers `fill n x0 .. x(n-1)`: the first n places of the room hold x0 .. x(n-1), the others `fill`.
-pub(crate) fn filled(piece: &mut [u8; PIECE], from: Cursor, room: &mut [u64; 256]) -> Cursor {
+pub(crate) fn filled(piece: &mut [u8; PIECE], from: Cursor, room: &mut [u64; LONGEST]) -> Cursor {
     let fill = number(piece, from);
     let count = number(piece, fill.cursor);
     let mut cursor = count.cursor;
     let mut i: usize = 0;
-    while i < 256 {
+    while i < LONGEST {
         if (i as u64) < count.value {
             let next = number(piece, cursor);
             cursor = next.cursor;

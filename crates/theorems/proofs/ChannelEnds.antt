@@ -46,13 +46,13 @@ out-other st u k u′ k′ o ne =
 module _ (n : Network) (st : List Site) (inv : Inv n st) (s : ℕ) (hs : s < sitesMost) where
   pub in-same : (k : ℕ) (y : Input) → k < inputCount → inAt (siteAt (setSite st s (setIn (siteAt st s) k y)) s) k ≡ y
   in-same k y hk =
-      ap (λ (x : Site). inAt x k) (getD-set-same st s _ siteD (omega (arith, inv .sixteen)))
+      ap (λ (x : Site). inAt x k) (getD-set-same st s _ siteD (omega (arith, inv .all-sites)))
       ∙ getD-set-same (siteAt st s .inputs) k y inputD (omega (arith, inv .site s hs .ins))
 
   pub out-same : (j : ℕ) (o : Output) → j < outputCount
       → outAt (siteAt (setSite st s (setOut (siteAt st s) j o)) s) j ≡ o
   out-same j o hj =
-      ap (λ (x : Site). outAt x j) (getD-set-same st s _ siteD (omega (arith, inv .sixteen)))
+      ap (λ (x : Site). outAt x j) (getD-set-same st s _ siteD (omega (arith, inv .all-sites)))
       ∙ getD-set-same (siteAt st s .outputs) j o noOutput (omega (arith, inv .site s hs .outs))
 
 -- ---- an input that listens receives; no output with its head taken may feed it any more

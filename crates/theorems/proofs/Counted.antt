@@ -3,7 +3,6 @@
 use Prim.Native.Nat.{ℕ, _+_}
 use mathlib.Core.Path.{_≡_, refl}
 use mathlib.Core.List.{List, [], _∷_, _++_, map}
-use lib.ListN.{replicate}
 use lib.Count.{trailingZeros}
 use Rattle.base.specs.Sizes.{noChannel}
 use Rattle.base.specs.All.{all, any}
@@ -22,17 +21,13 @@ use Rattle.model.specs.Events.{Event, Send, Run, ran, sent, runRefusal, sendRef
 use Rattle.model.specs.Owing.{owed}
 use Rattle.model.specs.Runs.{unplayed, atDraw, playedSingly, inBook, inEntries, bookBytes}
 use Rattle.theorems.proofs.Examples.{two, at}
+use Rattle.model.proofs.Made.{net}
 
 -- three sites in a ring, 0 to 1 to 2 to 0, all by ports 1
 abbrev ring : Network
 ring =
-    record {
-      sites = 3;
-      depth = 8;
-      tries = 3;
-      channels = 4 ∷ noChannel ∷ noChannel ∷ noChannel ∷ 8 ∷ noChannel ∷ noChannel ∷ noChannel ∷ 0 ∷ replicate 55 noChannel;
-      routes = 0 ∷ 4096 ∷ 4096 ∷ 4096 ∷ 0 ∷ 4096 ∷ 4096 ∷ 4096 ∷ 0 ∷ replicate 247 0;
-    }
+    net 3 3 8 (4 ∷ noChannel ∷ noChannel ∷ noChannel ∷ 8 ∷ noChannel ∷ noChannel ∷ noChannel ∷ 0 ∷ [])
+    (0 ∷ 4096 ∷ 4096 ∷ 4096 ∷ 0 ∷ 4096 ∷ 4096 ∷ 4096 ∷ 0 ∷ [])
 
 -- packet p at sites 0, 1, 2: the times it stands in the book of the events there, and the places that owe it
 row : Network → ℕ → List Event → List ℕ

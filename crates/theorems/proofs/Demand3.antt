@@ -158,7 +158,7 @@ empty-site s =
 empty-inv : (n : Network) → Inv n (noState .sites)
 empty-inv n =
     record {
-      sixteen = refl;
+      all-sites = refl;
       site = λ s h. rw (getD-replicate sitesMost s noSite siteD h) (empty-site s);
       link = λ s j hs hj hb h. absurd (clash (sym h ∙ quiet s j));
     }

@@ -12,7 +12,7 @@ use Rattle.base.specs.Sums.{sum}
 use Rattle.sets.specs.Sets.{has, plus, minus, sizeIn, lowest}
 use Rattle.draws.specs.Draws.{drawn, drawnSite, drawnCode}
 use Rattle.theorems.specs.Names.{State, Network, Run as StoredRun}
-use Rattle.model.specs.Types.{noState, siteAt, inAt, outAt, outEntry, sendD}
+use Rattle.model.specs.Types.{noState, siteAt, inAt, outAt, outEntry}
 use Rattle.types.specs.Numbers.{stateNumber, terminatorNumber, sentNumbers, ranNumbers}
 use Rattle.model.specs.Network.{networkRefusal}
 use Rattle.model.specs.Range.{inRange}
@@ -22,21 +22,15 @@ use Rattle.model.specs.Places.{localOutput, deliver, channelOutput, outQueue, o
 use Rattle.model.specs.Steps.{netOutput, act, run, enqueue}
 use Rattle.model.specs.Events.{Event, Send, Run, ran, sent, runRefusal, sendRefusal, after, final}
 use Rattle.model.specs.Runs.{storedRefusal}
+use Rattle.model.proofs.Made.{net, runOn}
 
 -- "one site"
 abbrev one : ℕ → Network
-one D = record { sites = 1; depth = D; tries = 3; channels = replicate 64 noChannel; routes = replicate 256 0 }
+one D = net 1 3 D [] []
 
 -- "two sites joined on ports 1 both ways, each route port 1"
 abbrev pub two : Network
-two =
-    record {
-      sites = 2;
-      depth = 8;
-      tries = 3;
-      channels = 4 ∷ noChannel ∷ noChannel ∷ noChannel ∷ 0 ∷ replicate 59 noChannel;
-      routes = 0 ∷ 4096 ∷ 4096 ∷ 0 ∷ replicate 252 0;
-    }
+two = net 2 3 8 (4 ∷ noChannel ∷ noChannel ∷ noChannel ∷ 0 ∷ []) (0 ∷ 4096 ∷ 4096 ∷ 0 ∷ [])
 
 abbrev numbers : Network → State → Event → List ℕ
 numbers n st (Send s X) = sentNumbers (sent n st s X .answer)
@@ -77,7 +71,7 @@ front st =
     q .count ∷ outEntry q 0 .packet ∷ outEntry q 0 .set ∷ []
 
 seedless : StoredRun
-seedless = record { network = one 1; seed = 0; draws = 2; count = 0; sends = replicate 255 sendD }
+seedless = runOn (one 1) 0 2 []
 
 -- what is computed, and what the document gives
 pub table : List (List (List ℕ) × List (List ℕ))

@@ -130,7 +130,7 @@ Link n st =
     → claim (farEnd st (channel n s (suc j))) ≡ tagOut (outAt (siteAt st s) (suc j))
 
 pub record Inv (n : Network) (st : List Site) : Type 0 where
-  pub sixteen : length st ≡ sitesMost
+  pub all-sites : length st ≡ sitesMost
   pub site : (s : ℕ) → s < sitesMost → SiteOk s (siteAt st s)
   pub link : Link n st
 
@@ -188,7 +188,7 @@ module _ (n : Network) (st : List Site) (s : ℕ) (x′ : Site) (inv : Inv n st)
   pub inv-set : SiteOk s x′ → Link n (setSite st s x′) → Inv n (setSite st s x′)
   inv-set ok link =
       record {
-        sixteen = length-set st s x′ ∙ inv .sixteen;
+        all-sites = length-set st s x′ ∙ inv .all-sites;
         site = all-set (λ u x. u < sitesMost → SiteOk u x) st s x′ siteD (λ h. ok) (inv .site);
         link = link;
       }
@@ -196,7 +196,7 @@ module _ (n : Network) (st : List Site) (s : ℕ) (x′ : Site) (inv : Inv n st)
   pub owed-set : (p t : ℕ) → s < sitesMost
       → owed (setSite st s x′) p t + owesSite p t s (siteAt st s) ≡ owed st p t + owesSite p t s x′
   unfolding owed
-  owed-set p t h = isum-set (owesSite p t) st s x′ siteD (omega (arith, inv .sixteen))
+  owed-set p t h = isum-set (owesSite p t) st s x′ siteD (omega (arith, inv .all-sites))
 
   pub good-kept : (more : ℕ → ℕ → ℕ) → s < sitesMost → Good s (siteAt st s) x′ more → Kept n st (setSite st s x′) more
   good-kept more h g =

@@ -161,12 +161,12 @@ singly-counts n v es =
     let small : (s : ℕ) → s < length (st .sites) → SmallSite P (siteAt (st .sites) s) =
     λ s l.
     more-room (st .counter + 1) P (siteAt (st .sites) s) (omega arith)
-    (range-small n (valid-ok n v) st sh (reached n (events es)) s (omega (arith, sh .sixteen))) in
+    (range-small n (valid-ok n v) st sh (reached n (events es)) s (omega (arith, sh .all-sites))) in
     omega (
       arith,
       book-length n unplayed es empty-shaped (omega arith),
       ap (λ (w : State). owedPairs (w .sites)) (singly-state n unplayed es),
-      state-pairs P (st .sites) (omega arith) (omega (arith, sh .sixteen)) small,
+      state-pairs P (st .sites) (omega arith) (omega (arith, sh .all-sites)) small,
       grand-add P (serviced n noState (events es)) (owed (st .sites)),
       grand-ext P (λ p t. serviced n noState (events es) p t + owed (st .sites) p t)
           (λ p t. bit t (getD (accepted n noState (events es)) p 0))

@@ -32,21 +32,21 @@ use Rattle.model.specs.Shapes.{Shaped}
 pub range-at : (n : Network) → Valid n → (st : State) → Shaped st → inRange n st ≡ true
     → SitesIn n (st .counter) (st .sites)
 unfolding inRange
-range-at n val st sh h = sites-at n (st .counter) (st .sites) (sh .sixteen) (sh .site) (val .few) (val .deep) h
+range-at n val st sh h = sites-at n (st .counter) (st .sites) (sh .all-sites) (sh .site) (val .few) (val .deep) h
 
 pub range-by : (n : Network) (st : State) → SitesIn n (st .counter) (st .sites) → inRange n st ≡ true
 unfolding inRange
 range-by n st h = sites-by n (st .counter) (st .sites) h
 
 pub shaped-by : (n : Network) (st : State) → SitesIn n (st .counter) (st .sites) → Shaped st
-shaped-by n st h = record { sixteen = h .sixteen; site = sites-shaped n (st .counter) (st .sites) h }
+shaped-by n st h = record { all-sites = h .all-sites; site = sites-shaped n (st .counter) (st .sites) h }
 
 -- ---- the empty state
 
 pub empty-shaped : Shaped noState
 empty-shaped =
     record {
-      sixteen = refl;
+      all-sites = refl;
       site =
           λ s l.
           rw (getD-replicate sitesMost s noSite siteD l)

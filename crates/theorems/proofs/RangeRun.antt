@@ -197,7 +197,7 @@ pub record StepIn (n : Network) (s k : ℕ) (st : List Site) (r : Stepped) : Typ
 
 module _ (n : Network) (val : Valid n) (k : ℕ) (st : List Site) (h : SitesIn n k st) (s : ℕ) (hs : s < n .sites) where
   room : s < length st
-  room = omega (arith, h .sixteen, val .few)
+  room = omega (arith, h .all-sites, val .few)
 
   own-range : (x : Site) → SiteTo n k (siteAt st s) x → SitesIn n k (setSite st s x)
   own-range x g = sites-set n k st s x h hs (g .inn)
@@ -291,7 +291,7 @@ module _ (n : Network) (k : ℕ) where
   unfolding enqueue
   send-in st deep h s X hs pos hX free =
       let up : SitesIn n (k + 1) st =
-      record { sixteen = h .sixteen; inside = λ u l. site-more (siteAt st u) (h .inside u l); outside = h .outside } in
+      record { all-sites = h .all-sites; inside = λ u l. site-more (siteAt st u) (h .inside u l); outside = h .outside } in
       let ok = up .inside s hs in
       sites-set n (k + 1) st s _ up hs
       (outgoing-set n (k + 1) (siteAt st s) ok _

@@ -225,7 +225,7 @@ module _ (n : Network) (k : ℕ) (x : Site) where
 -- ---- the sites
 
 pub record SitesIn (n : Network) (k : ℕ) (st : List Site) : Type 0 where
-  pub sixteen : length st ≡ sitesMost
+  pub all-sites : length st ≡ sitesMost
   pub inside : (s : ℕ) → s < n .sites → SiteIn n k (siteAt st s)
   pub outside : (s : ℕ) → s < sitesMost → n .sites ≤ s → SiteShaped (siteAt st s) × (zeroSite (siteAt st s) ≡ true)
 
@@ -238,12 +238,12 @@ module _ (n : Network) (k : ℕ) (st : List Site) where
 
   pub sites-at : length st ≡ sitesMost → ((s : ℕ) → s < sitesMost → SiteShaped (siteAt st s)) → n .sites ≤ sitesMost
       → n .depth ≤ queueRoom → all placeTest sitesMost ≡ true → SitesIn n k st
-  sites-at sixteen len few deep h =
+  sites-at all-sites len few deep h =
       let each : (s : ℕ) → s < sitesMost
       → (ltb s (n .sites) ≡ true → siteTest s ≡ true) × (ltb s (n .sites) ≡ false → zeroSite (siteAt st s) ≡ true) =
       λ s l. pick-at (ltb s (n .sites)) (siteTest s) (zeroSite (siteAt st s)) (all-at placeTest s sitesMost l h) in
       record {
-        sixteen = sixteen;
+        all-sites = all-sites;
         inside =
             λ s l.
             site-at n k (siteAt st s) (len s (omega arith)) deep (each s (omega arith) .0 (lt-ltb s (n .sites) l));
@@ -269,7 +269,7 @@ module _ (n : Network) (k : ℕ) (st : List Site) where
   pub sites-set : (s : ℕ) (x : Site) → SitesIn n k st → s < n .sites → SiteIn n k x → SitesIn n k (setSite st s x)
   sites-set s x h hs ok =
       record {
-        sixteen = length-set st s x ∙ h .sixteen;
+        all-sites = length-set st s x ∙ h .all-sites;
         inside = all-set (λ u y. u < n .sites → SiteIn n k y) st s x siteD (λ l. ok) (h .inside);
         outside =
             all-set (λ u y. u < sitesMost → n .sites ≤ u → SiteShaped y × (zeroSite y ≡ true)) st s x siteD

@@ -8,9 +8,9 @@ fn picked(run: Run) -> usize {
     let channels = network.channels;
     let routes = network.routes;
     let sends = run.sends;
-    let channel = channels[63];
-    let route = routes[255];
-    let send = sends[254];
+    let channel = channels[base::PORTS * base::SITES - 1];
+    let route = routes[base::SITES * base::SITES - 1];
+    let send = sends[base::SENDS - 1];
     base::wide(channel) + (route as usize) % 65536 + (send.draw as usize) % 65536
 }
 

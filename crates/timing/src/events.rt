@@ -48,7 +48,7 @@ fn repeated(network: Network, start: State, site: usize, code: usize, times: usi
 
 // What a number picks of the state.
 fn picked(state: State, k: usize) -> usize {
-    let site = state.sites[k % 16];
+    let site = state.sites[k % base::SITES];
     let queue = site.outgoing;
     base::wide(state.counter) + queue.count % 16
 }
@@ -80,7 +80,7 @@ pub extern "C" fn timing_sends(bytes: &[u8], times: usize) -> usize {
     let mut state = machine::empty_state();
     let mut k: usize = 0;
     while k < times {
-        let after = machine::send(network, state, k % 16, 1);
+        let after = machine::send(network, state, k % base::SITES, 1);
         state = after.state;
         k += 1;
     }

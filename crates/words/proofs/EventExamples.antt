@@ -2,7 +2,8 @@
 use mathlib.Core.Path.{_≡_, refl}
 use mathlib.Core.List.{List, [], _∷_}
 use Prim.Native.Nat.{ℕ}
-use lib.ListN.{replicate, set}
+use lib.ListN.{set}
+use Rattle.layout.specs.Layout.{counterAt}
 use Rattle.base.specs.All.{all, any}
 use Rattle.base.specs.Over.{over}
 use Rattle.sets.specs.Sets.{has, plus, minus}
@@ -17,13 +18,14 @@ use Rattle.model.specs.Events.{sendRefusal, runRefusal, sent, ran}
 use Rattle.layout.specs.Packed.{inputFrom, inputWord, outputFrom, outputWord, outEntryFrom, outEntryWord, inEntryFrom, inEntryWord}
 use Rattle.layout.specs.Words.{inputAt, outputAt, leavingAt, arrivedAt, siteOf, sitesOf, setOf, fieldsOf, wordOf, wordsOf, canonical, noWords}
 use Rattle.layout.specs.Public.{ranWords, sentWords}
+use Rattle.model.proofs.Made.{net}
 
 abbrev oneSite : ℕ → Network
-oneSite T = record { sites = 1; depth = 1; tries = T; channels = replicate 64 255; routes = replicate 256 0 }
+oneSite T = net 1 T 1 [] []
 
 -- the first entry of the out-queue (place 10) has the set {0} and packet 0, not started; its count is 1 (place 26), the counter too
 abbrev waiting : List ℕ
-waiting = set (set (set noWords 20 1) 52 1) 864 1
+waiting = set (set (set noWords 20 1) 52 1) counterAt 1
 
 sent-words : sentWords (oneSite 1) noWords 0 1 ≡ record { answer = Accepted 0; words = waiting }
 unfolding sentWords canonical noWords all over sitesOf siteOf inputAt outputAt leavingAt arrivedAt inputFrom outputFrom outEntryFrom inEntryFrom

@@ -33,7 +33,7 @@ in-range-is n st = refl
 pub range-found : (S T D k m : ℕ) (c : List ℕ) (ok : Bool) → k ≡ stateOf c .counter → m ≤ sitesMost → sitesMost ≤ m
     → ok ≡ all (λ t. placeOk S T D k t (siteAt (sitesOf c) t)) m → ok ≡ inRange (networkBy S D T [] []) (stateOf c)
 unfolding inRange
-range-found S T D k m c ok e h l f = rw (← e) (all-end (λ t. placeOk S T D k t (siteAt (sitesOf c) t)) 16 m ok h l f)
+range-found S T D k m c ok e h l f = rw (← e) (all-end (λ t. placeOk S T D k t (siteAt (sitesOf c) t)) sitesMost m ok h l f)
 
 pub sized : (c : List ℕ) → isState c ≡ true → length c ≡ wordCount
 sized c h = eqb-true (length c) wordCount (both (eqb (length c) wordCount) (canonical c) h .0)

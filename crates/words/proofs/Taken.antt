@@ -23,7 +23,7 @@ use Rattle.layout.specs.Layout.{counterAt, wordCount}
 use Rattle.layout.specs.Words.{sitesOf, stateOf}
 use Rattle.layout.specs.Stored.{Stored, Counted, leavingSet, leavingCount}
 use Rattle.words.specs.Events.{Took, tried, siteIn}
-use Rattle.layout.proofs.Decoded.{sixteen}
+use Rattle.layout.proofs.Decoded.{all-sites}
 
 -- what SEND does is said of a network's sites and depth alone
 pub tried-is : (n : Network) (st : State) (s X : ℕ) → tried (n .sites) (n .depth) st s X ≡ trySend n st s X
@@ -31,8 +31,8 @@ unfolding tried
 tried-is n st s X = refl
 
 -- where there is no site there is no entry
-pub no-entries : (c : List ℕ) (s : ℕ) → 16 ≤ s → 0 ≡ siteIn c s .outgoing .count
-no-entries c s h = sym (ap (λ (x : Site). x .outgoing .count) (List·getD-eq-default (sitesOf c) siteD {n = s} (omega (arith, sixteen c))))
+pub no-entries : (c : List ℕ) (s : ℕ) → sitesMost ≤ s → 0 ≡ siteIn c s .outgoing .count
+no-entries c s h = sym (ap (λ (x : Site). x .outgoing .count) (List·getD-eq-default (sitesOf c) siteD {n = s} (omega (arith, all-sites c))))
 
 -- SEND's own refusal on the words c
 abbrev fault : List ℕ → ℕ → ℕ → ℕ → ℕ → ℕ

@@ -1,8 +1,9 @@
 -- `network_of` is safe and ends: channels and routes keep their lengths, and what is left of them falls. Assumes nothing.
-use Prim.Native.Nat.{_≤_, _-_}
+use Prim.Native.Nat.{_≤_, _-_, _*_}
 use mathlib.Core.Path.{_≡_}
 use lib.ListN.{length}
 use borrow.Author.Needs.{needs}
+use Rattle.base.specs.Sizes.{portCount, sitesMost}
 use Rattle.singles.proofs.network_of.Statement.{statement}
 use Rattle.singles.proofs.network_of.Tie as tie
 use Rattle.singles.proofs.network_of.Reads as reads
@@ -11,10 +12,11 @@ use Rattle.singles.proofs.short_of.Reads as short-of-reads
 use Rattle.singles.proofs.site.byte_of.Reads as byte-of-reads
 
 abbrev Inv-loop : tie.InvT-loop
-Inv-loop sites tries depth channel route channels₀ routes₀ i₀ channels routes i = (i ≤ 256) × (length channels ≡ 64) × (length routes ≡ 256)
+Inv-loop sites tries depth channel route channels₀ routes₀ i₀ channels routes i =
+    (i ≤ sitesMost * sitesMost) × (length channels ≡ portCount * sitesMost) × (length routes ≡ sitesMost * sitesMost)
 
 abbrev μ-loop : tie.MeasureT-loop
-μ-loop sites tries depth channel route channels₀ routes₀ i₀ channels routes i = 256 - i
+μ-loop sites tries depth channel route channels₀ routes₀ i₀ channels routes i = sitesMost * sitesMost - i
 
 loop-holds : tie.Need-loop-holds Inv-loop μ-loop
 loop-holds c = search needs

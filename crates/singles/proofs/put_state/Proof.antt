@@ -1,14 +1,15 @@
 -- `put_state` is safe and ends: the index stays within the 16 sites, and what is left of them falls. Assumes nothing.
 use Prim.Native.Nat.{_≤_, _-_}
 use borrow.Author.Needs.{needs}
+use Rattle.base.specs.Sizes.{sitesMost}
 use Rattle.singles.proofs.put_state.Statement.{statement}
 use Rattle.singles.proofs.put_state.Tie as tie
 
 abbrev Inv-loop : tie.InvT-loop
-Inv-loop end sites s₀ s = s ≤ 16
+Inv-loop end sites s₀ s = s ≤ sitesMost
 
 abbrev μ-loop : tie.MeasureT-loop
-μ-loop end sites s₀ s = 16 - s
+μ-loop end sites s₀ s = sitesMost - s
 
 cast-put : tie.Need-cast-put Inv-loop μ-loop
 cast-put c = search needs

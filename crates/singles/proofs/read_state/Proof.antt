@@ -1,14 +1,15 @@
 -- `read_state` is safe and ends: the index stays within the 16 sites, and what is left of them falls. Assumes nothing.
 use Prim.Native.Nat.{_≤_, _-_}
 use borrow.Author.Needs.{needs}
+use Rattle.base.specs.Sizes.{sitesMost}
 use Rattle.singles.proofs.read_state.Statement.{statement}
 use Rattle.singles.proofs.read_state.Tie as tie
 
 abbrev Inv-loop : tie.InvT-loop
-Inv-loop piece₀ state₀ cursor₀ s₀ piece state cursor s = s ≤ 16
+Inv-loop piece₀ state₀ cursor₀ s₀ piece state cursor s = s ≤ sitesMost
 
 abbrev μ-loop : tie.MeasureT-loop
-μ-loop piece₀ state₀ cursor₀ s₀ piece state cursor s = 16 - s
+μ-loop piece₀ state₀ cursor₀ s₀ piece state cursor s = sitesMost - s
 
 number-requires : tie.Need-number-requires Inv-loop μ-loop
 number-requires c κs = search needs

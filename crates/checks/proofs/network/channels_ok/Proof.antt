@@ -1,5 +1,6 @@
 -- `network::channels_ok` meets its contract: the table of inputs that are fed stands for the test against every
 -- channel before. Assumes nothing.
+use Rattle.base.specs.Sizes.{portCount, sitesMost}
 use Rattle.base.specs.All.{all, all-none}
 use mathlib.Core.Path.{_≡_, refl, sym, _∙_}
 use mathlib.Core.Bool.{true}
@@ -19,7 +20,7 @@ use Rattle.checks.proofs.network.is_input.Reads as is-input-reads
 
 abbrev Inv-loop : tie.InvT-loop
 Inv-loop channels sites end fed₀ c₀ fed c =
-    (c ≤ end) × (end ≤ 64) × (all (channelIn channels end) c ≡ true) × (length fed ≡ 64) × Fed channels fed c
+    (c ≤ end) × (end ≤ portCount * sitesMost) × (all (channelIn channels end) c ≡ true) × (length fed ≡ portCount * sitesMost) × Fed channels fed c
 
 abbrev μ-loop : tie.MeasureT-loop
 μ-loop channels sites end fed₀ c₀ fed c = end - c

@@ -5,6 +5,7 @@ use Prim.Native.Nat.{_≤_, _-_, _+_, _*_}
 use native.Mathlib.Omega.{arith}
 use borrow.Author.Needs.{needs}
 use lib.ListN.{getD}
+use Rattle.base.specs.Sizes.{sitesMost}
 use Rattle.base.specs.All.{all, all-none, all-more, all-fails}
 use Rattle.checks.specs.Network.{routeBy}
 use Rattle.base.specs.Flat.{place-below}
@@ -34,7 +35,7 @@ mul-route c =
     let pre = c .before .before .before .before .pre in
     omega (
       arith,
-      place-below (args .s) (c .before .loop .t) (args .network .sites) 16 (pre .0) (c .loop-test .taken) (pre .1),
+      place-below (args .s) (c .before .loop .t) (args .network .sites) sitesMost (pre .0) (c .loop-test .taken) (pre .1),
     )
 
 add-route : tie.Need-add-route Inv-loop μ-loop
@@ -43,7 +44,7 @@ add-route c =
     let pre = c .before .before .before .before .pre in
     omega (
       arith,
-      place-below (args .s) (c .before .loop .t) (args .network .sites) 16 (pre .0) (c .loop-test .taken) (pre .1),
+      place-below (args .s) (c .before .loop .t) (args .network .sites) sitesMost (pre .0) (c .loop-test .taken) (pre .1),
     )
 
 mul-route-2 : tie.Need-mul-route-2 Inv-loop μ-loop
@@ -52,7 +53,7 @@ mul-route-2 c =
     let pre = c .before .before .before .before .pre in
     omega (
       arith,
-      place-below (args .s) (c .before .loop .t) (args .network .sites) 16 (pre .0) (c .loop-test .taken) (pre .1),
+      place-below (args .s) (c .before .loop .t) (args .network .sites) sitesMost (pre .0) (c .loop-test .taken) (pre .1),
     )
 
 array-read-route : tie.Need-array-read-route Inv-loop μ-loop
@@ -61,7 +62,7 @@ array-read-route c =
     let pre = c .before .before .before .before .pre in
     omega (
       arith,
-      place-below (args .s) (c .before .loop .t) (args .network .sites) 16 (pre .0) (c .loop-test .taken) (pre .1),
+      place-below (args .s) (c .before .loop .t) (args .network .sites) sitesMost (pre .0) (c .loop-test .taken) (pre .1),
     )
 
 route-ok-requires : tie.Need-route-ok-requires Inv-loop μ-loop

@@ -3,6 +3,7 @@ use borrow.Author.Needs.{needs}
 use Prim.Native.Nat.{_-_, _≤_}
 use mathlib.Core.Path.{_≡_}
 use lib.ListN.{length}
+use Rattle.base.specs.Sizes.{sitesMost}
 use Rattle.front.proofs.pattern.add_set.Statement.{statement}
 use Rattle.front.proofs.pattern.add_set.Tie as tie
 use Rattle.front.proofs.pattern.add_set.Reads as reads
@@ -11,10 +12,10 @@ use Rattle.report.proofs.add_bytes.Reads as add-bytes-reads
 use Rattle.front.proofs.pattern.add_member.Reads as add-member-reads
 
 abbrev Inv-loop : tie.InvT-loop
-Inv-loop text₀ at set begin to₀ t₀ t8 text to t = (length text ≡ length text₀) × (t ≤ 16)
+Inv-loop text₀ at set begin to₀ t₀ t8 text to t = (length text ≡ length text₀) × (t ≤ sitesMost)
 
 abbrev μ-loop : tie.MeasureT-loop
-μ-loop text₀ at set begin to₀ t₀ t8 text to t = 16 - t
+μ-loop text₀ at set begin to₀ t₀ t8 text to t = sitesMost - t
 
 slice-aggregate-add-bytes : tie.Need-slice-aggregate-add-bytes Inv-loop μ-loop
 slice-aggregate-add-bytes c = search needs

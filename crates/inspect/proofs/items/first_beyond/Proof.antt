@@ -1,16 +1,17 @@
 -- `items::first_beyond` is safe and ends. Assumes nothing.
 use Prim.Native.Nat.{_-_, _≤_}
 use borrow.Author.Needs.{needs}
+use Rattle.base.specs.Sizes.{sitesMost}
 use Rattle.inspect.proofs.items.first_beyond.Statement.{statement}
 use Rattle.inspect.proofs.items.first_beyond.Tie as tie
 use Rattle.inspect.proofs.items.first_beyond.Reads as reads
 use Rattle.inspect.proofs.items.first_beyond.Lts as lts
 
 abbrev Inv-loop : tie.InvT-loop
-Inv-loop set sites t₀ t = t ≤ 16
+Inv-loop set sites t₀ t = t ≤ sitesMost
 
 abbrev μ-loop : tie.MeasureT-loop
-μ-loop set sites t₀ t = 16 - t
+μ-loop set sites t₀ t = sitesMost - t
 
 loop-holds : tie.Need-loop-holds Inv-loop μ-loop
 loop-holds c = search needs

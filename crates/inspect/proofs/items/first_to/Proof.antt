@@ -1,6 +1,7 @@
 -- `items::first_to` is safe and ends. Assumes nothing.
-use Prim.Native.Nat.{_-_, _≤_}
+use Prim.Native.Nat.{_-_, _≤_, _*_}
 use borrow.Author.Needs.{needs}
+use Rattle.base.specs.Sizes.{portCount, sitesMost}
 use Rattle.inspect.proofs.items.first_to.Statement.{statement}
 use Rattle.inspect.proofs.items.first_to.Tie as tie
 use Rattle.inspect.proofs.items.first_to.Reads as reads
@@ -8,10 +9,10 @@ use Rattle.inspect.proofs.items.first_to.Lts as lts
 use Rattle.inspect.proofs.held.channel.Reads as channel-reads
 
 abbrev Inv-loop : tie.InvT-loop
-Inv-loop b byte m₀ m = m ≤ 64
+Inv-loop b byte m₀ m = m ≤ portCount * sitesMost
 
 abbrev μ-loop : tie.MeasureT-loop
-μ-loop b byte m₀ m = 64 - m
+μ-loop b byte m₀ m = portCount * sitesMost - m
 
 loop-holds : tie.Need-loop-holds Inv-loop μ-loop
 loop-holds c = search needs

@@ -2,6 +2,7 @@ use mathlib.Core.Path.{_≡_, sym, ap}
 use lib.ListN.{length, List·getD-eq-default}
 use native.Mathlib.Omega.{arith}
 use borrow.Author.Needs.{needs}
+use Rattle.base.specs.Sizes.{sitesMost}
 use Rattle.model.specs.Types.{siteD}
 use Rattle.types.specs.declared.Site.{Site}
 use Rattle.machine.proofs.events.out_entries.Statement.{statement}
@@ -21,7 +22,7 @@ returns c = search needs
 returns-2 : tie.Need-returns-2
 returns-2 c =
     let a = c .before .args in
-    let l : length (a .t1) ≡ 16 = search needs in
+    let l : length (a .t1) ≡ sitesMost = search needs in
     sym (ap (λ (x : Site). x .outgoing .count) (List·getD-eq-default (a .t1) siteD {n = a .s} (omega arith)))
 
 pub out-entries-spec : {M : Type 1} → statement M

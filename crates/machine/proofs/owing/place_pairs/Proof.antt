@@ -1,5 +1,6 @@
 use mathlib.Core.Path.{refl}
 use native.Mathlib.Omega.{arith}
+use Rattle.base.specs.Sizes.{setBits}
 use Rattle.sets.proofs.LawsBit.{size-most}
 use borrow.Author.Needs.{needs}
 use Rattle.machine.proofs.owing.place_pairs.Statement.{statement}
@@ -37,7 +38,7 @@ returns-3 : tie.Need-returns-3
 returns-3 c =
     let args = c .before .before .before .args in (
       rw (c .before .enum-told2 .given .1) (c .size .ensures),
-      omega (arith, c .size .ensures, size-most 64 (args .set)),
+      omega (arith, c .size .ensures, size-most setBits (args .set)),
     )
 
 returns-4 : tie.Need-returns-4

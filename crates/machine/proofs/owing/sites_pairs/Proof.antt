@@ -4,6 +4,7 @@ use Prim.Native.Nat.{_*_, _-_, _≤_}
 use lib.ListN.{length, take}
 use lib.Seq.{take-all}
 use borrow.Author.Needs.{needs}
+use Rattle.base.specs.Sizes.{sitesMost}
 use Rattle.base.specs.Sums.{isum, isum-next}
 use Rattle.model.specs.Types.{siteD}
 use Rattle.model.specs.Owing.{pairsSite, owedPairs}
@@ -14,10 +15,10 @@ use Rattle.machine.proofs.owing.sites_pairs.Lts as lts
 use Rattle.machine.proofs.owing.site_pairs.Reads as site-pairs-reads
 
 abbrev Inv-loop : tie.InvT-loop
-Inv-loop sites n₀ s₀ n s = (s ≤ 16) × (n ≤ 1664 * s) × (n ≡ isum pairsSite 0 (take s sites))
+Inv-loop sites n₀ s₀ n s = (s ≤ sitesMost) × (n ≤ 1664 * s) × (n ≡ isum pairsSite 0 (take s sites))
 
 abbrev μ-loop : tie.MeasureT-loop
-μ-loop sites n₀ s₀ n s = 16 - s
+μ-loop sites n₀ s₀ n s = sitesMost - s
 
 loop-holds : tie.Need-loop-holds Inv-loop μ-loop
 unfolding isum
@@ -27,7 +28,7 @@ mul-site : tie.Need-mul-site Inv-loop μ-loop
 mul-site c = search needs
 
 array-copy-out-site : tie.Need-array-copy-out-site Inv-loop μ-loop
-array-copy-out-site c = let e : length (c .before .before .args .t1) ≡ 16 = search needs in omega arith
+array-copy-out-site c = let e : length (c .before .before .args .t1) ≡ sitesMost = search needs in omega arith
 
 site-pairs-requires : tie.Need-site-pairs-requires Inv-loop μ-loop
 site-pairs-requires c κs = search needs
@@ -46,7 +47,7 @@ loop-again c =
     let loop = c .before .before .before .loop in
     let args = c .before .before .before .before .args in
     let l = loop in
-    let e : length (args .t1) ≡ 16 = search needs in (
+    let e : length (args .t1) ≡ sitesMost = search needs in (
       omega arith,
       omega (arith, c .site-pairs .ensures .1),
       omega (arith, l .inv .2, c .site-pairs .ensures .0, isum-next pairsSite (args .t1) (l .s) siteD (omega arith)),
@@ -57,7 +58,7 @@ unfolding owedPairs
 returns c =
     let args = c .before .before .args in
     let l = c .before .loop in
-    let e : length (args .t1) ≡ 16 = search needs in
+    let e : length (args .t1) ≡ sitesMost = search needs in
     l .inv .2 ∙ ap (isum pairsSite 0) (take-all (l .s) (args .t1) (omega arith))
 
 pub sites-pairs-spec : {M : Type 1} → statement M

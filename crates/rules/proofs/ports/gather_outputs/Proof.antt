@@ -3,6 +3,7 @@ use Prim.Native.Nat.{_-_}
 use native.Mathlib.Omega.{arith}
 use borrow.Author.Needs.{needs}
 use borrow.Author.Tests.{lt-ltb}
+use Rattle.base.specs.Sizes.{setBits}
 use Rattle.rules.specs.Router.{ofGathered, routesOnly}
 use Rattle.rules.proofs.Gather.{Turning, Seeking, starts, done, pass-by, enter, no-port, next-port, port-in, with-port}
 use native.Mathlib.Omega.{arith}
@@ -75,7 +76,7 @@ targets-less c = search needs
 targets-again : tie.Need-targets-again Inv-loop μ-loop Inv-targets μ-targets
 targets-again c =
     let l = c .before .before .before .before .loop in
-    rw (c .with .ensures, lt-ltb (l .t) 64 (omega arith)) (with-port (l .inv)
+    rw (c .with .ensures, lt-ltb (l .t) setBits (omega arith)) (with-port (l .inv)
     (c .before .before .before .loop-test .taken) (sym (c .before .before .can-serve .ensures) ∙ c .before .if2 .taken))
 
 add-k : tie.Need-add-k Inv-loop μ-loop Inv-targets μ-targets

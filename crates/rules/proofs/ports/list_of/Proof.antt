@@ -1,4 +1,5 @@
 use native.Mathlib.Omega.{arith}
+use Rattle.base.specs.Sizes.{sitesMost}
 use Rattle.base.specs.Flat.{place-below}
 use native.Mathlib.Omega.{arith}
 use borrow.Author.Needs.{needs}
@@ -9,20 +10,20 @@ use Rattle.rules.proofs.ports.list_of.Lts as lts
 use Rattle.rules.proofs.ports.ports.Reads as ports-reads
 
 mul-ports : tie.Need-mul-ports
-mul-ports c = omega (arith, place-below (c .before .args .s) (c .before .args .t) (c .before .args .sites) 16 (omega arith) (omega arith) (omega arith))
+mul-ports c = omega (arith, place-below (c .before .args .s) (c .before .args .t) (c .before .args .sites) sitesMost (omega arith) (omega arith) (omega arith))
 
 add-ports : tie.Need-add-ports
-add-ports c = omega (arith, place-below (c .before .args .s) (c .before .args .t) (c .before .args .sites) 16 (omega arith) (omega arith) (omega arith))
+add-ports c = omega (arith, place-below (c .before .args .s) (c .before .args .t) (c .before .args .sites) sitesMost (omega arith) (omega arith) (omega arith))
 
 mul-ports-2 : tie.Need-mul-ports-2
-mul-ports-2 c = omega (arith, place-below (c .before .args .s) (c .before .args .t) (c .before .args .sites) 16 (omega arith) (omega arith) (omega arith))
+mul-ports-2 c = omega (arith, place-below (c .before .args .s) (c .before .args .t) (c .before .args .sites) sitesMost (omega arith) (omega arith) (omega arith))
 
 shared-slice-read-ports : tie.Need-shared-slice-read-ports
 shared-slice-read-ports c =
     omega (
       arith,
       place-below (c .before .before .args .s) (c .before .before .args .t)
-          (c .before .before .args .sites) 16 (omega arith) (omega arith) (omega arith),
+          (c .before .before .args .sites) sitesMost (omega arith) (omega arith) (omega arith),
     )
 
 ports-requires : tie.Need-ports-requires

@@ -1,6 +1,8 @@
+use Prim.Native.Nat.{_*_}
 use mathlib.Core.Path.{_≡_, ap, _∙_}
 use mathlib.Core.Bool.{cond}
 use lib.ListN.{length}
+use Rattle.base.specs.Sizes.{sitesMost}
 use Rattle.model.specs.Router.{Unserved, route}
 use Rattle.rules.specs.Router.{ofChoice, routesOnly}
 use Rattle.rules.proofs.Asked.{asked-whole}
@@ -21,7 +23,7 @@ returns : tie.Need-returns
 returns c =
     let a = c .before .before .args in
     let c′ = route (routesOnly (a .sites) (a .t1)) (a .s) (a .outputs) (a .set) in
-    let e : length (a .t1) ≡ 256 = search needs in
+    let e : length (a .t1) ≡ sitesMost * sitesMost = search needs in
     c .route-in .ensures ∙ ap (λ b. ofChoice (cond b c′ Unserved)) (asked-whole (a .t1) (a .sites) (a .s) (a .set) e)
 
 pub route-by-spec : {M : Type 1} → statement M

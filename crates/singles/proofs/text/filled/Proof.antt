@@ -1,14 +1,15 @@
 -- `text::filled` is safe and ends: the index stays within the room, and what is left of it falls. Assumes nothing.
-use Prim.Native.Nat.{_≤_, _-_}
+use Prim.Native.Nat.{_≤_, _-_, _*_}
 use borrow.Author.Needs.{needs}
+use Rattle.base.specs.Sizes.{sitesMost}
 use Rattle.singles.proofs.text.filled.Statement.{statement}
 use Rattle.singles.proofs.text.filled.Tie as tie
 
 abbrev Inv-loop : tie.InvT-loop
-Inv-loop piece₀ room₀ fill count cursor₀ i₀ piece room cursor i = i ≤ 256
+Inv-loop piece₀ room₀ fill count cursor₀ i₀ piece room cursor i = i ≤ sitesMost * sitesMost
 
 abbrev μ-loop : tie.MeasureT-loop
-μ-loop piece₀ room₀ fill count cursor₀ i₀ piece room cursor i = 256 - i
+μ-loop piece₀ room₀ fill count cursor₀ i₀ piece room cursor i = sitesMost * sitesMost - i
 
 number-requires : tie.Need-number-requires Inv-loop μ-loop
 number-requires c κs = search needs

@@ -20,7 +20,7 @@ abbrev Inv-loop : tie.InvT-loop
 Inv-loop words ok₀ s₀ ok s = (s ≤ sitesMost) × (ok ≡ all (λ t. all (placeSame words t) sitePlaces) s)
 
 abbrev μ-loop : tie.MeasureT-loop
-μ-loop words ok₀ s₀ ok s = 16 - s
+μ-loop words ok₀ s₀ ok s = sitesMost - s
 
 -- src/form.rt:78:5
 loop-holds : tie.Need-loop-holds Inv-loop μ-loop
@@ -51,7 +51,7 @@ returns : tie.Need-returns Inv-loop μ-loop
 unfolding canonical
 returns c =
     ap (λ (b : Bool). b && ltb (getD (c .before .before .before .before .args .words .now) counterAt 0) 256)
-    (all-end _ 16 (c .before .before .loop .s) _ (c .before .before .loop .inv .0) (search needs) (c .before .before .loop .inv .1))
+    (all-end _ sitesMost (c .before .before .loop .s) _ (c .before .before .loop .inv .0) (search needs) (c .before .before .loop .inv .1))
 
 pub is-canonical-spec : {M : Type 1} → statement M
 is-canonical-spec =

@@ -9,7 +9,7 @@ use Rattle.base.specs.Sums.{isum, isum-next}
 use Rattle.model.specs.Types.{siteD}
 use Rattle.model.specs.Owing.{pairsSite, owedPairs}
 use Rattle.layout.specs.Words.{sitesOf}
-use Rattle.layout.proofs.Decoded.{sixteen}
+use Rattle.layout.proofs.Decoded.{all-sites}
 use native.Mathlib.Omega.{arith}
 use borrow.Author.Needs.{needs}
 use Rattle.words.proofs.owing.owed_in_place.Statement.{statement}
@@ -23,7 +23,7 @@ abbrev Inv-loop : tie.InvT-loop
 Inv-loop words n₀ s₀ n s = (s ≤ sitesMost) × (n ≤ 1664 * s) × (n ≡ isum pairsSite 0 (take s (sitesOf words)))
 
 abbrev μ-loop : tie.MeasureT-loop
-μ-loop words n₀ s₀ n s = 16 - s
+μ-loop words n₀ s₀ n s = sitesMost - s
 
 -- src/owing.rt:14:5
 loop-holds : tie.Need-loop-holds Inv-loop μ-loop
@@ -57,7 +57,7 @@ loop-again c =
     let args = c .before .before .before .before .before .args in
     let l = loop in
     let xs = sitesOf (args .words .now) in
-    let e = sixteen (args .words .now) in (
+    let e = all-sites (args .words .now) in (
       omega arith,
       omega (arith, c .site-pairs .ensures .1),
       omega (
@@ -75,7 +75,7 @@ unfolding owedPairs
 returns c =
     let args = c .before .before .before .args in
     let l = c .before .loop in
-    let e = sixteen (args .words .now) in
+    let e = all-sites (args .words .now) in
     l .inv .2 ∙ ap (isum pairsSite 0) (take-all (l .s) (sitesOf (args .words .now)) (omega arith))
 
 pub owed-in-place-spec : {M : Type 1} → statement M

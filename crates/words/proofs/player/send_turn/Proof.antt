@@ -1,3 +1,4 @@
+use Rattle.base.specs.Sizes.{setBits}
 use Rattle.sets.proofs.LawsBit.{size-most}
 use native.Mathlib.Omega.{arith}
 use Rattle.words.proofs.TurnLaws.{refused-on, accepted-on}
@@ -55,7 +56,7 @@ add-t15 c =
     let past = c .before .before .before .before .before .before in
     let args = past .before .before .before .before .before .before .args in
     let pre = past .before .before .before .before .before .before .pre in
-    omega (arith, pre .5, c .before .size .ensures, size-most 64 (args .order .set))
+    omega (arith, pre .5, c .before .size .ensures, size-most setBits (args .order .set))
 
 -- src/player.rt:62:15
 add-t16 : tie.Need-add-t16

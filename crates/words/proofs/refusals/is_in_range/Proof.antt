@@ -22,7 +22,7 @@ abbrev Inv-loop : tie.InvT-loop
 Inv-loop sites tries depth words counter ok₀ s₀ ok s = (s ≤ sitesMost) × (ok ≡ all (λ t. placeOk sites tries depth counter t (siteAt (sitesOf words) t)) s)
 
 abbrev μ-loop : tie.MeasureT-loop
-μ-loop sites tries depth words counter ok₀ s₀ ok s = 16 - s
+μ-loop sites tries depth words counter ok₀ s₀ ok s = sitesMost - s
 
 -- src/refusals.rt:22:9
 load-counter-requires : tie.Need-load-counter-requires Inv-loop μ-loop
