@@ -20,8 +20,8 @@ fn told(run: types::Run, k: usize) -> usize
     base::wide(channel) + 256 * routed
 }
 
-// Reads the archive: its refusal, 1 to 8, or 16 and what k picks of its run. It picks before it looks at the refusal: behind
-// a test the compiler copies the arrays once more to pick from them, and these copies would be counted too.
+// Reads the archive: its refusal, 1 to 8, or 16 and what k picks of its run. It picks before it looks at the refusal:
+// behind a test the compiler copies the arrays once more to pick from them, and these copies would be counted too.
 #[no_mangle]
 pub extern "C" fn stack_read(bytes: &[u8], k: usize) -> usize {
     let decoded = archive::read(bytes);

@@ -1,7 +1,11 @@
 -- `head::head_refusal` meets its contract, one law of HeadLaws for each way. Assumes nothing.
-use mathlib.Core.Path.{sym, ap₂, _∙_}
-use mathlib.Core.Bool.{true, false}
+use mathlib.Core.Path.{_≡_, sym, ap₂, _∙_}
+use mathlib.Core.Bool.{Bool, true, false}
+use mathlib.Core.List.{List}
 use Prim.Native.Nat.{ℕ, _+_, _*_}
+use lib.ListN.{length}
+use Rattle.model.specs.Network.{sizesOk}
+use Rattle.format.specs.Format.{word, quad, seedPlace, networkOf}
 use Rattle.faults.proofs.HeadLaws.{sizes-read, head-short, head-field, head-version, head-sizes, head-seed, head-size, head-by}
 use borrow.Author.Needs.{needs}
 use Rattle.faults.proofs.head.head_refusal.Statement.{statement}
@@ -14,6 +18,42 @@ use Rattle.checks.proofs.sizes_ok.Reads as sizes-ok-reads
 use Rattle.faults.proofs.head.size_of.Reads as size-of-reads
 use Rattle.faults.proofs.head.word_at.Reads as word-at-reads
 
+-- ---- what is known at each stage: enough bytes, the length field, the version, S, T and D, the seed
+
+abbrev bytes : tie.Else1 → List ℕ
+bytes c = c .before .before .args .b .now
+
+abbrev counted : tie.Else2 → tie.Else1
+counted c = c .before .before
+
+field : (c : tie.Else2) → word (bytes (counted c)) 0 ≡ length (bytes (counted c))
+field c = sym (c .before .word-at .ensures) ∙ c .if2 .left
+
+abbrev read : tie.Else3 → tie.Else2
+read c = c .before .before
+
+abbrev known : tie.After-sizes-ok → tie.Else3
+known c = c .before .before .before .before .before .before
+
+sizes : (c : tie.After-sizes-ok) (t : Bool) → c .sizes-ok .result ≡ t
+    → sizesOk (networkOf (bytes (counted (read (known c))))) ≡ t
+sizes c t e =
+    let w = c .before in
+    sizes-read _ _ _ _ t (w .before .before .before .wide .ensures .0) (w .wide2 .ensures .0) (c .sizes-ok .ensures) e
+
+abbrev sized : tie.After-quad → tie.Then4
+sized c = c .before .before .before
+
+seed : (c : tie.After-quad) → c .quad .result ≡ quad (bytes (counted (read (known (sized c .before))))) seedPlace
+seed c =
+    c .quad .ensures
+    ∙ ap₂ (λ (h l : ℕ). h * 65536 + l) (c .before .before .word-at2 .ensures) (c .before .word-at3 .ensures)
+
+abbrev seeded : tie.After-size-of → tie.Else5
+seeded c = c .before .before .before
+
+-- ---- the needs
+
 returns : tie.Need-returns
 returns c = head-short _ (c .if1 .taken)
 
@@ -24,22 +64,13 @@ cast-if2 : tie.Need-cast-if2
 cast-if2 c = search needs
 
 returns-2 : tie.Need-returns-2
-returns-2 c =
-    let if2 = c .if2 in
-    let word-at = c .before .word-at in
-    let if1 = c .before .before .if1 in
-    head-field _ (if1 .left) (λ e. if2 .taken (word-at .ensures ∙ e))
+returns-2 c = let w = c .before in head-field _ (w .before .if1 .left) (λ e. c .if2 .taken (w .word-at .ensures ∙ e))
 
 shared-slice-read-if3 : tie.Need-shared-slice-read-if3
 shared-slice-read-if3 c = search needs
 
 returns-3 : tie.Need-returns-3
-returns-3 c =
-    let if3 = c .if3 in
-    let if2 = c .before .before .if2 in
-    let word-at = c .before .before .before .word-at in
-    let if1 = c .before .before .before .before .if1 in
-    head-version _ (if1 .left) (sym (word-at .ensures) ∙ if2 .left) (if3 .taken)
+returns-3 c = let d = c .before .before in head-version _ (counted d .if1 .left) (field d) (c .if3 .taken)
 
 shared-slice-read-wide : tie.Need-shared-slice-read-wide
 shared-slice-read-wide c = search needs
@@ -70,23 +101,11 @@ quad-requires c κs = search needs
 
 returns-4 : tie.Need-returns-4
 returns-4 c =
-    let past = c .before .before .before .before .before .before in
-    let past2 = past .before .before .before .before .before .before in
-    let if5 = c .if5 in
-    let quad = c .before .quad in
-    let word-at3 = c .before .before .word-at3 in
-    let word-at2 = c .before .before .before .word-at2 in
-    let if4 = c .before .before .before .before .if4 in
-    let sizes-ok = c .before .before .before .before .before .sizes-ok in
-    let wide2 = past .wide2 in
-    let wide = past .before .before .before .wide in
-    let if3 = past .before .before .before .before .before .if3 in
-    let if2 = past2 .before .if2 in
-    let word-at = past2 .before .before .word-at in
-    let if1 = past2 .before .before .before .if1 in
-    let s = sizes-read _ _ _ _ true (wide .ensures .0) (wide2 .ensures .0) (sizes-ok .ensures) (if4 .taken) in
-    let x = quad .ensures ∙ ap₂ (λ (h l : ℕ). h * 65536 + l) (word-at2 .ensures) (word-at3 .ensures) in
-    head-seed _ (if1 .left) (sym (word-at .ensures) ∙ if2 .left) (if3 .left) s (sym x ∙ if5 .taken)
+    let q = c .before in
+    let z = sized q in
+    let v = known (z .before) in
+    let d = read v in
+    head-seed _ (counted d .if1 .left) (field d) (v .if3 .left) (sizes (z .before) true (z .if4 .taken)) (sym (seed q) ∙ c .if5 .taken)
 
 shared-slice-read-size-of : tie.Need-shared-slice-read-size-of
 shared-slice-read-size-of c = search needs
@@ -99,65 +118,27 @@ size-of-requires c κs = search needs
 
 returns-5 : tie.Need-returns-5
 returns-5 c =
-    let past = c .before .before .before .before .before .before in
-    let past2 = past .before .before .before .before .before .before in
-    let past3 = past2 .before .before .before .before .before .before in
-    let if6 = c .if6 in
-    let size-of = c .before .size-of in
-    let if5 = c .before .before .before .before .if5 in
-    let quad = c .before .before .before .before .before .quad in
-    let word-at3 = past .word-at3 in
-    let word-at2 = past .before .word-at2 in
-    let if4 = past .before .before .if4 in
-    let sizes-ok = past .before .before .before .sizes-ok in
-    let wide2 = past .before .before .before .before .wide2 in
-    let wide = past2 .before .wide in
-    let if3 = past2 .before .before .before .if3 in
-    let if2 = past2 .before .before .before .before .before .if2 in
-    let word-at = past3 .word-at in
-    let if1 = past3 .before .if1 in
-    let s = sizes-read _ _ _ _ true (wide .ensures .0) (wide2 .ensures .0) (sizes-ok .ensures) (if4 .taken) in
-    let x = quad .ensures ∙ ap₂ (λ (h l : ℕ). h * 65536 + l) (word-at2 .ensures) (word-at3 .ensures) in
-    sym (head-by _ 0 (if1 .left) (sym (word-at .ensures) ∙ if2 .left) (if3 .left) s (λ e. if5 .left (x ∙ e))
-    (if6 .taken ∙ size-of .ensures))
+    let x = seeded (c .before) in
+    let z = sized (x .before) in
+    let v = known (z .before) in
+    let d = read v in
+    sym (head-by _ 0 (counted d .if1 .left) (field d) (v .if3 .left) (sizes (z .before) true (z .if4 .taken))
+    (λ e. x .if5 .left (seed (x .before) ∙ e)) (c .if6 .taken ∙ c .before .size-of .ensures))
 
 returns-6 : tie.Need-returns-6
 returns-6 c =
-    let past = c .before .before .before .before .before .before in
-    let past2 = past .before .before .before .before .before .before in
-    let past3 = past2 .before .before .before .before .before .before in
-    let if6 = c .if6 in
-    let size-of = c .before .size-of in
-    let if5 = c .before .before .before .before .if5 in
-    let quad = c .before .before .before .before .before .quad in
-    let word-at3 = past .word-at3 in
-    let word-at2 = past .before .word-at2 in
-    let if4 = past .before .before .if4 in
-    let sizes-ok = past .before .before .before .sizes-ok in
-    let wide2 = past .before .before .before .before .wide2 in
-    let wide = past2 .before .wide in
-    let if3 = past2 .before .before .before .if3 in
-    let if2 = past2 .before .before .before .before .before .if2 in
-    let word-at = past3 .word-at in
-    let if1 = past3 .before .if1 in
-    let s = sizes-read _ _ _ _ true (wide .ensures .0) (wide2 .ensures .0) (sizes-ok .ensures) (if4 .taken) in
-    let x = quad .ensures ∙ ap₂ (λ (h l : ℕ). h * 65536 + l) (word-at2 .ensures) (word-at3 .ensures) in
-    head-size _ (if1 .left) (sym (word-at .ensures) ∙ if2 .left) (if3 .left) s (λ e. if5 .left (x ∙ e))
-    (λ e. if6 .left (e ∙ sym (size-of .ensures)))
+    let x = seeded (c .before) in
+    let z = sized (x .before) in
+    let v = known (z .before) in
+    let d = read v in
+    head-size _ (counted d .if1 .left) (field d) (v .if3 .left) (sizes (z .before) true (z .if4 .taken))
+    (λ e. x .if5 .left (seed (x .before) ∙ e)) (λ e. c .if6 .left (e ∙ sym (c .before .size-of .ensures)))
 
 returns-7 : tie.Need-returns-7
 returns-7 c =
-    let past = c .before .before .before .before .before .before in
-    let if4 = c .if4 in
-    let sizes-ok = c .before .sizes-ok in
-    let wide2 = c .before .before .wide2 in
-    let wide = c .before .before .before .before .before .wide in
-    let if3 = past .before .if3 in
-    let if2 = past .before .before .before .if2 in
-    let word-at = past .before .before .before .before .word-at in
-    let if1 = past .before .before .before .before .before .if1 in
-    let s = sizes-read _ _ _ _ false (wide .ensures .0) (wide2 .ensures .0) (sizes-ok .ensures) (if4 .left) in
-    head-sizes _ (if1 .left) (sym (word-at .ensures) ∙ if2 .left) (if3 .left) s
+    let v = known (c .before) in
+    let d = read v in
+    head-sizes _ (counted d .if1 .left) (field d) (v .if3 .left) (sizes (c .before) false (c .if4 .left))
 
 pub head-refusal-spec : {M : Type 1} → statement M
 head-refusal-spec =

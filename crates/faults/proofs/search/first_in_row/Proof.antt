@@ -2,8 +2,9 @@
 -- nothing.
 use mathlib.Core.Path.{_≡_, refl, sym, _∙_}
 use mathlib.Core.Bool.{true}
-use Prim.Native.Nat.{_≤_, _-_}
+use Prim.Native.Nat.{_-_, _*_, _≤_, _<_}
 use native.Mathlib.Omega.{arith}
+use Rattle.base.specs.Sizes.{sitesMost}
 use Rattle.base.specs.All.{all, all-none, all-more}
 use Rattle.model.specs.Network.{routeOk}
 use Rattle.format.specs.Format.{networkOf}
@@ -25,61 +26,60 @@ Inv-loop b sites s ports row t₀ t = (t ≤ sites) × (all (routeOk (networkOf 
 abbrev μ-loop : tie.MeasureT-loop
 μ-loop b sites s ports row t₀ t = sites - t
 
+-- ---- the arguments: few sites, and a row that begins within the room of all
+
+few : (c : tie.Start Inv-loop μ-loop) → c .args .sites ≤ sitesMost
+few c = few-sites _ (c .pre .0) _ (c .pre .1)
+
+small : (c : tie.Start Inv-loop μ-loop) → c .args .s * c .args .sites < sitesMost * sitesMost
+small c = row-small _ (c .pre .0) _ (c .pre .1) (c .args .s) (c .pre .2)
+
+abbrev start : tie.In-loop Inv-loop μ-loop → tie.Start Inv-loop μ-loop
+start c = c .before .before .before .before
+
+-- what the test of a route says of it
+tested : (c : tie.After-route-ok Inv-loop μ-loop)
+    → c .route-ok .result
+    ≡ routeOk (networkOf (start (c .before .before) .args .b .now)) (start (c .before .before) .args .s) (c .before .before .before .loop .t)
+tested c =
+    let d = c .before .before in
+    let a = start d in
+    route-tested _ (a .pre .0) _ _ _ _ _ _ _ (a .pre .1) (a .pre .2) (d .loop-test .taken) refl (d .before .before .ports-at .ensures)
+    (c .before .word-at .ensures) (c .route-ok .ensures)
+
+-- ---- the needs
+
 ports-at-requires : tie.Need-ports-at-requires Inv-loop μ-loop
 ports-at-requires c κs = (c .before .pre .0, omega (arith, c .before .pre .1, c .before .pre .2))
 
 mul-row : tie.Need-mul-row Inv-loop μ-loop
-mul-row c =
-    let pre = c .before .before .pre in
-    let args = c .before .before .args in
-    omega (arith, few-sites _ (pre .0) (args .sites) (pre .1))
+mul-row c = omega (arith, few (c .before .before))
 
 add-row : tie.Need-add-row Inv-loop μ-loop
-add-row c =
-    let pre = c .before .before .pre in
-    let args = c .before .before .args in
-    omega (arith, few-sites _ (pre .0) (args .sites) (pre .1))
+add-row c = omega (arith, few (c .before .before))
 
 mul-row-2 : tie.Need-mul-row-2 Inv-loop μ-loop
-mul-row-2 c =
-    let pre = c .before .before .pre in
-    let args = c .before .before .args in
-    omega (arith, row-small _ (pre .0) (args .sites) (pre .1) (args .s) (pre .2))
+mul-row-2 c = omega (arith, small (c .before .before))
 
 mul-row-3 : tie.Need-mul-row-3 Inv-loop μ-loop
-mul-row-3 c =
-    let pre = c .before .before .pre in
-    let args = c .before .before .args in
-    omega (arith, row-small _ (pre .0) (args .sites) (pre .1) (args .s) (pre .2))
+mul-row-3 c = omega (arith, small (c .before .before))
 
 add-row-2 : tie.Need-add-row-2 Inv-loop μ-loop
-add-row-2 c =
-    let pre = c .before .before .pre in
-    let args = c .before .before .args in
-    omega (arith, few-sites _ (pre .0) (args .sites) (pre .1), row-small _ (pre .0) (args .sites) (pre .1) (args .s) (pre .2))
+add-row-2 c = omega (arith, few (c .before .before), small (c .before .before))
 
 loop-holds : tie.Need-loop-holds Inv-loop μ-loop
 loop-holds c = (omega arith, all-none _)
 
 mul-word-at : tie.Need-mul-word-at Inv-loop μ-loop
-mul-word-at c =
-    let pre = c .before .before .before .before .pre in
-    let args = c .before .before .before .before .args in
-    omega (arith, few-sites _ (pre .0) (args .sites) (pre .1))
+mul-word-at c = omega (arith, few (start c))
 
 add-word-at : tie.Need-add-word-at Inv-loop μ-loop
-add-word-at c =
-    let pre = c .before .before .before .before .pre in
-    let args = c .before .before .before .before .args in
-    omega (arith, few-sites _ (pre .0) (args .sites) (pre .1), row-small _ (pre .0) (args .sites) (pre .1) (args .s) (pre .2))
+add-word-at c = omega (arith, few (start c), small (start c))
 
 word-at-requires : tie.Need-word-at-requires Inv-loop μ-loop
 word-at-requires c κs =
-    let loop-test = c .loop-test in
-    let loop = c .before .loop in
-    let pre = c .before .before .before .before .pre in
-    let args = c .before .before .before .before .args in
-    omega (arith, route-inside _ (pre .0) (args .sites) (pre .1) (args .s) (loop .t) (pre .2) (loop-test .taken))
+    let a = start c in
+    omega (arith, route-inside _ (a .pre .0) _ (a .pre .1) (a .args .s) (c .before .loop .t) (a .pre .2) (c .loop-test .taken))
 
 route-ok-requires : tie.Need-route-ok-requires Inv-loop μ-loop
 route-ok-requires c κs = search needs
@@ -92,41 +92,20 @@ loop-less c = omega arith
 
 loop-again : tie.Need-loop-again Inv-loop μ-loop
 loop-again c =
-    let if1 = c .if1 in
-    let route-ok = c .before .route-ok in
-    let word-at = c .before .before .word-at in
-    let loop-test = c .before .before .before .loop-test in
-    let loop = c .before .before .before .before .loop in
-    let ports-at = c .before .before .before .before .before .ports-at in
-    let past = c .before .before .before .before .before .before in
-    let args = past .before .args in
-    let pre = past .before .pre in
-    let e =
-    route-tested (args .b .now) (pre .0) (args .sites) (args .s) (loop .t) _ _ _ _ (pre .1) (pre .2) (loop-test .taken) refl
-    (ports-at .ensures) (word-at .ensures) (route-ok .ensures) in
-    (omega arith, all-more _ _ (loop .inv .1) (sym e ∙ if1 .taken))
+    let d = c .before .before .before in
+    (omega arith, all-more _ _ (d .before .loop .inv .1) (sym (tested (c .before)) ∙ c .if1 .taken))
 
 returns : tie.Need-returns Inv-loop μ-loop
 returns c =
-    let if1 = c .if1 in
-    let route-ok = c .before .route-ok in
-    let word-at = c .before .before .word-at in
-    let loop-test = c .before .before .before .loop-test in
-    let loop = c .before .before .before .before .loop in
-    let ports-at = c .before .before .before .before .before .ports-at in
-    let past = c .before .before .before .before .before .before in
-    let args = past .before .args in
-    let pre = past .before .pre in
-    let e =
-    route-tested (args .b .now) (pre .0) (args .sites) (args .s) (loop .t) _ _ _ _ (pre .1) (pre .2) (loop-test .taken) refl
-    (ports-at .ensures) (word-at .ensures) (route-ok .ensures) in
-    left-at _ (args .sites) (loop .t) (loop-test .taken) (loop .inv .1) (sym e ∙ if1 .left)
+    let d = c .before .before .before in
+    left-at _ _ _ (d .loop-test .taken) (d .before .loop .inv .1) (sym (tested (c .before)) ∙ c .if1 .left)
 
 returns-2 : tie.Need-returns-2 Inv-loop μ-loop
 returns-2 c =
     let loop = c .before .loop in
-    let args = c .before .before .before .before .args in
-    let e : loop .t ≡ args .sites = omega arith in left-none _ (args .sites) (rw e at (loop .inv .1))
+    let sites = c .before .before .before .before .args .sites in
+    let e : loop .t ≡ sites = omega arith in
+    left-none _ sites (rw e at (loop .inv .1))
 
 pub first-in-row-spec : {M : Type 1} → statement M
 first-in-row-spec =
