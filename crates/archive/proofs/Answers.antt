@@ -1,6 +1,6 @@
 -- The answers of reader and writer, one law for each way through them. Assumes nothing.
-use mathlib.Core.Path.{_≡_, refl, sym, _∙_}
-use mathlib.Core.Bool.{Bool, true, false, cond}
+use mathlib.Core.Path.{_≡_, refl, sym, ap, _∙_}
+use mathlib.Core.Bool.{Bool, true, false, cond, _||_}
 use mathlib.Core.List.{List}
 use Prim.Native.Nat.{ℕ, _≤_, _<_}
 use native.Mathlib.Omega.{arith}
@@ -8,13 +8,14 @@ use borrow.Author.Tests.{eq-eqb, ne-eqb, le-leb, lt-leb, lt-ltb, le-ltb, leb-tru
 use lib.Dec.{eqb, leb}
 use lib.ListN.{length}
 use Rattle.base.specs.Sizes.{sendsMost}
-use Rattle.base.specs.Bools.{first-of, second-of}
+use Rattle.base.specs.Bools.{clash, first-of, second-of}
 use Rattle.base.specs.All.{all, all-fails}
 use Rattle.base.specs.Answers.{orNext}
 use Rattle.types.specs.declared.Network.{Network}
 use Rattle.types.specs.declared.Run.{Run}
 use Rattle.model.specs.Types.{sendAt}
-use Rattle.model.specs.Network.{sizesOk, channelsOk, routesOk, networkRefusal}
+use Rattle.model.specs.Network.{versionOk, editionOk, sizesOk, channelsOk, routesOk, networkRefusal}
+use Rattle.theorems.proofs.Networks.{kind-known}
 use Rattle.model.specs.Runs.{sendsOk, storedRefusal}
 use Rattle.format.specs.declared.Decoded.{Decoded}
 use Rattle.format.specs.declared.Written.{Written}
@@ -26,73 +27,100 @@ use Rattle.format.specs.Faults.{faultOf}
 use Rattle.format.specs.Refusals.{readRefusal, decode, writeRefusal, writeAnswer, written}
 use Rattle.model.specs.Runs.{bodyRefusal}
 use Rattle.checks.proofs.SendsLaws.{sends-in}
+use Rattle.archive.proofs.Passed.{Stored, stored-passes}
 
--- ---- the network's refusal f
+-- ---- the network's refusal f: 2, 17 and 3 come before the writer's 4 and 5, 6 and 7 behind them
 
-sizes-by : (n : Network) (f : ℕ) → f ≡ networkRefusal n → (f ≡ 3 → ⊥) → sizesOk n ≡ true
-unfolding networkRefusal
-sizes-by n f e h = go (sizesOk n) e
-  where
-    go : (b : Bool) → f ≡ cond b (cond (channelsOk n) (cond (routesOk n) 0 7) 6) 3 → b ≡ true
-    go true q = refl
-    go false q = absurd (h q)
+-- what it is by the tests of version, edition, sizes, channels and routes
+abbrev refusalBy : Bool → Bool → Bool → ℕ → ℕ
+refusalBy v e s rest = cond v (cond e (cond s rest 3) 17) 2
 
-sizes-not : (n : Network) → 3 ≡ networkRefusal n → sizesOk n ≡ false
-unfolding networkRefusal
-sizes-not n e = go (sizesOk n) (channelsOk n) (routesOk n) e
-  where
-    go : (b c t : Bool) → _≡_ {A = ℕ} 3 (cond b (cond c (cond t 0 7) 6) 3) → b ≡ false
-    go true true true q = absurd (omega arith)
-    go true true false q = absurd (omega arith)
-    go true false t q = absurd (omega arith)
-    go false c t q = refl
+abbrev joinsBy : Bool → Bool → ℕ
+joinsBy c t = cond c (cond t 0 7) 6
 
--- ---- the writer's refusals 3 to 7
+abbrev early : ℕ → Bool
+early f = eqb f 2 || eqb f 17 || eqb f 3
+
+not-early : (c t : Bool) → early (joinsBy c t) ≡ false
+not-early true true = refl
+not-early true false = refl
+not-early false t = refl
+
+is-early : (v e s : Bool) (rest : ℕ) → early rest ≡ false → early (refusalBy v e s rest) ≡ false
+    → (v ≡ true) × (e ≡ true) × (s ≡ true)
+is-early true true true rest k h = (refl, refl, refl)
+is-early true true false rest k h = absurd (clash h)
+is-early true false s rest k h = absurd (clash h)
+is-early false e s rest k h = absurd (clash h)
+
+early-same : (v e s : Bool) (rest other : ℕ) → early rest ≡ false → early (refusalBy v e s rest) ≡ true
+    → refusalBy v e s rest ≡ refusalBy v e s other
+early-same true true true rest other k h = absurd (clash (sym h ∙ k))
+early-same true true false rest other k h = refl
+early-same true false s rest other k h = refl
+early-same false e s rest other k h = refl
+
+-- ---- the writer's refusals 2, 17, 3 to 7
 
 module _ (n : Network) (seed N f : ℕ) (e : f ≡ networkRefusal n) where
-  pub front-sizes : f ≡ 3 → 3 ≡ frontRefusal n seed N
-  unfolding frontRefusal
-  front-sizes h = rw (sizes-not n (sym h ∙ e)) refl
+  pub front-early : early f ≡ true → f ≡ frontRefusal n seed N
+  unfolding frontRefusal networkRefusal
+  front-early h =
+      e
+      ∙ early-same (versionOk n) (editionOk n) (sizesOk n) (joinsBy (channelsOk n) (routesOk n)) _
+      (not-early (channelsOk n) (routesOk n)) (sym (ap early e) ∙ h)
 
-  module _ (h : f ≡ 3 → ⊥) where
+  module _ (h : early f ≡ false) where
+    passed : (versionOk n ≡ true) × (editionOk n ≡ true) × (sizesOk n ≡ true)
+    unfolding networkRefusal
+    passed =
+        is-early (versionOk n) (editionOk n) (sizesOk n) (joinsBy (channelsOk n) (routesOk n))
+        (not-early (channelsOk n) (routesOk n)) (sym (ap early e) ∙ h)
+
     pub front-seed : seed ≡ 0 → 4 ≡ frontRefusal n seed N
     unfolding frontRefusal
-    front-seed x = rw (sizes-by n f e h, eq-eqb seed 0 x) refl
+    front-seed x = rw (passed .0, passed .1, passed .2, eq-eqb seed 0 x) refl
 
     module _ (x : seed ≡ 0 → ⊥) where
       pub front-count : sendsMost < N → 5 ≡ frontRefusal n seed N
       unfolding frontRefusal
-      front-count m = rw (sizes-by n f e h, ne-eqb seed 0 x, lt-leb N sendsMost m) refl
+      front-count m = rw (passed .0, passed .1, passed .2, ne-eqb seed 0 x, lt-leb N sendsMost m) refl
 
       pub front-joins : N ≤ sendsMost → f ≡ frontRefusal n seed N
       unfolding frontRefusal networkRefusal
       front-joins m =
-          let s = sizes-by n f e h in
-          rw (s, ne-eqb seed 0 x, le-leb N sendsMost m) (e ∙ rw s refl)
+          rw (passed .0, passed .1, passed .2, ne-eqb seed 0 x, le-leb N sendsMost m)
+          (e ∙ rw (passed .0, passed .1, passed .2) refl)
 
 -- ---- and what the sends are turned down for
 
 module _ (r : Run) where
+  abbrev n : Network
+  n = r .network
+
   -- the front's refusal is the run's, and behind a front without one stand the sends
   front-then : storedRefusal r ≡ orNext (frontRefusal (r .network) (r .seed) (r .count)) (cond (sendsOk r) 0 8)
   unfolding storedRefusal frontRefusal bodyRefusal
   front-then =
-      go (sizesOk (r .network)) (eqb (r .seed) 0) (leb (r .count) sendsMost) (channelsOk (r .network)) (routesOk (r .network))
+      go (versionOk n) (editionOk n) (sizesOk n) (eqb (r .seed) 0) (leb (r .count) sendsMost) (channelsOk n)
+      (routesOk n)
     where
-      go : (s x m c t : Bool)
-          → cond s (cond x 4 (cond m (cond c (cond t (cond (sendsOk r) 0 8) 7) 6) 5)) 3
-          ≡ orNext (cond s (cond x 4 (cond m (cond c (cond t 0 7) 6) 5)) 3) (cond (sendsOk r) 0 8)
-      go false x m c t = refl
-      go true true m c t = refl
-      go true false false c t = refl
-      go true false true false t = refl
-      go true false true true false = refl
-      go true false true true true = refl
+      go : (v e s x m c t : Bool)
+          → refusalBy v e s (cond x 4 (cond m (cond c (cond t (cond (sendsOk r) 0 8) 7) 6) 5))
+          ≡ orNext (refusalBy v e s (cond x 4 (cond m (joinsBy c t) 5))) (cond (sendsOk r) 0 8)
+      go false e s x m c t = refl
+      go true false s x m c t = refl
+      go true true false x m c t = refl
+      go true true true true m c t = refl
+      go true true true false false c t = refl
+      go true true true false true false t = refl
+      go true true true false true true false = refl
+      go true true true false true true true = refl
 
   pub few-sends : frontRefusal (r .network) (r .seed) (r .count) ≡ 0 → r .count ≤ sendsMost
   unfolding frontRefusal
   few-sends h =
-      let s = first-of (sizesOk (r .network)) _ 3 0 (λ e. omega arith) h in
+      let s = first-of (sizesOk n) _ 3 0 (λ e. omega arith) (kind-known n _ h .2) in
       let x = second-of (eqb (r .seed) 0) 4 _ 0 (λ e. omega arith) (s .1) in
       leb-true (r .count) sendsMost (first-of (leb (r .count) sendsMost) _ 5 0 (λ e. omega arith) (x .1) .0)
 
@@ -107,6 +135,10 @@ module _ (r : Run) where
     pub sends-tested : f ≡ 0 → (k : ℕ) → k ≡ r .count → all (sendIn (r .network .sites) (r .draws) (sendAt r)) k ≡ true
         → storedRefusal r ≡ 0
     sends-tested h k q s = sym (sends-then h true (sym (sends-in r) ∙ (rw q at s)))
+
+    pub run-tested : f ≡ 0 → (k : ℕ) → k ≡ r .count → all (sendIn (r .network .sites) (r .draws) (sendAt r)) k ≡ true
+        → Stored r
+    run-tested h k q s = stored-passes r (sends-tested h k q s)
 
     pub sends-failed : f ≡ 0 → (k : ℕ) → k < r .count → sendIn (r .network .sites) (r .draws) (sendAt r) k ≡ false
         → 8 ≡ storedRefusal r
@@ -153,4 +185,5 @@ pub write-yes : (r : Run) (out after : List ℕ) (n : ℕ) → storedRefusal r �
     → after ≡ put out 0 (encode r) → Answered r out (record { refusal = 0; length = n }) after
 unfolding writeRefusal writeAnswer written
 write-yes r out after n e h k p =
-    (rw (e, le-ltb (length out) (lengthOf r) h, k) refl, rw (e, le-ltb (length out) (lengthOf r) h) (p ∙ put-front out (encode r)))
+    let enough = le-ltb (length out) (lengthOf r) h in
+    (rw (e, enough, k) refl, rw (e, enough) (p ∙ put-front out (encode r)))

@@ -1,43 +1,38 @@
--- Numbers as bytes, both ways: what is read from the bytes of a number, and the bytes of a number that was read.
--- Assumes nothing.
-use mathlib.Core.Path.{_≡_, ap₂, _∙_}
+-- Numbers as bytes: what two, four and eight bytes of a number are, read again, and what the parts of a number that was
+-- read are. Four bytes are taken as two and two, eight as four and four. Assumes nothing.
+use mathlib.Core.Path.{_≡_}
+use mathlib.Core.List.{_++_}
 use Prim.Native.Nat.{ℕ, _+_, _*_, _/_, _%_, _<_}
-use native.Mathlib.Nat.{div-add-mod'}
 use native.Mathlib.Omega.{arith}
+use Rattle.format.specs.Format.{wordBytes, quadBytes}
 
--- ---- two and four bytes of a number, read again
+-- four bytes are two of the higher half and two of the lower
+pub quad-halves : (x : ℕ) → quadBytes x ≡ wordBytes (x / 65536) ++ wordBytes x
+quad-halves x =
+    let e : x / 16777216 ≡ x / 65536 / 256 = omega arith in
+    rw e
 
-pub two : (x : ℕ) → x < 65536 → x / 256 % 256 * 256 + x % 256 ≡ x
-two x h = omega arith
+-- ---- the bytes of a number, read again
 
-pub four : (x : ℕ) → x < 4294967296
-    → (x / 16777216 % 256 * 256 + x / 65536 % 256) * 65536 + (x / 256 % 256 * 256 + x % 256) ≡ x
-four x h =
-    let h2 : x / 16777216 ≡ x / 65536 / 256 = omega arith in
-    let high : x / 16777216 % 256 * 256 + x / 65536 % 256 ≡ x / 65536 = rw h2 (two (x / 65536) (omega arith)) in
-    let h1 : x / 65536 ≡ x / 256 / 256 = omega arith in
-    let low : x / 256 % 256 * 256 + x % 256 ≡ x % 65536 = omega arith in
-    ap₂ (λ (p q : ℕ). p * 65536 + q) high low ∙ div-add-mod' x 65536
+pub two : (x a c : ℕ) → a ≡ x / 256 % 256 → c ≡ x % 256 → a * 256 + c ≡ x % 65536
+two x a c ea ec = omega arith
 
--- ---- the bytes of a number that was read from two bytes
+pub four : (x a c : ℕ) → a ≡ x / 65536 % 65536 → c ≡ x % 65536 → a * 65536 + c ≡ x % 4294967296
+four x a c ea ec = omega arith
 
-pub high : (a c : ℕ) → a < 256 → c < 256 → (a * 256 + c) / 256 % 256 ≡ a
-high a c ha hc = omega arith
+pub eight : (x a c : ℕ) → a ≡ x / 4294967296 % 4294967296 → c ≡ x % 4294967296
+    → a * 4294967296 + c ≡ x % 18446744073709551616
+eight x a c ea ec = omega arith
 
-pub low : (a c : ℕ) → a < 256 → c < 256 → (a * 256 + c) % 256 ≡ c
-low a c ha hc = omega arith
+-- ---- the parts of a number that was read
 
--- ---- and from four
+pub of-two : (x a c : ℕ) → a < 256 → c < 256 → x % 65536 ≡ a * 256 + c → (a ≡ x / 256 % 256) × (c ≡ x % 256)
+of-two x a c ha hc e = (omega arith, omega arith)
 
-module _ (a c d e : ℕ) (ha : a < 256) (hc : c < 256) (hd : d < 256) (he : e < 256) where
-  pub first : ((a * 256 + c) * 65536 + (d * 256 + e)) / 16777216 % 256 ≡ a
-  first = omega arith
+pub of-four : (x a c : ℕ) → a < 65536 → c < 65536 → x % 4294967296 ≡ a * 65536 + c
+    → (x / 65536 % 65536 ≡ a) × (x % 65536 ≡ c)
+of-four x a c ha hc e = (omega arith, omega arith)
 
-  pub second : ((a * 256 + c) * 65536 + (d * 256 + e)) / 65536 % 256 ≡ c
-  second = omega arith
-
-  pub third : ((a * 256 + c) * 65536 + (d * 256 + e)) / 256 % 256 ≡ d
-  third = omega arith
-
-  pub fourth : ((a * 256 + c) * 65536 + (d * 256 + e)) % 256 ≡ e
-  fourth = omega arith
+pub of-eight : (x a c : ℕ) → a < 4294967296 → c < 4294967296 → x % 18446744073709551616 ≡ a * 4294967296 + c
+    → (x / 4294967296 % 4294967296 ≡ a) × (x % 4294967296 ≡ c)
+of-eight x a c ha hc e = (omega arith, omega arith)

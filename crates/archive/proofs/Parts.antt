@@ -1,173 +1,163 @@
--- The bytes of a run by their places: how long the parts of the archive are, and which byte stands where. Assumes
--- nothing.
-use mathlib.Core.Path.{_≡_, refl, sym, ap, _∙_}
-use mathlib.Core.Logic.{⊎-elim}
+-- The parts of the archive of a run: how long they are, and which bytes have them where. Assumes nothing.
+use mathlib.Core.Path.{_≡_, refl, _∙_}
+use mathlib.Core.Bool.{Bool, true, false, cond}
 use mathlib.Core.List.{List, [], _∷_, _++_}
-use Prim.Native.Nat.{ℕ, zero, suc, _+_, _*_, _≤_, _<_}
-use native.Mathlib.Nat.{mul-le-mul, mul-suc, le-refl, not-suc-le-zero, le-of-suc-le-suc, eq-or-lt-of-le}
+use Prim.Native.Nat.{ℕ, _+_, _*_, _≤_, _<_}
 use native.Mathlib.Omega.{arith}
-use lib.ListN.{length, getD, length-append, List·getD-append}
-use lib.Seq.{getD-append-add}
-use Rattle.base.specs.Sizes.{portCount}
+use lib.Dec.{eqb}
+use lib.ListN.{length, getD, length-append}
+use Rattle.base.specs.Sizes.{sitesMost, sendsMost, portCount, noChannel}
 use Rattle.types.specs.declared.Run.{Run}
 use Rattle.types.specs.declared.StoredSend.{StoredSend}
 use Rattle.model.specs.Types.{sendD, sendAt}
-use Rattle.format.specs.Format.{at, wordBytes, sendBytes, each, headBytes, channelBytes, routeBytes, sendsBytes, encode, lengthOf}
-use Rattle.format.specs.Format.{headLength, routesPlace, sendsPlace}
+use Rattle.format.specs.Format.{at, wordBytes, octBytes, startWith, fieldsWith, channelPart, sendBytes, encode}
+use Rattle.format.specs.Format.{lengthOf}
+use Rattle.format.specs.Format.{headBytes, channelBytes, routeBytes, sendsBytes, channelWidth, sendWidth, sitesPlace}
+use Rattle.format.specs.Format.{headLength, channelPlace, routesPlace, sendsPlace, lengthWith}
+use Rattle.faults.proofs.Versions.{by-version}
+use Rattle.archive.proofs.Holds.{Holds, part-ends, length-each, holds-both, holds-left, holds-right, holds-each}
+use Rattle.archive.proofs.Holds.{holds-at}
 
--- ---- pieces of one width
+-- ---- the widths, by the version
 
-part-below : (w k n j : ℕ) → k < n → j < w → w * k + j < w * n
-part-below w k n j h l =
-    let a : w * suc k ≤ w * n = mul-le-mul (le-refl w) h in
-    omega (arith, mul-suc w k)
+pub length-start : (v edition size : ℕ) → length (startWith v edition size) ≡ sitesPlace v
+length-start v edition size = go (eqb v 1)
+  where
+    go : (t : Bool) → length (wordBytes size ++ (v ∷ []) ++ cond t [] (edition ∷ [])) ≡ 3 + cond t 0 1
+    go true = refl
+    go false = refl
 
-pub length-each : (w : ℕ) (f : ℕ → List ℕ) → ((k : ℕ) → length (f k) ≡ w) → (n : ℕ) → length (each f n) ≡ w * n
-unfolding each
-length-each w f h zero = omega arith
-length-each w f h (suc n) = length-append (each f n) (f n) ∙ omega (arith, length-each w f h n, h n, mul-suc w n)
+pub length-channel : (v x : ℕ) → length (channelPart v x) ≡ channelWidth v
+length-channel v x = go (eqb v 1)
+  where
+    go : (t : Bool) → length (cond t (cond (eqb x noChannel) 255 x ∷ []) (wordBytes x)) ≡ cond t 1 2
+    go true = refl
+    go false = refl
 
--- byte j of piece k
-pub each-at : (w : ℕ) (f : ℕ → List ℕ) → ((k : ℕ) → length (f k) ≡ w) → (n k j : ℕ) → k < n → j < w
-    → at (each f n) (w * k + j) ≡ at (f k) j
-unfolding each
-each-at w f h zero k j l p = absurd (not-suc-le-zero l)
-each-at w f h (suc n) k j l p =
-    ⊎-elim
-    (λ q.
-    let e : w * k + j ≡ length (each f n) + j = ap (λ (m : ℕ). w * m + j) q
-    ∙ ap (λ (m : ℕ). m + j) (sym (length-each w f h n)) in
-    ap (at (each f n ++ f n)) e ∙ getD-append-add (each f n) (f n) j 0 ∙ ap (λ (m : ℕ). at (f m) j) (sym q))
-    (λ q.
-    let b : w * k + j < length (each f n) = omega (arith, part-below w k n j q p, length-each w f h n) in
-    List·getD-append (each f n) (f n) 0 (w * k + j) b ∙ each-at w f h n k j q p)
-    (eq-or-lt-of-le (le-of-suc-le-suc l))
+pub length-send : (v : ℕ) (e : StoredSend) → length (sendBytes v e) ≡ sendWidth v
+length-send v e = go (eqb v 1)
+  where
+    go : (t : Bool)
+        → length (wordBytes (e .draw) ++ (e .site ∷ []) ++ cond t (wordBytes (e .set)) (octBytes (e .set)))
+        ≡ 3 + cond t 2 8
+    go true = refl
+    go false = refl
+
+-- a channel and the byte behind it stand before what follows the channels
+pub channel-inside : (v c n m : ℕ) → c < n → channelPlace v n < m → channelPlace v c + 1 < m
+channel-inside v c n m l h =
+    let some = by-version (λ e w s. 1 ≤ w) v (omega arith) (omega arith) in
+    omega (arith, part-ends (channelWidth v) c n l)
+
+-- the longest archive has 11,523 bytes
+pub most-bytes : (v S N : ℕ) → S ≤ sitesMost → S * S ≤ sitesMost * sitesMost → N ≤ sendsMost → lengthWith v S N ≤ 11523
+most-bytes v S N few square count =
+    by-version (λ e c s. 13 + e + c * (portCount * S) + 2 * (S * S) + (3 + s) * N ≤ 11523) v (omega arith) (omega arith)
 
 -- ---- the parts
 
-pub length-head : (r : Run) → length (headBytes r) ≡ headLength
-unfolding headBytes
-length-head r = refl
+module _ (r : Run) where
+  abbrev v : ℕ
+  v = r .network .version
 
-pub length-channels : (cs : List ℕ) (n : ℕ) → length (channelBytes cs n) ≡ n
+  abbrev S : ℕ
+  S = r .network .sites
+
+  abbrev pub startOf : List ℕ
+  startOf = startWith v (r .network .edition) (lengthOf r)
+
+  abbrev pub fieldsOf : List ℕ
+  fieldsOf = fieldsWith S (r .network .tries) (r .network .depth) (r .seed) (r .draws) (r .count)
+
+  pub length-head : length (headBytes r) ≡ headLength v
+  unfolding headBytes
+  length-head = length-append startOf fieldsOf ∙ omega (arith, length-start v (r .network .edition) (lengthOf r))
+
+pub length-channels : (v : ℕ) (cs : List ℕ) (n : ℕ) → length (channelBytes v cs n) ≡ channelWidth v * n
 unfolding channelBytes
-length-channels cs n = length-each 1 _ (λ k. refl) n ∙ omega arith
+length-channels v cs n = length-each (channelWidth v) _ (λ c. length-channel v (at cs c)) n
 
 pub length-routes : (rs : List ℕ) (n : ℕ) → length (routeBytes rs n) ≡ 2 * n
 unfolding routeBytes
 length-routes rs n = length-each 2 _ (λ k. refl) n
 
-pub length-sends : (es : List StoredSend) (n : ℕ) → length (sendsBytes es n) ≡ 5 * n
+pub length-sends : (v : ℕ) (es : List StoredSend) (n : ℕ) → length (sendsBytes v es n) ≡ sendWidth v * n
 unfolding sendsBytes
-length-sends es n = length-each 5 _ (λ k. refl) n
+length-sends v es n = length-each (sendWidth v) _ (λ k. length-send v (getD es k sendD)) n
 
-pub channel-at : (cs : List ℕ) (n k : ℕ) → k < n → at (channelBytes cs n) k ≡ at cs k
-unfolding channelBytes
-channel-at cs n k l =
-    let e : k ≡ 1 * k + 0 = omega arith in
-    ap (at (each (λ c. at cs c ∷ []) n)) e ∙ each-at 1 (λ c. at cs c ∷ []) (λ k. refl) n k 0 l (omega arith)
-
-pub route-at : (rs : List ℕ) (n k j : ℕ) → k < n → j < 2 → at (routeBytes rs n) (2 * k + j) ≡ at (wordBytes (at rs k)) j
-unfolding routeBytes
-route-at rs n k j l p = each-at 2 (λ k. wordBytes (at rs k)) (λ k. refl) n k j l p
-
-pub send-at : (es : List StoredSend) (n k j : ℕ) → k < n → j < 5
-    → at (sendsBytes es n) (5 * k + j) ≡ at (sendBytes (getD es k sendD)) j
-unfolding sendsBytes
-send-at es n k j l p = each-at 5 (λ k. sendBytes (getD es k sendD)) (λ k. refl) n k j l p
-
--- ---- four lists, one after the other: place i is place k of one of them
-
-module _ (a b c d : List ℕ) where
-  in-1 : (i : ℕ) → i < length a → at (a ++ b ++ c ++ d) i ≡ at a i
-  in-1 i l =
-      List·getD-append (a ++ b ++ c) d 0 i (omega (arith, length-append (a ++ b) c, length-append a b))
-      ∙ List·getD-append (a ++ b) c 0 i (omega (arith, length-append a b))
-      ∙ List·getD-append a b 0 i l
-
-  in-2 : (i k : ℕ) → i ≡ length a + k → k < length b → at (a ++ b ++ c ++ d) i ≡ at b k
-  in-2 i k e l =
-      List·getD-append (a ++ b ++ c) d 0 i (omega (arith, length-append (a ++ b) c, length-append a b))
-      ∙ List·getD-append (a ++ b) c 0 i (omega (arith, length-append a b))
-      ∙ ap (at (a ++ b)) e
-      ∙ getD-append-add a b k 0
-
-  in-3 : (i k : ℕ) → i ≡ length a + length b + k → k < length c → at (a ++ b ++ c ++ d) i ≡ at c k
-  in-3 i k e l =
-      let q : i ≡ length (a ++ b) + k = omega (arith, length-append a b) in
-      List·getD-append (a ++ b ++ c) d 0 i (omega (arith, length-append (a ++ b) c))
-      ∙ ap (at (a ++ b ++ c)) q
-      ∙ getD-append-add (a ++ b) c k 0
-
-  in-4 : (i k : ℕ) → i ≡ length a + length b + length c + k → at (a ++ b ++ c ++ d) i ≡ at d k
-  in-4 i k e =
-      let q : i ≡ length (a ++ b ++ c) + k = omega (arith, length-append (a ++ b) c, length-append a b) in
-      ap (at (a ++ b ++ c ++ d)) q ∙ getD-append-add (a ++ b ++ c) d k 0
-
-  all-4 : length (a ++ b ++ c ++ d) ≡ length a + length b + length c + length d
-  all-4 = length-append (a ++ b ++ c) d ∙ omega (arith, length-append (a ++ b) c, length-append a b)
-
--- ---- the archive
-
-abbrev channelPart : Run → List ℕ
-channelPart r = channelBytes (r .network .channels) (portCount * r .network .sites)
-
-abbrev routePart : Run → List ℕ
-routePart r = routeBytes (r .network .routes) (r .network .sites * r .network .sites)
-
-abbrev sendPart : Run → List ℕ
-sendPart r = sendsBytes (r .sends) (r .count)
-
-record Lengths (r : Run) : Type 0 where
-  head : length (headBytes r) ≡ headLength
-  channels : length (channelPart r) ≡ portCount * r .network .sites
-  routes : length (routePart r) ≡ 2 * (r .network .sites * r .network .sites)
-  sends : length (sendPart r) ≡ 5 * r .count
-
-lengths : (r : Run) → Lengths r
-lengths r =
-    record {
-      head = length-head r;
-      channels = length-channels (r .network .channels) (portCount * r .network .sites);
-      routes = length-routes (r .network .routes) (r .network .sites * r .network .sites);
-      sends = length-sends (r .sends) (r .count);
-    }
+-- the bytes l have the parts of the archive of r where they belong
+pub record Held (l : List ℕ) (r : Run) : Type 0 where
+  pub start : Holds l 0 (startOf r)
+  pub fields : Holds l (sitesPlace (v r)) (fieldsOf r)
+  pub channels : (c : ℕ) → c < portCount * S r
+      → Holds l (channelPlace (v r) c) (channelPart (v r) (at (r .network .channels) c))
+  pub routes : (k : ℕ) → k < S r * S r
+      → Holds l (routesPlace (v r) (S r) + 2 * k) (wordBytes (at (r .network .routes) k))
+  pub sends : (k : ℕ) → k < r .count
+      → Holds l (sendsPlace (v r) (S r) + sendWidth (v r) * k) (sendBytes (v r) (sendAt r k))
 
 module _ (r : Run) where
-  -- "The length is 13 + 4S + 2S² + 5N"
+  abbrev pub cs : List ℕ
+  cs = channelBytes (v r) (r .network .channels) (portCount * S r)
+
+  abbrev pub rs : List ℕ
+  rs = routeBytes (r .network .routes) (S r * S r)
+
+  abbrev pub es : List ℕ
+  es = sendsBytes (v r) (r .sends) (r .count)
+
+  -- where the parts of an archive end
+  pub starts : sitesPlace (v r) ≡ 0 + length (startOf r)
+  starts = omega (arith, length-start (v r) (r .network .edition) (lengthOf r))
+
+  pub heads : headLength (v r) ≡ 0 + length (headBytes r)
+  heads = omega (arith, length-head r)
+
+  pub joins : routesPlace (v r) (S r) ≡ 0 + length (headBytes r ++ cs)
+  joins =
+      omega
+      (arith, heads, length-append (headBytes r) cs, length-channels (v r) (r .network .channels) (portCount * S r))
+
+  pub leads : sendsPlace (v r) (S r) ≡ 0 + length (headBytes r ++ cs ++ rs)
+  leads = omega (arith, joins, length-append (headBytes r ++ cs) rs, length-routes (r .network .routes) (S r * S r))
+
+  -- "The length is 13 + 4S + 2S² + 5N", "14 + 8S + 2S² + 11N"
   pub length-encode : length (encode r) ≡ lengthOf r
   unfolding encode
   length-encode =
-      let z = lengths r in
-      all-4 (headBytes r) (channelPart r) (routePart r) (sendPart r) ∙ omega arith
+      length-append (headBytes r ++ cs ++ rs) es
+      ∙ omega (arith, leads, length-sends (v r) (r .sends) (r .count))
 
-  pub in-head : (i : ℕ) → i < headLength → at (encode r) i ≡ at (headBytes r) i
-  unfolding encode
-  in-head i l =
-      let z = lengths r in
-      in-1 (headBytes r) (channelPart r) (routePart r) (sendPart r) i (omega arith)
+  channels-wide : (c : ℕ) → length (channelPart (v r) (at (r .network .channels) c)) ≡ channelWidth (v r)
+  channels-wide c = length-channel (v r) (at (r .network .channels) c)
 
-  pub in-channels : (i k : ℕ) → i ≡ headLength + k → k < portCount * r .network .sites
-      → at (encode r) i ≡ at (r .network .channels) k
-  unfolding encode
-  in-channels i k e l =
-      let z = lengths r in
-      in-2 (headBytes r) (channelPart r) (routePart r) (sendPart r) i k (omega arith) (omega arith)
-      ∙ channel-at (r .network .channels) (portCount * r .network .sites) k l
+  sends-wide : (k : ℕ) → length (sendBytes (v r) (sendAt r k)) ≡ sendWidth (v r)
+  sends-wide k = length-send (v r) (sendAt r k)
 
-  pub in-routes : (i k j : ℕ) → i ≡ routesPlace (r .network .sites) + 2 * k + j
-      → k < r .network .sites * r .network .sites → j < 2
-      → at (encode r) i ≡ at (wordBytes (at (r .network .routes) k)) j
-  unfolding encode
-  in-routes i k j e l p =
-      let z = lengths r in
-      in-3 (headBytes r) (channelPart r) (routePart r) (sendPart r) i (2 * k + j) (omega arith) (omega arith)
-      ∙ route-at (r .network .routes) (r .network .sites * r .network .sites) k j l p
+  module _ (l : List ℕ) where
+    pub held-at : Holds l 0 (encode r) → Held l r
+    unfolding encode headBytes channelBytes routeBytes sendsBytes
+    held-at h =
+        let c = holds-left l 0 _ (headBytes r ++ cs ++ rs) es leads h in
+        let b = holds-left l 0 _ (headBytes r ++ cs) rs joins c in
+        let a = holds-left l 0 _ (headBytes r) cs heads b in
+        record {
+          start = holds-left l 0 _ (startOf r) (fieldsOf r) starts a;
+          fields = holds-right l 0 _ (startOf r) (fieldsOf r) starts a;
+          channels = holds-at l (channelWidth (v r)) _ channels-wide (headLength (v r)) (portCount * S r)
+              (holds-right l 0 _ (headBytes r) cs heads b);
+          routes = holds-at l 2 _ (λ k. refl) (routesPlace (v r) (S r)) (S r * S r)
+              (holds-right l 0 _ (headBytes r ++ cs) rs joins c);
+          sends = holds-at l (sendWidth (v r)) _ sends-wide (sendsPlace (v r) (S r)) (r .count)
+              (holds-right l 0 _ (headBytes r ++ cs ++ rs) es leads h);
+        }
 
-  pub in-sends : (i k j : ℕ) → i ≡ sendsPlace (r .network .sites) + 5 * k + j → k < r .count → j < 5
-      → at (encode r) i ≡ at (sendBytes (sendAt r k)) j
-  unfolding encode
-  in-sends i k j e l p =
-      let z = lengths r in
-      in-4 (headBytes r) (channelPart r) (routePart r) (sendPart r) i (5 * k + j) (omega arith)
-      ∙ send-at (r .sends) (r .count) k j l p
+    pub held-by : Held l r → Holds l 0 (encode r)
+    unfolding encode headBytes channelBytes routeBytes sendsBytes
+    held-by h =
+        let a = holds-both l 0 _ (startOf r) (fieldsOf r) starts (h .start) (h .fields) in
+        let c = holds-each l (channelWidth (v r)) _ channels-wide (headLength (v r)) (portCount * S r) (h .channels) in
+        let t = holds-each l 2 _ (λ k. refl) (routesPlace (v r) (S r)) (S r * S r) (h .routes) in
+        let s = holds-each l (sendWidth (v r)) _ sends-wide (sendsPlace (v r) (S r)) (r .count) (h .sends) in
+        holds-both l 0 _ (headBytes r ++ cs ++ rs) es leads
+        (holds-both l 0 _ (headBytes r ++ cs) rs joins (holds-both l 0 _ (headBytes r) cs heads a c) t) s

@@ -17,8 +17,10 @@ use Rattle.model.specs.Types.{sendD, sendAt}
 use Rattle.model.specs.Network.{noChannels, noRoutes, trimmedNetwork}
 use Rattle.model.specs.Runs.{storedRefusal, noSends, trimmed}
 use Rattle.theorems.proofs.Trimmed.{channels-kept, routes-kept, send-kept, trimmed-stored}
-use Rattle.format.specs.Format.{at, wordBytes, sendBytes, each, headBytes, channelBytes, routeBytes, sendsBytes}
-use Rattle.format.specs.Format.{word, sitesPlace, countPlace, headLength, routesPlace, sendsPlace, sendOf, networkOf}
+use Rattle.format.specs.Format.{at, word, wordBytes, channelPart, sendBytes, each, headBytes, channelBytes, routeBytes}
+use Rattle.format.specs.Format.{sendsBytes}
+use Rattle.format.specs.Format.{channelPlace, routesPlace, sendsPlace, sendWidth, channelIn, sendOf, versionOf, sitesOf}
+use Rattle.format.specs.Format.{countOf}
 use Rattle.format.specs.Format.{lengthOf, encode, runOf, noRun}
 use Rattle.format.specs.Refusals.{readRefusal, decode, writeRefusal, writeAnswer, written}
 use Rattle.archive.proofs.Passed.{stored-passes}
@@ -43,14 +45,15 @@ module _ (r : Run) where
   unfolding encode headBytes channelBytes routeBytes sendsBytes trimmed trimmedNetwork
   trimmed-encode h =
       let n = r .network in
+      let v = n .version in
       let few = stored-passes r h .fit .few in
       rw (
-        each-same (λ c. at (trimmedNetwork n .channels) c ∷ []) (λ c. at (n .channels) c ∷ []) (portCount * n .sites)
-            (λ c l. ap (λ (b : ℕ). b ∷ []) (channels-kept n few c l)),
-        each-same (λ k. wordBytes (at (trimmedNetwork n .routes) k)) (λ k. wordBytes (at (n .routes) k)) (n .sites * n .sites)
-            (λ k l. ap wordBytes (routes-kept n few k l)),
-        each-same (λ k. sendBytes (sendAt (trimmed r) k)) (λ k. sendBytes (sendAt r k)) (r .count)
-            (λ k l. ap sendBytes (send-kept r (stored-passes r h .fit .count) k l)),
+        each-same (λ c. channelPart v (at (trimmedNetwork n .channels) c)) (λ c. channelPart v (at (n .channels) c))
+            (portCount * n .sites) (λ c l. ap (channelPart v) (channels-kept n few c l)),
+        each-same (λ k. wordBytes (at (trimmedNetwork n .routes) k)) (λ k. wordBytes (at (n .routes) k))
+            (n .sites * n .sites) (λ k l. ap wordBytes (routes-kept n few k l)),
+        each-same (λ k. sendBytes v (sendAt (trimmed r) k)) (λ k. sendBytes v (sendAt r k)) (r .count)
+            (λ k l. ap (sendBytes v) (send-kept r (stored-passes r h .fit .count) k l)),
       ) refl
 
   write-stored : (room : ℕ) → writeRefusal r room ≡ 0 → storedRefusal r ≡ 0
@@ -85,13 +88,14 @@ none-trimmed = refl
 
 module _ (b : List ℕ) where
   run-trimmed : trimmed (runOf b) ≡ runOf b
-  unfolding trimmed trimmedNetwork runOf networkOf
+  unfolding trimmed trimmedNetwork runOf
   run-trimmed =
-      let S = at b sitesPlace in
+      let v = versionOf b in
+      let S = sitesOf b in
       rw (
-        over-again (λ c. at b (headLength + c)) (portCount * S) noChannels 0,
-        over-again (λ k. word b (routesPlace S + 2 * k)) (S * S) noRoutes 0,
-        over-again (λ k. sendOf b (sendsPlace S + 5 * k)) (at b countPlace) noSends sendD,
+        over-again (λ c. channelIn v b (channelPlace v c)) (portCount * S) noChannels 0,
+        over-again (λ k. word b (routesPlace v S + 2 * k)) (S * S) noRoutes 0,
+        over-again (λ k. sendOf v b (sendsPlace v S + sendWidth v * k)) (countOf b) noSends sendD,
       ) refl
 
   -- a run that was read, and the all-zero run that a refusal hands back

@@ -1,30 +1,43 @@
--- What the functions of this crate ask and compute on the way: a run whose sizes fit, the front of an archive. Assumes
--- nothing.
+-- What the functions of this crate ask and compute on the way: a network and a number of sends that an archive can
+-- hold, the writer's first refusals, the front of an archive. Assumes nothing.
+use mathlib.Core.Path.{_≡_}
+use mathlib.Core.Logic.{_⊎_}
 use mathlib.Core.Bool.{cond}
 use mathlib.Core.List.{List}
-use Prim.Native.Nat.{ℕ, _*_, _≤_}
+use Prim.Native.Nat.{ℕ, _*_, _≤_, _<_}
 use lib.Dec.{eqb, leb}
-use Rattle.base.specs.Sizes.{sitesMost, portCount, queueRoom, sendsMost}
+use Rattle.base.specs.Sizes.{sitesMost, portCount, queueRoom, sendsMost, noChannel}
 use Rattle.base.specs.Put.{put}
 use Rattle.types.specs.declared.Network.{Network}
-use Rattle.types.specs.declared.Run.{Run}
-use Rattle.model.specs.Network.{sizesOk, joinsThen}
-use Rattle.format.specs.Format.{headLength, routesPlace, headWith, channelBytes, routeBytes}
+use Rattle.model.specs.Network.{kindThen, sizesOk, joinsThen}
+use Rattle.format.specs.Format.{at, sitesPlace, headLength, routesPlace, startWith, fieldsWith, channelBytes}
+use Rattle.format.specs.Format.{routeBytes}
 
--- a run within the sizes that an archive can hold
-pub record Fit (r : Run) : Type 0 where
-  pub few : r .network .sites ≤ sitesMost
-  pub square : r .network .sites * r .network .sites ≤ sitesMost * sitesMost
-  pub deep : r .network .depth ≤ queueRoom
-  pub count : r .count ≤ sendsMost
+-- a channel fits the byte that it has in version 1, where 255 stands for none; each of n channels does
+abbrev pub Narrow : ℕ → ℕ → Type 0
+Narrow v x = v ≡ 1 → (x ≡ noChannel) ⊎ (x < 255)
 
--- 3 to 7 of the writer, or 0, from the network, the seed and the number of sends
+abbrev pub AllNarrow : ℕ → List ℕ → ℕ → Type 0
+AllNarrow v channels n = (c : ℕ) → c < n → Narrow v (at channels c)
+
+-- a network and a number of sends within what an archive can hold
+pub record Fit (n : Network) (N : ℕ) : Type 0 where
+  pub few : n .sites ≤ sitesMost
+  pub square : n .sites * n .sites ≤ sitesMost * sitesMost
+  pub deep : n .depth ≤ queueRoom
+  pub narrow : AllNarrow (n .version) (n .channels) (portCount * n .sites)
+  pub count : N ≤ sendsMost
+
+-- 2, 17 and 3 to 7 of the writer, or 0, from the network, the seed and the number of sends
 unfoldable pub frontRefusal : Network → ℕ → ℕ → ℕ
-frontRefusal n seed N = cond (sizesOk n) (cond (eqb seed 0) 4 (cond (leb N sendsMost) (joinsThen n 0) 5)) 3
+frontRefusal n seed N =
+    kindThen n (cond (sizesOk n) (cond (eqb seed 0) 4 (cond (leb N sendsMost) (joinsThen n 0) 5)) 3)
 
 -- head, channels and routes of an archive of so many bytes, put into a list
 abbrev pub putFront : Network → ℕ → ℕ → ℕ → ℕ → List ℕ → List ℕ
 putFront n seed draws N size out =
-    let head = put out 0 (headWith size (n .sites) (n .tries) (n .depth) seed draws N) in
-    let joined = put head headLength (channelBytes (n .channels) (portCount * n .sites)) in
-    put joined (routesPlace (n .sites)) (routeBytes (n .routes) (n .sites * n .sites))
+    let v = n .version in
+    let start = put out 0 (startWith v (n .edition) size) in
+    let head = put start (sitesPlace v) (fieldsWith (n .sites) (n .tries) (n .depth) seed draws N) in
+    let joined = put head (headLength v) (channelBytes v (n .channels) (portCount * n .sites)) in
+    put joined (routesPlace v (n .sites)) (routeBytes (n .routes) (n .sites * n .sites))

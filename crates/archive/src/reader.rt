@@ -1,10 +1,12 @@
 // The reader: the bytes are judged where they lie (crate faults), and only those of an archive are made a run, once.
+// Where a part stands in a version, and what a channel's bytes say, is asked of crate faults.
 ghost use mathlib.Core.Path.{_≡_};
 ghost use Prim.Native.Nat.{_+_, _*_, _≤_, _<_};
 ghost use lib.ListN.{length};
 ghost use Rattle.base.specs.Sizes.{sitesMost, portCount, sendsMost};
 ghost use Rattle.faults.specs.Head.{Head};
-ghost use Rattle.format.specs.Format.{quad, headLength, seedPlace, channelsOf, routesOf, sendOf, sendsOf, networkOf, runOf, noRun};
+ghost use Rattle.format.specs.Format.{quad, channelPlace, sendsPlace, setWidth, sendWidth, setIn, sendOf};
+ghost use Rattle.format.specs.Format.{channelsOf, routesOf, sendsOf, networkOf, runOf, noRun};
 ghost use Rattle.format.specs.Refusals.{readRefusal, decode};
 ghost use Rattle.model.specs.Runs.{noSends};
 use format::Decoded;
@@ -12,14 +14,16 @@ use types::Network;
 use types::Run;
 use types::StoredSend;
 
-fn read_channels(b: &[u8], n: usize) -> [u8; base::PORTS * base::SITES]
-    requires { ⌜ (n ≤ portCount * sitesMost) × (headLength + n ≤ length (now b)) ⌝ }
-    ensures { λ r. ⌜ r ≡ channelsOf (now (b .entry)) n ⌝ }
+// Behind the last channel there are routes, so that a second byte is there in version 1 too.
+fn read_channels(b: &[u8], version: u8, n: usize) -> [u16; base::PORTS * base::SITES]
+    requires { ⌜ (n ≤ portCount * sitesMost) × (channelPlace version n < length (now b)) ⌝ }
+    ensures { λ r. ⌜ r ≡ channelsOf version (now (b .entry)) n ⌝ }
 {
-    let mut channels = [0u8; base::PORTS * base::SITES];
+    let mut channels = [0u16; base::PORTS * base::SITES];
     let mut c: usize = 0;
     while c < n {
-        channels[c] = b[13 + c];
+        let p = faults::channel_place(version, c as u8);
+        channels[c] = faults::channel_of(version, b[p], b[p + 1]);
         c += 1;
     }
     channels
@@ -39,20 +43,39 @@ fn read_routes(b: &[u8], p: usize, n: usize) -> [u16; base::SITES * base::SITES]
     routes
 }
 
-fn send_at(b: &[u8], p: usize) -> StoredSend
-    requires { ⌜ p + 4 < length (now b) ⌝ }
-    ensures { λ r. ⌜ r ≡ sendOf (now (b .entry)) p ⌝ }
+// The four bytes from place p on.
+fn quad_at(b: &[u8], p: usize) -> u32
+    requires { ⌜ p + 4 ≤ length (now b) ⌝ }
+    ensures { λ r. ⌜ r ≡ quad (now (b .entry)) p ⌝ }
 {
-    let at = p + 3;
+    let at = p + 2;
+    base::quad(base::word(b[p], b[p + 1]), base::word(b[at], b[at + 1]))
+}
+
+// The set from place p on.
+fn set_at(b: &[u8], version: u8, p: usize) -> u64
+    requires { ⌜ p + setWidth version ≤ length (now b) ⌝ }
+    ensures { λ r. ⌜ r ≡ setIn version (now (b .entry)) p ⌝ }
+{
+    if version == 1 {
+        return base::word(b[p], b[p + 1]) as u64;
+    }
+    base::oct(quad_at(b, p), quad_at(b, p + 4))
+}
+
+fn send_at(b: &[u8], version: u8, p: usize) -> StoredSend
+    requires { ⌜ p + sendWidth version ≤ length (now b) ⌝ }
+    ensures { λ r. ⌜ r ≡ sendOf version (now (b .entry)) p ⌝ }
+{
     StoredSend {
-        set: base::word(b[at], b[at + 1]) as u64,
+        set: set_at(b, version, p + 3),
         draw: base::word(b[p], b[p + 1]),
         site: b[p + 2],
     }
 }
 
-// 255 empty sends, whatever k is. The one that is repeated is read from a place that the compiler does not know: it is then
-// copied as 16 bytes at once, where three fields would be stored (docs/PERFORMANCE.md).
+// 255 empty sends, whatever k is. The one that is repeated is read from a place that the compiler does not know: it is
+// then copied as 16 bytes at once, where three fields would be stored (docs/PERFORMANCE.md).
 fn no_sends(k: usize) -> [StoredSend; base::SENDS]
     ensures { λ r. ⌜ r ≡ noSends ⌝ }
 {
@@ -66,14 +89,14 @@ fn no_sends(k: usize) -> [StoredSend; base::SENDS]
     [either; base::SENDS]
 }
 
-fn read_sends(b: &[u8], p: usize, n: usize) -> [StoredSend; base::SENDS]
-    requires { ⌜ (n ≤ sendsMost) × (p + 5 * n ≤ length (now b)) ⌝ }
-    ensures { λ r. ⌜ r ≡ sendsOf (now (b .entry)) p n ⌝ }
+fn read_sends(b: &[u8], version: u8, sites: u8, n: usize) -> [StoredSend; base::SENDS]
+    requires { ⌜ (n ≤ sendsMost) × (sendsPlace version sites + sendWidth version * n ≤ length (now b)) ⌝ }
+    ensures { λ r. ⌜ r ≡ sendsOf version (now (b .entry)) (sendsPlace version sites) n ⌝ }
 {
     let mut sends = no_sends(n);
     let mut k: usize = 0;
     while k < n {
-        sends[k] = send_at(b, p + 5 * k);
+        sends[k] = send_at(b, version, faults::send_place(version, sites, k as u8));
         k += 1;
     }
     sends
@@ -83,25 +106,24 @@ fn read_network(b: &[u8]) -> Network
     requires { ⌜ Head (now b) ⌝ }
     ensures { λ r. ⌜ r ≡ networkOf (now (b .entry)) ⌝ }
 {
-    let sites = base::wide(b[3]);
-    let tries = b[4];
-    let depth = base::wide(b[5]);
-    let channels = read_channels(b, base::PORTS * sites);
-    let routes = read_routes(b, 13 + base::PORTS * sites, sites * sites);
+    let version = b[2];
+    let edition = faults::edition_of(version, b[3]);
+    let p = faults::fields_place(version);
+    let first = b[p];
+    let tries = b[p + 1];
+    let depth = base::wide(b[p + 2]);
+    let sites = base::wide(first);
+    let channels = read_channels(b, version, base::PORTS * sites);
+    let routes = read_routes(b, faults::routes_place(version, first), sites * sites);
     Network {
         sites: sites,
         depth: depth,
         tries: tries,
+        version: version,
+        edition: edition,
         channels: channels,
         routes: routes,
     }
-}
-
-fn read_seed(b: &[u8]) -> u32
-    requires { ⌜ headLength ≤ length (now b) ⌝ }
-    ensures { λ r. ⌜ r ≡ quad (now (b .entry)) seedPlace ⌝ }
-{
-    base::quad(base::word(b[6], b[7]), base::word(b[8], b[9]))
 }
 
 fn read_run(b: &[u8]) -> Run
@@ -109,11 +131,12 @@ fn read_run(b: &[u8]) -> Run
     ensures { λ r. ⌜ r ≡ runOf (now (b .entry)) ⌝ }
 {
     let network = read_network(b);
-    let sites = base::wide(b[3]);
-    let count = base::wide(b[12]);
-    let seed = read_seed(b);
-    let draws = base::word(b[10], b[11]);
-    let sends = read_sends(b, 13 + base::PORTS * sites + 2 * (sites * sites), count);
+    let version = b[2];
+    let p = faults::fields_place(version);
+    let seed = quad_at(b, p + 3);
+    let draws = base::word(b[p + 7], b[p + 8]);
+    let count = base::wide(b[p + 9]);
+    let sends = read_sends(b, version, b[p], count);
     Run {
         network: network,
         seed: seed,
@@ -131,7 +154,9 @@ fn refused(refusal: u8) -> Decoded
         sites: 0,
         depth: 0,
         tries: 0,
-        channels: [0u8; base::PORTS * base::SITES],
+        version: 0,
+        edition: 0,
+        channels: [0u16; base::PORTS * base::SITES],
         routes: [0u16; base::SITES * base::SITES],
     };
     let run = Run {
@@ -147,9 +172,9 @@ fn refused(refusal: u8) -> Decoded
     }
 }
 
-// The run that the bytes stand for, with room beyond S sites and N sends zero; or the refusal, 1 to 8, and the
-// all-zero run. What is refused behind the head, and what in it, return apart: with one return for both the compiler lays
-// the sends where each fourth of them crosses a line of the cache (docs/PERFORMANCE.md).
+// The run that the bytes stand for, with room beyond S sites and N sends zero; or the refusal, 1 to 8 or 17, and the
+// all-zero run. The refusals above 5 (behind the head, and 17) and the others return apart: with one return for both
+// the compiler lays the sends where each fourth of them crosses a line of the cache (docs/PERFORMANCE.md).
 pub fn read(bytes: &[u8]) -> Decoded
     ensures { λ r. ⌜ r ≡ decode (now (bytes .entry)) ⌝ }
 {

@@ -1,24 +1,29 @@
-// The writer: the run's own refusals, the room, then the parts one after the other.
+// The writer: the run's own refusals, the room, then the parts one after the other. Where a part stands in a version is
+// asked of crate faults.
 ghost use mathlib.Core.Path.{_≡_};
+ghost use mathlib.Core.List.{[], _∷_};
 ghost use Prim.Native.Nat.{_+_, _*_, _≤_, _<_};
 ghost use lib.ListN.{length};
-ghost use Rattle.base.specs.Sizes.{sitesMost, portCount, queueRoom, sendsMost};
+ghost use Rattle.base.specs.Sizes.{sitesMost, portCount};
 ghost use Rattle.base.specs.Put.{put};
-ghost use Rattle.format.specs.Format.{headLength, lengthWith, wordBytes, headWith, channelBytes, routeBytes, sendBytes};
+ghost use Rattle.format.specs.Format.{wordBytes, quadBytes, channelPart, setPart, startWith, fieldsWith, channelBytes};
+ghost use Rattle.format.specs.Format.{routeBytes, sendBytes};
+ghost use Rattle.format.specs.Format.{sitesPlace, channelWidth, setWidth, sendWidth, headLength, channelPlace};
+ghost use Rattle.format.specs.Format.{sendsPlace};
 ghost use Rattle.format.specs.Refusals.{writeAnswer, written};
-ghost use Rattle.archive.specs.Code.{putFront, frontRefusal};
+ghost use Rattle.archive.specs.Code.{Narrow, AllNarrow, Fit, putFront, frontRefusal};
 use format::Written;
 use types::Network;
 use types::Run;
 use types::StoredSend;
 
-// 3 to 7, or 0: all but what the sends themselves are turned down for.
+// 2, 17 and 3 to 7, or 0: all but what the sends themselves are turned down for.
 fn front_refusal(network: Network, seed: u32, count: usize) -> u8
     ensures { λ r. ⌜ r ≡ frontRefusal network seed count ⌝ }
 {
     let refusal = checks::network_refusal(network);
-    if refusal == 3 {
-        return 3;
+    if (refusal == 2) | (refusal == 17) | (refusal == 3) {
+        return refusal;
     }
     if seed == 0 {
         return 4;
@@ -29,8 +34,15 @@ fn front_refusal(network: Network, seed: u32, count: usize) -> u8
     refusal
 }
 
-// A number as two bytes from place p on.
-fn put_word(out: &mut [u8], p: usize, x: u16)
+// A byte at place p; a number as two bytes from there on, and as four.
+fn put_byte(out: &mut [u8], p: usize, x: u8)
+    requires { ⌜ p + 1 ≤ length (now out) ⌝ }
+    ensures { λ _. ⌜ now (out .exit) ≡ put (now (out .entry)) p (x ∷ []) ⌝ }
+{
+    out[p] = x;
+}
+
+fn put_word(out: &mut [u8], p: usize, x: u64)
     requires { ⌜ p + 2 ≤ length (now out) ⌝ }
     ensures { λ _. ⌜ now (out .exit) ≡ put (now (out .entry)) p (wordBytes x) ⌝ }
 {
@@ -38,20 +50,33 @@ fn put_word(out: &mut [u8], p: usize, x: u16)
     out[p + 1] = (x % 256) as u8;
 }
 
-fn put_send(out: &mut [u8], p: usize, send: StoredSend)
-    requires { ⌜ p + 5 ≤ length (now out) ⌝ }
-    ensures { λ _. ⌜ now (out .exit) ≡ put (now (out .entry)) p (sendBytes send) ⌝ }
+fn put_quad(out: &mut [u8], p: usize, x: u64)
+    requires { ⌜ p + 4 ≤ length (now out) ⌝ }
+    ensures { λ _. ⌜ now (out .exit) ≡ put (now (out .entry)) p (quadBytes x) ⌝ }
 {
-    out[p] = (send.draw / 256 % 256) as u8;
-    out[p + 1] = (send.draw % 256) as u8;
-    out[p + 2] = send.site;
-    out[p + 3] = (send.set / 256 % 256) as u8;
-    out[p + 4] = (send.set % 256) as u8;
+    out[p] = (x / 16777216 % 256) as u8;
+    out[p + 1] = (x / 65536 % 256) as u8;
+    out[p + 2] = (x / 256 % 256) as u8;
+    out[p + 3] = (x % 256) as u8;
 }
 
-fn put_head(
+// The length, the version and in version 2 the edition.
+fn put_start(out: &mut [u8], version: u8, edition: u8, size: usize)
+    requires { ⌜ sitesPlace version ≤ length (now out) ⌝ }
+    ensures { λ _. ⌜ now (out .exit) ≡ put (now (out .entry)) 0 (startWith version edition size) ⌝ }
+{
+    out[0] = (size / 256 % 256) as u8;
+    out[1] = (size % 256) as u8;
+    out[2] = version;
+    if version == 1 {
+        return;
+    }
+    out[3] = edition;
+}
+
+fn put_fields(
     out: &mut [u8],
-    size: usize,
+    p: usize,
     sites: usize,
     tries: u8,
     depth: usize,
@@ -59,31 +84,47 @@ fn put_head(
     draws: u16,
     count: usize,
 )
-    requires { ⌜ (headLength ≤ length (now out)) × (sites < 256) × (depth < 256) × (count < 256) ⌝ }
-    ensures { λ _. ⌜ now (out .exit) ≡ put (now (out .entry)) 0 (headWith size sites tries depth seed draws count) ⌝ }
+    requires { ⌜ (p + 10 ≤ length (now out)) × (sites < 256) × (depth < 256) × (count < 256) ⌝ }
+    ensures { λ _. ⌜ now (out .exit) ≡ put (now (out .entry)) p (fieldsWith sites tries depth seed draws count) ⌝ }
 {
-    out[0] = (size / 256 % 256) as u8;
-    out[1] = (size % 256) as u8;
-    out[2] = 1;
-    out[3] = sites as u8;
-    out[4] = tries;
-    out[5] = depth as u8;
-    out[6] = (seed / 16777216 % 256) as u8;
-    out[7] = (seed / 65536 % 256) as u8;
-    out[8] = (seed / 256 % 256) as u8;
-    out[9] = (seed % 256) as u8;
-    out[10] = (draws / 256 % 256) as u8;
-    out[11] = (draws % 256) as u8;
-    out[12] = count as u8;
+    out[p] = sites as u8;
+    out[p + 1] = tries;
+    out[p + 2] = depth as u8;
+    out[p + 3] = (seed / 16777216 % 256) as u8;
+    out[p + 4] = (seed / 65536 % 256) as u8;
+    out[p + 5] = (seed / 256 % 256) as u8;
+    out[p + 6] = (seed % 256) as u8;
+    out[p + 7] = (draws / 256 % 256) as u8;
+    out[p + 8] = (draws % 256) as u8;
+    out[p + 9] = count as u8;
 }
 
-fn put_channels(out: &mut [u8], channels: [u8; base::PORTS * base::SITES], n: usize)
-    requires { ⌜ (n ≤ portCount * sitesMost) × (headLength + n ≤ length (now out)) ⌝ }
-    ensures { λ _. ⌜ now (out .exit) ≡ put (now (out .entry)) headLength (channelBytes channels n) ⌝ }
+// In version 1 the low byte: that of none, 65535, is 255.
+fn put_channel(out: &mut [u8], p: usize, version: u8, channel: u16)
+    requires { ⌜ (p + channelWidth version ≤ length (now out)) × Narrow version channel ⌝ }
+    ensures { λ _. ⌜ now (out .exit) ≡ put (now (out .entry)) p (channelPart version channel) ⌝ }
+{
+    if version == 1 {
+        out[p] = (channel % 256) as u8;
+        return;
+    }
+    put_word(out, p, channel as u64);
+}
+
+fn put_channels(out: &mut [u8], version: u8, channels: [u16; base::PORTS * base::SITES], n: usize)
+    requires { ⌜
+        (n ≤ portCount * sitesMost) × (channelPlace version n ≤ length (now out)) × AllNarrow version channels n
+        ⌝ }
+    ensures { λ _. ⌜ now (out .exit) ≡ put (now (out .entry)) (headLength version) (channelBytes version channels n) ⌝ }
 {
     let mut k: usize = 0;
     while k < n {
-        out[13 + k] = channels[k];
+        put_channel(
+            out,
+            faults::channel_place(version, k as u8),
+            version,
+            channels[k],
+        );
         k += 1;
     }
 }
@@ -94,37 +135,74 @@ fn put_routes(out: &mut [u8], routes: [u16; base::SITES * base::SITES], p: usize
 {
     let mut k: usize = 0;
     while k < n {
-        put_word(out, p + 2 * k, routes[k]);
+        put_word(out, p + 2 * k, routes[k] as u64);
         k += 1;
     }
 }
 
+fn put_set(out: &mut [u8], p: usize, version: u8, set: u64)
+    requires { ⌜ p + setWidth version ≤ length (now out) ⌝ }
+    ensures { λ _. ⌜ now (out .exit) ≡ put (now (out .entry)) p (setPart version set) ⌝ }
+{
+    if version == 1 {
+        put_word(out, p, set);
+        return;
+    }
+    put_quad(out, p, set / 4294967296);
+    put_quad(out, p + 4, set);
+}
+
+fn put_send(out: &mut [u8], p: usize, version: u8, send: StoredSend)
+    requires { ⌜ p + sendWidth version ≤ length (now out) ⌝ }
+    ensures { λ _. ⌜ now (out .exit) ≡ put (now (out .entry)) p (sendBytes version send) ⌝ }
+{
+    let draw = send.draw;
+    put_word(out, p, draw as u64);
+    put_byte(out, p + 2, send.site);
+    put_set(out, p + 3, version, send.set);
+}
+
 // Head, channels and routes; an archive of so many bytes with so many sends.
 fn put_front(network: Network, seed: u32, draws: u16, count: usize, size: usize, out: &mut [u8])
-    requires { ⌜
-        (network .sites ≤ sitesMost) × (network .sites * network .sites ≤ sitesMost * sitesMost) ×
-        (network .depth ≤ queueRoom) × (count ≤ sendsMost) × (lengthWith (network .sites) 0 ≤ length (now out))
-        ⌝ }
+    requires { ⌜ Fit network count × (sendsPlace (network .version) (network .sites) ≤ length (now out)) ⌝ }
     ensures { λ _. ⌜ now (out .exit) ≡ putFront network seed draws count size (now (out .entry)) ⌝ }
 {
+    let version = network.version;
+    let edition = network.edition;
     let sites = network.sites;
     let depth = network.depth;
     let tries = network.tries;
     let channels = network.channels;
     let routes = network.routes;
     let square = sites * sites;
-    put_head(out, size, sites, tries, depth, seed, draws, count);
-    put_channels(out, channels, base::PORTS * sites);
-    put_routes(out, routes, 13 + base::PORTS * sites, square);
+    put_start(out, version, edition, size);
+    put_fields(
+        out,
+        faults::fields_place(version),
+        sites,
+        tries,
+        depth,
+        seed,
+        draws,
+        count,
+    );
+    put_channels(out, version, channels, base::PORTS * sites);
+    put_routes(
+        out,
+        routes,
+        faults::routes_place(version, sites as u8),
+        square,
+    );
 }
 
-// Writes the archive of a run at the front of `out`, or nothing where it answers a refusal: 3 to 8, or 14 where the
-// room is below the archive's length. The sends are tested and written where they stand: a function that goes through them
-// has them copied to it first, all 255.
+// Writes the archive of a run at the front of `out`, or nothing where it answers a refusal: 2, 17, 3 to 8, or 14 where
+// the room is below the archive's length. The sends are tested and written where they stand: a function that goes
+// through them has them copied to it first, all 255.
 pub fn write(run: Run, out: &mut [u8]) -> Written
     ensures { λ r. ⌜ (r ≡ writeAnswer run (length (now (out .entry)))) × (now (out .exit) ≡ written run (now (out .entry))) ⌝ }
 {
     let network = run.network;
+    let version = network.version;
     let sites = network.sites;
     let draws = run.draws;
     let count = run.count;
@@ -143,16 +221,20 @@ pub fn write(run: Run, out: &mut [u8]) -> Written
             return turned_down(8);
         }
     }
-    let size = faults::size_of(sites as u8, count as u8);
+    let size = faults::size_of(version, sites as u8, count as u8);
     if out.len() < size {
         return turned_down(14);
     }
     put_front(network, run.seed, draws, count, size, out);
-    let p = 13 + base::PORTS * sites + 2 * (sites * sites);
     let mut m: usize = 0;
     while m < count {
         let send = run.sends[m];
-        put_send(out, p + 5 * m, send);
+        put_send(
+            out,
+            faults::send_place(version, sites as u8, m as u8),
+            version,
+            send,
+        );
         m += 1;
     }
     Written {

@@ -1,10 +1,12 @@
-// Reader and writer on the bounds of document 01. Standard input is the largest archive, 16 sites and 255 sends, 1,864
-// bytes; run R stands here. `stdout` is typed from the document: a line for each case, with the refusal number, 0 for
-// none.
+// Reader and writer on the bounds of document 01, and of version 2 (wide). Standard input is the largest archive of version
+// 1, 16 sites and 255 sends, 1,864 bytes; run R stands here. `stdout` is typed from the documents: a line for each case, with
+// the refusal number, 0 for none.
+mod wide;
+
 use libc::STDOUT_FILENO;
 
 // "Run R", byte by byte.
-const R: [u8; 24] = [
+pub(crate) const R: [u8; 24] = [
     0x00,
     0x18,
     0x01,
@@ -61,14 +63,14 @@ const R_AND_NINES: [u8; 26] = [
     9,
 ];
 
-fn show(label: &[u8], n: u64) {
+pub(crate) fn show(label: &[u8], n: u64) {
     io::write_all(STDOUT_FILENO, label);
     io::write_all(STDOUT_FILENO, b" ");
     io::print_decimal(STDOUT_FILENO, n);
     io::write_all(STDOUT_FILENO, b"\n");
 }
 
-fn show_same(label: &[u8], same: bool) {
+pub(crate) fn show_same(label: &[u8], same: bool) {
     io::write_all(STDOUT_FILENO, label);
     if same {
         io::write_all(STDOUT_FILENO, b" yes\n");
@@ -77,7 +79,7 @@ fn show_same(label: &[u8], same: bool) {
     }
 }
 
-fn show_written(label: &[u8], w: archive::Written) {
+pub(crate) fn show_written(label: &[u8], w: archive::Written) {
     io::write_all(STDOUT_FILENO, label);
     io::write_all(STDOUT_FILENO, b" ");
     io::print_decimal(STDOUT_FILENO, w.refusal as u64);
@@ -226,4 +228,5 @@ fn main() {
     let mut buffer = io::large_buffer();
     let n = io::read_full(0, &mut buffer);
     largest(&buffer[..n]);
+    wide::cases();
 }

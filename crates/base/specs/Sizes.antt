@@ -1,9 +1,12 @@
 -- The sizes, as src/lib.rt has them. Assumes nothing.
 use Prim.Native.Nat.{ℕ}
 
--- sites of a network at most
+-- sites of a network at most, and of one of version 1
 abbrev pub sitesMost : ℕ
-sitesMost = 16
+sitesMost = 64
+
+abbrev pub firstSites : ℕ
+firstSites = 16
 
 -- net-inputs of a site
 abbrev pub inputCount : ℕ
@@ -25,9 +28,9 @@ queueRoom = 8
 abbrev pub codeCount : ℕ
 codeCount = 13
 
--- the channel byte of an output that is joined to nothing
+-- the channel of an output that is joined to nothing
 abbrev pub noChannel : ℕ
-noChannel = 255
+noChannel = 65535
 
 -- stored sends at most
 abbrev pub sendsMost : ℕ

@@ -1,10 +1,12 @@
-// The sizes, each once, a byte made wider, numbers of two and four bytes, and a number less one. specs/Sizes.antt has the
-// same sizes; the rest of specs/ holds the definitions and laws that every crate shares.
+// The sizes, each once, numbers of one and two bytes made wider, numbers of two, four and eight bytes, and a number less
+// one. specs/Sizes.antt has the same sizes; the rest of specs/ holds the definitions and laws that every crate shares.
 ghost use mathlib.Core.Path.{_≡_};
 ghost use Prim.Native.Nat.{_<_, _+_, _-_, _*_};
 
-// Sites of a network at most.
-pub const SITES: usize = 16;
+// Sites of a network at most, and of one of version 1.
+pub const SITES: usize = 64;
+
+pub const FIRST_SITES: usize = 16;
 // Net-inputs of a site.
 pub const INPUTS: usize = 5;
 // Net-outputs of a site.
@@ -15,8 +17,8 @@ pub const PORTS: usize = 4;
 pub const QUEUE: usize = 8;
 // Codes of RUN.
 pub const CODES: usize = 13;
-// The channel byte of an output that is joined to nothing.
-pub const NO_CHANNEL: u8 = 255;
+// The channel of an output that is joined to nothing.
+pub const NO_CHANNEL: u16 = 65535;
 // Stored sends at most.
 pub const SENDS: usize = 255;
 // Packets accepted at most.
@@ -24,9 +26,15 @@ pub const PACKETS: u8 = 255;
 // Bits of a set of sites.
 pub const SET: usize = 64;
 
-// The same number, as an index.
+// The same number, as an index: of one byte, and of two.
 pub fn wide(x: u8) -> usize
     ensures { λ r. ⌜ (r ≡ x) × (r < 256) ⌝ }
+{
+    x as usize
+}
+
+pub fn wider(x: u16) -> usize
+    ensures { λ r. ⌜ (r ≡ x) × (r < 65536) ⌝ }
 {
     x as usize
 }
@@ -43,6 +51,13 @@ pub fn quad(high: u16, low: u16) -> u32
     ensures { λ r. ⌜ r ≡ high * 65536 + low ⌝ }
 {
     (high as u32) * 65536 + (low as u32)
+}
+
+// The number of eight bytes, by those of the higher four and of the lower four.
+pub fn oct(high: u32, low: u32) -> u64
+    ensures { λ r. ⌜ r ≡ high * 4294967296 + low ⌝ }
+{
+    (high as u64) * 4294967296 + (low as u64)
 }
 
 // One less, and 0 of 0.

@@ -1,7 +1,7 @@
--- The test of a route over a table of digits is the model's; the table of the inputs that are fed already. Assumes
--- nothing.
+-- The tests of version and edition and of a route over a table of digits are the model's; the table of the inputs that are
+-- fed already. Assumes nothing.
 use mathlib.Core.Path.{_≡_, refl, sym, ap, _∙_}
-use mathlib.Core.Bool.{Bool, true, false, not, _&&_, _||_, and-true}
+use mathlib.Core.Bool.{Bool, true, false, cond, not, _&&_, _||_, and-true}
 use mathlib.Core.List.{List}
 use Prim.Native.Nat.{ℕ, zero, suc, _+_, _*_, _/_, _≤_, _<_}
 use native.Mathlib.Omega.{arith}
@@ -9,23 +9,42 @@ use borrow.Author.Tests.{eq-eqb, ne-eqb, lt-leb, lt-ltb, le-ltb, ltb-true, ltb-f
 use lib.Dec.{eqb, ltb, leb}
 use lib.ListN.{length, getD, set, replicate}
 use lib.Seq.{getD-set-same, getD-set-other}
-use Rattle.base.specs.Sizes.{sitesMost, portCount, queueRoom, noChannel}
-use Rattle.base.specs.Bools.{both}
+use Rattle.base.specs.Sizes.{sitesMost, firstSites, portCount, queueRoom, noChannel}
+use Rattle.base.specs.Answers.{orNext}
+use Rattle.base.specs.Bools.{both, cond-ok}
 use Rattle.base.specs.All.{all, all-none, all-more, all-next, all-fails, all-same}
 use Rattle.base.specs.Lists.{same-at}
 use Rattle.types.specs.declared.Network.{Network}
-use Rattle.model.specs.Network.{sizesOk, portOk, listOk, routeOf, routeOk, choice, choices}
-use Rattle.checks.specs.Network.{portsOf, listBy, routeBy}
+use Rattle.model.specs.Network.{kindThen, sitesIn, sizesOk, portOk, listOk, routeOf, routeOk, choice, choices}
+use Rattle.checks.specs.Network.{kindIn, portsOf, listBy, routeBy}
+
+-- ---- version and edition
+
+both-ways : (a b : Bool) (next : ℕ) → cond a (cond b next 17) 2 ≡ orNext (cond a (cond b 0 17) 2) next
+both-ways true true next = refl
+both-ways true false next = refl
+both-ways false b next = refl
+
+-- what the test of version and edition answered, k, comes before the next
+pub kind-then : (n : Network) (k next : ℕ) → k ≡ kindIn (n .version) (n .edition) → kindThen n next ≡ orNext k next
+kind-then n k next e =
+    both-ways (eqb (n .version) 1 || eqb (n .version) 2) (eqb (n .edition) 1) next ∙ ap (λ (x : ℕ). orNext x next) (sym e)
 
 -- ---- S and D of a network within its limits
+
+-- no version has more than the most sites
+pub sites-few : (version : ℕ) → sitesIn version ≤ sitesMost
+sites-few version =
+    cond-ok (λ (m : ℕ). m ≤ sitesMost) (eqb version 1) firstSites sitesMost (λ e. omega arith) (λ e. omega arith)
 
 pub sizes-few : (n : Network) → sizesOk n ≡ true → (n .sites ≤ sitesMost) × (n .depth ≤ queueRoom)
 sizes-few n h =
     let a = both _ (leb (n .depth) queueRoom) h in
     let b = both _ (leb 1 (n .depth)) (a .0) in
     let c = both _ (leb 1 (n .tries)) (b .0) in
-    let d = both (leb 1 (n .sites)) (leb (n .sites) sitesMost) (c .0) in
-    (leb-true _ _ (d .1), leb-true _ _ (a .1))
+    let d = both (leb 1 (n .sites)) (leb (n .sites) (sitesIn (n .version))) (c .0) in
+    let most = leb-true (n .sites) (sitesIn (n .version)) (d .1) in
+    (omega (arith, most, sites-few (n .version)), leb-true _ _ (a .1))
 
 -- ---- routes
 
@@ -59,7 +78,7 @@ row-by n s m ports e =
 
 -- ---- channels
 
--- a byte below 4S is that of an input whose site is below S; v is the byte as a number
+-- a channel below 4S is that of an input whose site is below S; v is the channel as an index
 pub input-below : (v b S : ℕ) → v ≡ b → ltb (v / portCount) S ≡ ltb b (portCount * S)
 input-below v b S e = go (ltb b (portCount * S)) refl
   where
@@ -71,7 +90,7 @@ input-below v b S e = go (ltb b (portCount * S)) refl
 pub input-known : (v b S : ℕ) (r : Bool) → v ≡ b → r ≡ ltb b (portCount * S) → r ≡ true → v < portCount * S
 input-known v b S r e er h = omega (arith, e, ltb-true b (portCount * S) (sym er ∙ h))
 
--- the byte at place c of the channels cs, and the model's test of it among e places
+-- the channel at place c of the channels cs, and the model's test of it among e places
 abbrev pub byteAt : List ℕ → ℕ → ℕ
 byteAt cs c = getD cs c 0
 
@@ -86,7 +105,7 @@ Fed cs fed c = (x : ℕ) → x < portCount * sitesMost → all (λ d. not (eqb (
 pub fed-none : (cs : List ℕ) → Fed cs (replicate (portCount * sitesMost) false) 0
 fed-none cs x h = all-none (λ d. not (eqb (byteAt cs d) x)) ∙ ap not (sym (same-at (portCount * sitesMost) x false))
 
--- a byte that is no channel
+-- none
 pub fed-skip : (cs : List ℕ) (fed : List Bool) (c : ℕ) → Fed cs fed c → byteAt cs c ≡ noChannel → Fed cs fed (c + 1)
 fed-skip cs fed c f e x h =
     let q : not (eqb (byteAt cs c) x) ≡ true = ap not (ne-eqb (byteAt cs c) x (λ z. omega arith)) in
@@ -111,7 +130,7 @@ fed-set cs fed c f l b x h = go (eqb (byteAt cs c) x) refl
         ∙ f x h
         ∙ ap not (sym (getD-set-other fed (byteAt cs c) x true false (λ e. eqb-false (byteAt cs c) x q (sym e))))
 
--- ---- a turn of the loop over the channels; v is the byte at c
+-- ---- a turn of the loop over the channels; v is the channel at c
 
 module _ (cs : List ℕ) (fed : List Bool) (e c v : ℕ) (ev : v ≡ byteAt cs c) where
   pub no-channel : all (channelIn cs e) c ≡ true → byteAt cs c ≡ noChannel → all (channelIn cs e) (c + 1) ≡ true

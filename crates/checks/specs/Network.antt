@@ -1,19 +1,27 @@
--- The model's tests of a network's parts as numbers: S, T and D, and a route over a table of the hex digits that may
--- stand in a list. Assumes nothing.
-use mathlib.Core.Bool.{Bool, true, false, not, _&&_, _||_}
+-- The model's tests of a network's parts as numbers: version and edition, S, T and D, and a route over a table of the hex
+-- digits that may stand in a list. Assumes nothing.
+use mathlib.Core.Bool.{Bool, true, false, cond, not, _&&_, _||_}
 use mathlib.Core.List.{List, [], _∷_}
 use Prim.Native.Nat.{ℕ, _+_, _-_}
 use lib.Dec.{eqb, leb}
 use lib.ListN.{getD}
-use Rattle.base.specs.Sizes.{sitesMost, portCount, queueRoom}
+use Rattle.base.specs.Sizes.{portCount, queueRoom}
 use Rattle.base.specs.Bools.{implies}
 use Rattle.base.specs.All.{all}
 use Rattle.types.specs.declared.Network.{Network}
-use Rattle.model.specs.Network.{joined, choice, choices, differs}
+use Rattle.model.specs.Network.{sitesIn, sizesOk, joinsThen, joined, choice, choices, differs}
 
--- sizesOk of S, T and D
-abbrev pub sizesIn : ℕ → ℕ → ℕ → Bool
-sizesIn S T D = leb 1 S && leb S sitesMost && leb 1 T && leb 1 D && leb D queueRoom
+-- 2 or 17 of a version and an edition, or 0
+abbrev pub kindIn : ℕ → ℕ → ℕ
+kindIn version edition = cond (eqb version 1 || eqb version 2) (cond (eqb edition 1) 0 17) 2
+
+-- sizesOk of the version, S, T and D
+abbrev pub sizesIn : ℕ → ℕ → ℕ → ℕ → Bool
+sizesIn version S T D = leb 1 S && leb S (sitesIn version) && leb 1 T && leb 1 D && leb D queueRoom
+
+-- networkRefusal behind version and edition
+abbrev pub partsRefusal : Network → ℕ
+partsRefusal n = cond (sizesOk n) (joinsThen n 0) 3
 
 -- the digits 0 to 15 that may stand in a list of site s: 0, and the ports with a channel
 abbrev pub portsBy : Bool → Bool → Bool → Bool → List Bool

@@ -4,6 +4,7 @@ mod range;
 mod send;
 
 pub use network::is_input;
+pub use network::kind_refusal;
 pub use network::network_refusal;
 pub use network::ports_by;
 pub use network::route_ok;

@@ -1,30 +1,54 @@
-// Is this a network: the refusal 3, 6 or 7, or 0. Room beyond S sites is not looked at. A test leaves at the first place
-// that fails it. The tests of S, T and D, of a channel byte and of a route take numbers, so that they serve a network in
-// lent bytes too.
+// Is this a network: the refusal 2, 17, 3, 6 or 7, or 0. Room beyond S sites is not looked at. A test leaves at the first
+// place that fails it. The tests of version and edition, of S, T and D, of a channel and of a route take numbers, so that
+// they serve a network in lent bytes too.
 ghost use mathlib.Core.Path.{_≡_};
 ghost use Prim.Native.Nat.{_≤_, _<_, _*_};
 ghost use lib.Dec.{ltb};
 ghost use Rattle.base.specs.Sizes.{sitesMost, portCount};
 ghost use Rattle.base.specs.All.{all};
-ghost use Rattle.model.specs.Network.{channelsOk, routeOk, routesOk, networkRefusal};
-ghost use Rattle.checks.specs.Network.{sizesIn, portsBy, portsOf, routeBy};
+ghost use Rattle.model.specs.Network.{sitesIn, channelsOk, routeOk, routesOk, networkRefusal};
+ghost use Rattle.checks.specs.Network.{kindIn, sizesIn, partsRefusal, portsBy, portsOf, routeBy};
 use types::Network;
 
-// S, T and D within their limits.
-pub fn sizes_ok(sites: usize, tries: u8, depth: usize) -> bool
-    ensures { λ r. ⌜ r ≡ sizesIn sites tries depth ⌝ }
+// 2 for a version that is neither 1 nor 2, 17 for an edition that is not 1, else 0.
+pub fn kind_refusal(version: u8, edition: u8) -> u8
+    ensures { λ r. ⌜ r ≡ kindIn version edition ⌝ }
 {
-    (1 <= sites) & (sites <= base::SITES) & (1 <= tries) & (1 <= depth) & (depth <= base::QUEUE)
+    if (version == 1) | (version == 2) {
+        if edition == 1 {
+            return 0;
+        }
+        return 17;
+    }
+    2
 }
 
-// Whether a channel byte stands for an input of a network with so many sites: it is below 4S.
-pub fn is_input(byte: u8, sites: usize) -> bool
-    ensures { λ r. ⌜ r ≡ ltb byte (portCount * sites) ⌝ }
+// The sites of a version at most.
+fn sites_in(version: u8) -> usize
+    ensures { λ r. ⌜ r ≡ sitesIn version ⌝ }
 {
-    base::wide(byte) / base::PORTS < sites
+    if version == 1 {
+        return base::FIRST_SITES;
+    }
+    base::SITES
 }
 
-// No channel byte but 255 and the inputs of the network, and no input fed twice.
+// S, T and D within their limits, those of the version.
+pub fn sizes_ok(version: u8, sites: usize, tries: u8, depth: usize) -> bool
+    ensures { λ r. ⌜ r ≡ sizesIn version sites tries depth ⌝ }
+{
+    let most = sites_in(version);
+    (1 <= sites) & (sites <= most) & (1 <= tries) & (1 <= depth) & (depth <= base::QUEUE)
+}
+
+// Whether a channel stands for an input of a network with so many sites: it is below 4S.
+pub fn is_input(channel: u16, sites: usize) -> bool
+    ensures { λ r. ⌜ r ≡ ltb channel (portCount * sites) ⌝ }
+{
+    base::wider(channel) / base::PORTS < sites
+}
+
+// No channel but none and the inputs of the network, and no input fed twice.
 fn channels_ok(network: Network) -> bool
     requires { ⌜ network .sites ≤ sitesMost ⌝ }
     ensures { λ r. ⌜ r ≡ channelsOk network ⌝ }
@@ -35,13 +59,13 @@ fn channels_ok(network: Network) -> bool
     let mut fed = [false; base::PORTS * base::SITES];
     let mut c: usize = 0;
     while c < end {
-        let byte = channels[c];
-        if byte == base::NO_CHANNEL {
+        let channel = channels[c];
+        if channel == base::NO_CHANNEL {
             c += 1;
             continue;
         }
-        if is_input(byte, sites) {
-            let input = base::wide(byte);
+        if is_input(channel, sites) {
+            let input = base::wider(channel);
             if fed[input] {
                 return false;
             }
@@ -143,11 +167,11 @@ fn routes_ok(network: Network) -> bool
     true
 }
 
-// 3 for S, T or D outside its limits, 6 for the channels, 7 for the routes, 0 for a valid network.
-pub fn network_refusal(network: Network) -> u8
-    ensures { λ r. ⌜ r ≡ networkRefusal network ⌝ }
+// 3 for S, T or D outside its limits, 6 for the channels, 7 for the routes, else 0.
+fn parts_refusal(network: Network) -> u8
+    ensures { λ r. ⌜ r ≡ partsRefusal network ⌝ }
 {
-    if sizes_ok(network.sites, network.tries, network.depth) {
+    if sizes_ok(network.version, network.sites, network.tries, network.depth) {
         if channels_ok(network) {
             if routes_ok(network) {
                 return 0;
@@ -157,4 +181,15 @@ pub fn network_refusal(network: Network) -> u8
         return 6;
     }
     3
+}
+
+// 2 for the version, 17 for the edition, then 3, 6 and 7; 0 for a valid network.
+pub fn network_refusal(network: Network) -> u8
+    ensures { λ r. ⌜ r ≡ networkRefusal network ⌝ }
+{
+    let kind = kind_refusal(network.version, network.edition);
+    if kind != 0 {
+        return kind;
+    }
+    parts_refusal(network)
 }

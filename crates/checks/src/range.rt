@@ -1,4 +1,4 @@
-// Is this state in range for this network: the refusal 13; with the network's own 3, 6 and 7 these are the refusals
+// Is this state in range for this network: the refusal 13; with the network's own 2, 17, 3, 6 and 7 these are the refusals
 // that SEND and RUN share. Every place of every site is looked at, also room beyond a queue's count and beyond S; a place is
 // tested as an empty one or as a used one. Takes any network and any state.
 mod phases;
@@ -104,7 +104,7 @@ pub fn is_in_range(network: Network, state: State) -> bool
     ok
 }
 
-// The refusals that SEND and RUN share: 3, 6, 7 of the network, 13 for a state that is not in range, else 0.
+// The refusals that SEND and RUN share: 2, 17, 3, 6, 7 of the network, 13 for a state that is not in range, else 0.
 pub fn event_refusal(network: Network, state: State) -> u8
     ensures { λ r. ⌜ r ≡ refusalThen network state 0 ⌝ }
 {

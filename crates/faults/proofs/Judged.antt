@@ -10,28 +10,29 @@ use Rattle.base.specs.All.{all}
 use Rattle.model.specs.Network.{channelOk, channelsOk, routesOk}
 use Rattle.model.specs.Runs.{sendOk, sendsOk, bodyRefusal}
 use Rattle.format.specs.declared.Fault.{Fault}
-use Rattle.format.specs.Format.{at, sitesPlace, countPlace, networkOf, runOf}
+use Rattle.format.specs.Format.{sitesOf, countOf, networkOf, runOf}
 use Rattle.format.specs.Refusals.{headThen}
 use Rattle.format.specs.First.{first, Fails, found-at, none-found}
 use Rattle.format.specs.Faults.{numberedOk, faultOf}
 use Rattle.faults.proofs.HeadLaws.{read-head, read-body}
 use Rattle.faults.proofs.Held.{sites-held, count-held}
-use Rattle.faults.proofs.Places.{head-most, place-none, told}
+use Rattle.faults.proofs.Parts.{Placeless, placeless-low, head-placeless, place-none, told}
 use Rattle.faults.proofs.Rows.{routes-numbered}
-use Rattle.faults.proofs.Theorems.{fault-6, fault-7, fault-8}
+use Rattle.faults.proofs.Theorems.{body-of, fault-6, fault-7, fault-8}
 
 -- the head's refusal f
 pub at-head : (b : List ℕ) (f : ℕ) → f ≡ headThen b 0 → (f ≡ 0 → ⊥)
     → _≡_ {A = Fault} (record { refusal = f; place = 0 }) (faultOf b)
-at-head b f e h = sym (told b f 0 (sym (read-head b f e h)) (place-none f (runOf b) (omega (arith, e, head-most b))))
+at-head b f e h =
+    let none : Placeless f = subst Placeless (sym e) (head-placeless b) in
+    sym (told b f 0 (sym (read-head b f e h)) (place-none f (runOf b) none))
 
 -- all three good
 nothing-wrong : (b : List ℕ) → channelsOk (networkOf b) ≡ true → routesOk (networkOf b) ≡ true → sendsOk (runOf b) ≡ true
     → 0 ≡ bodyRefusal (runOf b)
-unfolding bodyRefusal runOf
-nothing-wrong b cs rs s = rw (cs, rs, s) refl
+nothing-wrong b cs rs s = sym (body-of b ∙ (rw (cs, rs, s) refl))
 
-module _ (b : List ℕ) (h : headThen b 0 ≡ 0) (S : ℕ) (eS : S ≡ at b sitesPlace) where
+module _ (b : List ℕ) (h : headThen b 0 ≡ 0) (S : ℕ) (eS : S ≡ sitesOf b) where
   sites : S ≡ networkOf b .sites
   sites = sites-held b S eS
 
@@ -65,7 +66,7 @@ module _ (b : List ℕ) (h : headThen b 0 ≡ 0) (S : ℕ) (eS : S ≡ at b site
 
     -- ---- the sends
 
-    module _ (rs : routesOk (networkOf b) ≡ true) (N : ℕ) (eN : N ≡ at b countPlace) where
+    module _ (rs : routesOk (networkOf b) ≡ true) (N : ℕ) (eN : N ≡ countOf b) where
       count : N ≡ runOf b .count
       count = count-held b N eN
 
@@ -79,4 +80,5 @@ module _ (b : List ℕ) (h : headThen b 0 ≡ 0) (S : ℕ) (eS : S ≡ at b site
         at-nothing l =
             let a = none-found (sendOk (runOf b)) N c e l in
             let s : sendsOk (runOf b) ≡ true = subst (λ (k : ℕ). all (sendOk (runOf b)) k ≡ true) count a in
-            sym (told b 0 0 (sym (read-body b (headThen b 0) 0 refl h (nothing-wrong b cs rs s))) (place-none 0 (runOf b) (omega arith)))
+            let given = read-body b (headThen b 0) 0 refl h (nothing-wrong b cs rs s) in
+            sym (told b 0 0 (sym given) (place-none 0 (runOf b) (placeless-low 0 (omega arith))))

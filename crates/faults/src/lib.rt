@@ -6,11 +6,18 @@ ghost use mathlib.Core.Path.{_≡_};
 ghost use Rattle.format.specs.Faults.{faultOf};
 
 mod head;
+mod places;
 mod search;
 mod tests;
 
 pub use format::Fault;
-pub use head::size_of;
+pub use places::channel_of;
+pub use places::channel_place;
+pub use places::edition_of;
+pub use places::fields_place;
+pub use places::routes_place;
+pub use places::send_place;
+pub use places::size_of;
 
 fn fault(refusal: u8, place: usize) -> Fault
     ensures { λ r. ⌜ r ≡ record { refusal = refusal; place = place } ⌝ }
@@ -29,17 +36,19 @@ pub fn find(bytes: &[u8]) -> Fault
     if refusal != 0 {
         return fault(refusal, 0);
     }
-    let sites = base::wide(bytes[3]);
-    let channel = search::first_channel(bytes, sites);
+    let version = bytes[2];
+    let p = fields_place(version);
+    let sites = base::wide(bytes[p]);
+    let channel = search::first_channel(bytes, version, sites);
     if channel < base::PORTS * sites {
         return fault(6, channel);
     }
-    let route = search::first_route(bytes, sites);
+    let route = search::first_route(bytes, version, sites);
     if route < sites * sites {
         return fault(7, route);
     }
-    let sends = base::wide(bytes[12]);
-    let send = search::first_send(bytes, sites, sends);
+    let sends = base::wide(bytes[p + 9]);
+    let send = search::first_send(bytes, version, sites, sends);
     if send < sends {
         return fault(8, send);
     }

@@ -1,4 +1,4 @@
--- Computed examples of the definitions: the document's run R both ways, its bounds, and an archive for each refusal that
+-- Computed examples of the definitions in version 1: the document's run R both ways, its bounds, and an archive for each refusal that
 -- it alone gives, with some where several hold and the lowest number is due. Assumes nothing.
 use mathlib.Core.Path.{_≡_, refl}
 use mathlib.Core.List.{List, [], _∷_, _++_, map}
@@ -74,7 +74,7 @@ pub read-1 : map readRefusal (bytesR ∷ take 23 bytesR ∷ take 12 bytesR ∷ [
 unfolding readRefusal headThen bodyRefusal runOf networkOf over all
 read-1 = refl
 
-pub read-2 : map readRefusal (one 2 0 ∷ one 2 2 ∷ two 2 0 3 0 ∷ []) ≡ 2 ∷ 2 ∷ 2 ∷ []
+pub read-2 : map readRefusal (one 2 0 ∷ one 2 3 ∷ one 2 255 ∷ two 2 0 3 0 ∷ []) ≡ 2 ∷ 2 ∷ 2 ∷ 2 ∷ []
 unfolding readRefusal headThen bodyRefusal runOf networkOf over all
 read-2 = refl
 
@@ -150,11 +150,11 @@ abbrev counted : ℕ → ℕ → Run
 counted x n = record { network = runR .network; seed = x; draws = 2; count = n; sends = runR .sends }
 
 -- rooms of 24 and 25 bytes are enough, 23 and 0 give 14; seed 0 stands before 256 sends, these before the room, and
--- the largest count is turned down too
+-- the largest count is turned down too; the all-zero run has version 0
 pub write-refusals : (writeRefusal runR 24 ∷ writeRefusal runR 25 ∷ writeRefusal runR 23 ∷ writeRefusal runR 0 ∷ [])
     ++ (writeRefusal (counted 0 256) 0 ∷ writeRefusal (counted 1 256) 0 ∷ writeRefusal
     (counted 1 18446744073709551615) 9999 ∷ writeRefusal noRun 0 ∷ [])
-    ≡ 0 ∷ 0 ∷ 14 ∷ 14 ∷ 4 ∷ 5 ∷ 5 ∷ 3 ∷ []
+    ≡ 0 ∷ 0 ∷ 14 ∷ 14 ∷ 4 ∷ 5 ∷ 5 ∷ 2 ∷ []
 unfolding writeRefusal storedRefusal bodyRefusal all
 write-refusals = refl
 

@@ -1,3 +1,4 @@
 -- Computed tables of the definitions.
 pub mod Examples
+pub mod WideExamples
 pub mod FaultExamples

@@ -1,4 +1,4 @@
-// The archive's format, version 1: what reader and writer answer, and where an archive is at fault. specs/Format.antt has
+// The archive's format, versions 1 and 2: what reader and writer answer, and where an archive is at fault. specs/Format.antt has
 // the bytes, specs/Refusals.antt the refusals and what stands beside them, specs/Faults.antt the place of a fault;
 // proofs/Examples.antt computes the first two on document 01's run R, its bounds and an archive for each refusal,
 // proofs/FaultExamples.antt the third. The code is in the crates archive and faults.

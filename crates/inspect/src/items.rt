@@ -1,35 +1,42 @@
 // Words for the first channel, route or send at fault: refusals 6 to 8. Each adds to a line.
 use crate::held;
-use front::VALUES;
 use front::fill;
 
 // 6: channel m, which leads to an input that a channel before it feeds, or to no input of the network.
 pub fn add_channel(text: &mut [u8], at: usize, b: &[u8], m: usize) -> usize {
-    let byte = held::channel(b, m);
-    let numbers = [
-        m / base::PORTS,
-        m % base::PORTS + 1,
-        13 + m % 256,
-        byte,
-        0,
-        0,
-    ];
-    let channel = fill(
-        text,
-        at,
-        b"the channel of site %, port %, byte %, ",
-        numbers,
-    );
+    let channel = held::channel(b, m);
+    let told = add_port(text, at, b, m);
     let end = base::PORTS * held::sites(b);
-    if byte < end {
-        return add_fed(text, channel, byte, first_to(b, byte));
+    let input = base::wider(channel);
+    if input < end {
+        return add_fed(text, told, input, first_to(b, channel));
     }
-    add_beyond(text, channel, byte, end)
+    add_beyond(text, told, input, end)
 }
 
-// Input `byte`, which the channel `other` feeds.
-fn add_fed(text: &mut [u8], at: usize, byte: usize, other: usize) -> usize {
-    let numbers = [byte, other / base::PORTS, other % base::PORTS + 1, 0, 0, 0];
+// Channel m: its site, its port, and where it stands.
+fn add_port(text: &mut [u8], at: usize, b: &[u8], m: usize) -> usize {
+    let place = held::channel_place(b, m);
+    let numbers = [m / base::PORTS, m % base::PORTS + 1, place, place + 1, 0, 0];
+    if held::version(b) == 1 {
+        return fill(
+            text,
+            at,
+            b"the channel of site %, port %, byte %, ",
+            numbers,
+        );
+    }
+    fill(
+        text,
+        at,
+        b"the channel of site %, port %, bytes % and %, ",
+        numbers,
+    )
+}
+
+// An input that the channel `other` feeds.
+fn add_fed(text: &mut [u8], at: usize, input: usize, other: usize) -> usize {
+    let numbers = [input, other / base::PORTS, other % base::PORTS + 1, 0, 0, 0];
     fill(
         text,
         at,
@@ -39,19 +46,19 @@ fn add_fed(text: &mut [u8], at: usize, byte: usize, other: usize) -> usize {
 }
 
 // No input: there are those below `end`.
-fn add_beyond(text: &mut [u8], at: usize, byte: usize, end: usize) -> usize {
+fn add_beyond(text: &mut [u8], at: usize, input: usize, end: usize) -> usize {
     let sites = end / base::PORTS;
-    let numbers = [byte, sites, base::one_less(end), 0, 0, 0];
+    let numbers = [input, sites, base::one_less(end), 0, 0, 0];
     if sites < 2 {
         return fill(text, at, b"is %, and 1 site has inputs 0 to 3", numbers);
     }
     fill(text, at, b"is %, and % sites have inputs 0 to %", numbers)
 }
 
-// The first channel with this byte.
-fn first_to(b: &[u8], byte: usize) -> usize {
+// The first channel to this input.
+fn first_to(b: &[u8], channel: u16) -> usize {
     for m in 0usize..base::PORTS * base::SITES {
-        if held::channel(b, m) == byte {
+        if held::channel(b, m) == channel {
             return m;
         }
     }
@@ -166,7 +173,7 @@ fn is_loose(b: &[u8], from: usize, port: usize) -> bool {
     if port == 0 {
         return false;
     }
-    held::channel(b, base::PORTS * (from % base::SITES) + (port - 1) % 4) == 255
+    held::channel(b, base::PORTS * (from % base::SITES) + (port - 1) % 4) == base::NO_CHANNEL
 }
 
 // The first of four that holds; 4 if none does.
@@ -197,28 +204,32 @@ pub fn add_send(text: &mut [u8], at: usize, b: &[u8], m: usize) -> usize {
         let from = fill(text, at, b"send %, byte %, is from site %", numbers);
         return add_sites(text, from, sites);
     }
-    let set = held::word_at(b, place + 3);
+    let set = held::set_of(b, m);
     let beyond = first_beyond(set, sites);
     if set == 0 || beyond < base::SITES {
-        let numbers = [m, place + 3, place + 4, beyond, 0, 0];
-        return add_targets(text, at, set, sites, numbers);
+        let begun = add_set_place(text, at, b, m);
+        return add_targets(text, begun, set, sites, beyond);
     }
     add_draw(text, at, b, m)
 }
 
-// A set that is empty, or has a site that is none.
-fn add_targets(
-    text: &mut [u8],
-    at: usize,
-    set: usize,
-    sites: usize,
-    numbers: [usize; VALUES],
-) -> usize {
-    let has = fill(text, at, b"send %, bytes % and %, ", numbers);
-    if set == 0 {
-        return report::add_bytes(text, has, b"has an empty set");
+// Send m, and where its set stands.
+fn add_set_place(text: &mut [u8], at: usize, b: &[u8], m: usize) -> usize {
+    let place = held::send_place(b, m) + 3;
+    if held::version(b) == 1 {
+        let numbers = [m, place, place + 1, 0, 0, 0];
+        return fill(text, at, b"send %, bytes % and %, ", numbers);
     }
-    let to = fill(text, has, b"goes to site %", [numbers[3], 0, 0, 0, 0, 0]);
+    let numbers = [m, place, place + 7, 0, 0, 0];
+    fill(text, at, b"send %, bytes % to %, ", numbers)
+}
+
+// A set that is empty, or has the site `beyond`, which is none.
+fn add_targets(text: &mut [u8], at: usize, set: usize, sites: usize, beyond: usize) -> usize {
+    if set == 0 {
+        return report::add_bytes(text, at, b"has an empty set");
+    }
+    let to = fill(text, at, b"goes to site %", [beyond, 0, 0, 0, 0, 0]);
     add_sites(text, to, sites)
 }
 

@@ -121,7 +121,8 @@ fn add_head_fault(line: &mut [u8], at: usize, b: &[u8], refusal: u8) -> usize {
         1 => heads::add_short(line, at, b),
         2 => heads::add_version(line, at, b),
         3 => heads::add_limit(line, at, b),
-        4 => heads::add_seed(line, at),
+        4 => heads::add_seed(line, at, b),
+        17 => heads::add_edition(line, at, b),
         _ => heads::add_size(line, at, b),
     }
 }

@@ -92,9 +92,10 @@ stray-leaving : repacked 10 0 3 ≡ 1
 unfolding repacked outEntryWord outEntryFrom
 stray-leaving = refl
 
--- ---- places: 27 of a site, two words each; the counter's word is the last of 865
+-- ---- places: 27 of a site, two words each; the counter's word is the last of 3,457
 places : outputsFrom ∷ leavingFrom ∷ arrivedFrom ∷ countsPlace ∷ [] ≡ 5 ∷ 10 ∷ 18 ∷ 26 ∷ []
 places = refl
 
-indices : setIndex 0 1 ∷ fieldsIndex 0 1 ∷ setIndex 1 0 ∷ fieldsIndex 15 26 ∷ counterAt ∷ wordCount ∷ [] ≡ 2 ∷ 3 ∷ 54 ∷ 863 ∷ 864 ∷ 865 ∷ []
+indices : setIndex 0 1 ∷ fieldsIndex 0 1 ∷ setIndex 1 0 ∷ fieldsIndex 63 26 ∷ counterAt ∷ wordCount ∷ []
+    ≡ 2 ∷ 3 ∷ 54 ∷ 3455 ∷ 3456 ∷ 3457 ∷ []
 indices = refl

@@ -42,11 +42,11 @@ setIndex s k = 2 * (sitePlaces * s + k)
 abbrev pub fieldsIndex : ℕ → ℕ → ℕ
 fieldsIndex s k = 2 * (sitePlaces * s + k) + 1
 
--- the net-inputs that a channel may end at: a channel's byte is below this
+-- the net-inputs that a channel may end at: a channel is below this
 abbrev pub endCount : ℕ
 endCount = portCount * sitesMost
 
--- where a channel with the byte b ends: the site, and the net-input there
+-- where the channel b ends: the site, and the net-input there
 abbrev pub endSite : ℕ → ℕ
 endSite b = b / portCount
 

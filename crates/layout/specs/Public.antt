@@ -27,18 +27,18 @@ ofRan w = record { answer = w .answer; words = wordsOf (w .state) }
 abbrev pub ofSent : AfterSend → SentWords
 ofSent w = record { answer = w .answer; words = wordsOf (w .state) }
 
--- words that are no state's: the network's own 3, 6, 7, then 13
+-- words that are no state's: the network's own 2, 17, 3, 6, 7, then 13
 abbrev pub formRefusal : Network → ℕ
 formRefusal n = orNext (networkRefusal n) 13
 
--- RUN (s, code) and SEND (s, X) on the words c, with all their refusals: 3, 6, 7, 13, 9, and for SEND 10, 12, 11
+-- RUN (s, code) and SEND (s, X) on the words c, with all their refusals: 2, 17, 3, 6, 7, 13, 9, and for SEND 10, 12, 11
 unfoldable pub ranWords : Network → List ℕ → ℕ → ℕ → RanWords
 ranWords n c s code = cond (isState c) (ofRan (ran n (stateOf c) s code)) (record { answer = RunRefused (formRefusal n); words = c })
 
 unfoldable pub sentWords : Network → List ℕ → ℕ → ℕ → SentWords
 sentWords n c s X = cond (isState c) (ofSent (sent n (stateOf c) s X)) (record { answer = SendRefused (formRefusal n); words = c })
 
--- the refusals that both share: 3, 6, 7 of the network; 13 for words that are no state's, or of a state that is not in range; else 0
+-- the refusals that both share: 2, 17, 3, 6, 7 of the network; 13 for words that are no state's, or of a state that is not in range; else 0
 unfoldable pub sharedRefusal : Network → List ℕ → ℕ
 sharedRefusal n c = orNext (networkRefusal n) (cond (isState c && inRange n (stateOf c)) 0 13)
 

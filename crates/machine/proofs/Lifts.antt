@@ -49,7 +49,7 @@ module _ (n : Network) (s : ℕ) (x : Site) where
   -- an output j with the input at the end of its channel
   abbrev onward : ℕ → ChannelTurn → Change
   onward j r =
-      cond (r .changed) (record { site = setOut x j (r .output); input = r .input; byte = channel n s j; act = didPass }) (unchanged x)
+      cond (r .changed) (record { site = setOut x j (r .output); input = r .input; channel = channel n s j; act = didPass }) (unchanged x)
 
   pub channel-took : (j : ℕ) (a : Output) (b : Input) (t : Turn Output Input) {r : ChannelTurn} → r ≡ ofChannelTurn a b t
       → onward j r ≡ ofAct n s x (passTurn x j t)
@@ -60,7 +60,7 @@ module _ (n : Network) (s : ℕ) (x : Site) where
   abbrev worked : OperatorTurn → Change
   worked r =
       let z = withOutQueue (withInQueue x (r .incoming)) (r .outgoing) in
-      cond (r .changed) (cond (r .serviced) (record { site = z; input = noInput; byte = 0; act = didServe (r .packet) }) (changed z))
+      cond (r .changed) (cond (r .serviced) (record { site = z; input = noInput; channel = 0; act = didServe (r .packet) }) (changed z))
       (unchanged x)
 
   pub work-took : (a : InQueue) (b : OutQueue) (w : Work) {r : OperatorTurn} → r ≡ ofWork a b w → worked r ≡ ofAct n s x (workDone x w)

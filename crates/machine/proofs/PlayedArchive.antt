@@ -17,12 +17,12 @@ use Rattle.model.specs.Owing.{owed}
 use Rattle.model.specs.Runs.{Service, bookBytes, inBook, inEntries, events, storedRefusal, script, playedRun}
 use Rattle.theorems.proofs.Played.{played-once}
 use Rattle.theorems.proofs.PlayerCounts.{counts}
-use Rattle.format.specs.Format.{at, countPlace, runOf}
+use Rattle.format.specs.Format.{countOf, runOf}
 use Rattle.format.specs.Refusals.{readRefusal, decode}
 use Rattle.machine.specs.Play.{playRefusal, playAnswer, playBook}
 use Rattle.machine.proofs.PlayerAnswers.{archive-passes, read-refusal, read-run, read-count, read-stored}
 
-module _ (b : List ℕ) (room : ℕ) (byte : at b countPlace < 256) (z : playRefusal b room ≡ 0) where
+module _ (b : List ℕ) (room : ℕ) (byte : countOf b < 256) (z : playRefusal b room ≡ 0) where
   is-archive : readRefusal b ≡ 0
   is-archive = archive-passes b room z
 
@@ -67,7 +67,7 @@ entries-book p t (e ∷ l) rest =
 
 -- demand 3 over what a caller gets: among the first `serviced` entries of the lent room those with packet byte p and site byte t,
 -- and what the final state still owes
-pub book-once : (b lent : List ℕ) → at b countPlace < 256 → playRefusal b (length lent) ≡ 0 → (p t : ℕ)
+pub book-once : (b lent : List ℕ) → countOf b < 256 → playRefusal b (length lent) ≡ 0 → (p t : ℕ)
     → inEntries p t (playBook b lent) (playAnswer b (length lent) .counts .serviced) + owed (playedRun (runOf b) .state .sites) p t
     ≡ bit t (acceptedSet (runOf b .network) noState (events (script (runOf b))) p)
 unfolding playBook playAnswer atFront

@@ -14,7 +14,7 @@ use Rattle.types.specs.declared.Run.{Run}
 use Rattle.model.specs.Types.{sendD}
 use Rattle.model.specs.Runs.{storedRefusal, noSends, bookRoom, playedRun, countsOf}
 use Rattle.format.specs.declared.Decoded.{Decoded}
-use Rattle.format.specs.Format.{runOf, sendOf, sendsPlace, at, sitesPlace, countPlace, noRun}
+use Rattle.format.specs.Format.{runOf, sendOf, sendWidth, sendsPlace, versionOf, sitesOf, countOf, noRun}
 use Rattle.format.specs.Refusals.{readRefusal, decode}
 use Rattle.archive.proofs.Passed.{stored-read}
 use Rattle.machine.specs.Play.{playRefusal, noCounts, playAnswer, bookIn, playBook, bookSpace, Playable, startOf}
@@ -61,13 +61,14 @@ module _ (b : List ℕ) where
       unfolding runOf
       read-long =
           rw read-run
-          (length-over (λ k. sendOf b (sendsPlace (at b sitesPlace) + 5 * k)) (at b countPlace) noSends
+          (length-over (λ k. sendOf (versionOf b) b (sendsPlace (versionOf b) (sitesOf b) + sendWidth (versionOf b) * k))
+          (countOf b) noSends
           ∙ length-replicate sendsMost sendD)
 
       -- it has so many sends as a byte says
-      pub read-count : at b countPlace < 256 → d .run .count ≤ sendsMost
+      pub read-count : countOf b < 256 → d .run .count ≤ sendsMost
       unfolding runOf
-      read-count h = let e : d .run .count ≡ at b countPlace = ap (λ (r : Run). r .count) read-run in omega (arith, e, h)
+      read-count h = let e : d .run .count ≡ countOf b = ap (λ (r : Run). r .count) read-run in omega (arith, e, h)
 
       pub read-stored : d .run .count ≤ sendsMost → storedRefusal (d .run) ≡ 0
       unfolding readRefusal runOf
@@ -75,7 +76,7 @@ module _ (b : List ℕ) where
           rw read-run (stored-read b passes (rw read-run at h))
 
       -- the room that is asked for is its book's
-      pub read-room : at b countPlace < 256 → {k : ℕ} → k ≡ bookSpace (d .run .sends) (d .run .count) → k ≡ bookRoom (d .run)
+      pub read-room : countOf b < 256 → {k : ℕ} → k ≡ bookSpace (d .run .sends) (d .run .count) → k ≡ bookRoom (d .run)
       read-room h e =
           let few = read-count h in
           e ∙ space-is (d .run .sends) (d .run .count) few ∙ room-is (d .run) (omega (arith, few, read-long))
@@ -102,7 +103,7 @@ module _ (b : List ℕ) where
             let f = le-ltb room (bookRoom (runOf b)) (rw (read-run z) at h) in
             rw (passes z, f) (ap₂ told z (ap (λ (d : Decoded). d .run) e))
 
-        pub start-playable : at b countPlace < 256 → bookRoom (d .run) ≤ room → Playable (d .run) room
+        pub start-playable : countOf b < 256 → bookRoom (d .run) ≤ room → Playable (d .run) room
         start-playable h w = record { valid = read-stored z (read-count z h); held = read-long z; wide = w }
 
 -- ---- what a player answers, d being what it started from with so much room

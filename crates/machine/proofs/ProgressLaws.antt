@@ -5,11 +5,11 @@ use mathlib.Core.Path.{_≡_, refl, sym, ap, _∙_}
 use mathlib.Core.List.{List}
 use mathlib.Core.Bool.{true, false}
 use native.Mathlib.Omega.{arith}
-use borrow.Author.Tests.{ltb-true, leb-true, eqb-true}
-use lib.Dec.{eqb, ltb, leb}
+use borrow.Author.Tests.{ltb-true, eqb-true}
+use lib.Dec.{ltb}
 use lib.ListN.{length}
 use Rattle.base.specs.Sizes.{setBits, sendsMost}
-use Rattle.base.specs.Bools.{cond-ok, both, first-of, second-of}
+use Rattle.base.specs.Bools.{cond-ok, both}
 use Rattle.base.specs.Sums.{upto}
 use Rattle.draws.specs.Draws.{drawn, valueAfter}
 use Rattle.draws.proofs.Laws.{value-none, value-more}
@@ -20,10 +20,10 @@ use Rattle.types.specs.declared.AfterRun.{AfterRun}
 use Rattle.types.specs.declared.Sent.the-variants.{the-data as Sent, Accepted, Refused as SendRefused}
 use Rattle.types.specs.declared.Ran.the-variants.{the-data as Ran, Nothing, Changed, Serviced, Refused as RunRefused}
 use Rattle.model.specs.Types.{sendAt}
-use Rattle.model.specs.Network.{sizesOk, channelsOk, routesOk}
-use Rattle.model.specs.Runs.{sendsOk, bodyRefusal, storedRefusal, trySend}
+use Rattle.model.specs.Runs.{sendsOk, storedRefusal, trySend}
 use Rattle.machine.specs.Progress.{Progress, due, answered, sendTurn, drew, drawnRun, drawTurn, turned, progress}
 use Rattle.machine.specs.Progress.{entriesBy, bookBy, entries-most, book-length}
+use Rattle.theorems.proofs.SoundRuns.{sound}
 use Rattle.machine.proofs.PlayerRoom.{sizesTo, sizes-next, sizes-most}
 
 -- ---- a turn's two ways
@@ -43,14 +43,7 @@ turned-by P r p h k =
 -- ---- a valid run's sends: no more than it may have, and each as it should be
 
 pub stored-sends : (r : Run) → storedRefusal r ≡ 0 → (r .count ≤ sendsMost) × (sendsOk r ≡ true)
-unfolding storedRefusal bodyRefusal
-stored-sends r h =
-    let a = first-of (sizesOk (r .network)) _ 3 0 (λ e. omega arith) h in
-    let b = second-of (eqb (r .seed) 0) 4 _ 0 (λ e. omega arith) (a .1) in
-    let c = first-of (leb (r .count) sendsMost) _ 5 0 (λ e. omega arith) (b .1) in
-    let d = first-of (channelsOk (r .network)) _ 6 0 (λ e. omega arith) (c .1) in
-    let e = first-of (routesOk (r .network)) _ 7 0 (λ e. omega arith) (d .1) in
-    (leb-true _ _ (c .0), first-of (sendsOk r) 0 8 0 (λ e. omega arith) (e .1) .0)
+stored-sends r h = let k = sound r h in (k .count, k .sends)
 
 -- ---- what a RUN leaves of the book
 

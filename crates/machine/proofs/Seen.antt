@@ -149,20 +149,20 @@ module _ (n : Network) (val : Valid n) (s : ℕ) (x : Site) (hs : s < n .sites) 
       (λ h e. absurd (clash (sym e)))))))
 
 -- the channels of a valid network end within the sites
-pub valid-bytes : (n : Network) → Valid n → (s : ℕ) → s < n .sites → EndsWithin n s
-valid-bytes n val s hs j hj e = omega (arith, val .ends s j hs hj e, val .few)
+pub valid-ends : (n : Network) → Valid n → (s : ℕ) → s < n .sites → EndsWithin n s
+valid-ends n val s hs j hj e = omega (arith, val .ends s j hs hj e, val .few)
 
 -- ---- the far ends as the code reads them
 
--- y is read by the channel's byte b from the site u at its end
-pub end-seen : (n : Network) (xs : List Site) (s : ℕ) → EndsWithin n s → (j : ℕ) → j < 4 → {b : ℕ} → b ≡ channel n s (suc j) → {u : ℕ} → u ≡ b / 4 % 16
+-- y is read by the channel b from the site u at its end
+pub end-seen : (n : Network) (xs : List Site) (s : ℕ) → EndsWithin n s → (j : ℕ) → j < 4 → {b : ℕ} → b ≡ channel n s (suc j) → {u : ℕ} → u ≡ b / portCount % sitesMost
     → {y : Input} → y ≡ cond (isChannel b) (inAt (siteAt xs u) (endPort b)) noInput → y ≡ ends n xs s (suc j)
-end-seen n xs s within j hj {b = b} e {u = u} eu ey = ey ∙ go (isChannel b) refl ∙ ap byByte e
+end-seen n xs s within j hj {b = b} e {u = u} eu ey = ey ∙ go (isChannel b) refl ∙ ap byChannel e
   where
-    byByte : ℕ → Input
-    byByte b = cond (leb (suc j) portCount && isChannel b) (farEnd xs b) noInput
+    byChannel : ℕ → Input
+    byChannel b = cond (leb (suc j) portCount && isChannel b) (farEnd xs b) noInput
 
-    go : (t : Bool) → isChannel b ≡ t → cond t (inAt (siteAt xs u) (endPort b)) noInput ≡ byByte b
+    go : (t : Bool) → isChannel b ≡ t → cond t (inAt (siteAt xs u) (endPort b)) noInput ≡ byChannel b
     go true t =
         let low : b < portCount * sitesMost = omega (arith, e, within j hj (ap isChannel (sym e) ∙ t)) in
         let there : u ≡ b / 4 = omega (arith, eu, low) in

@@ -21,17 +21,17 @@ use Rattle.machine.specs.declared.step.Change.{Change}
 use Rattle.machine.specs.declared.store.Seen.{Seen}
 
 abbrev pub unchanged : Site → Change
-unchanged x = record { site = x; input = noInput; byte = 0; act = didNothing }
+unchanged x = record { site = x; input = noInput; channel = 0; act = didNothing }
 
 abbrev pub changed : Site → Change
-changed x = record { site = x; input = noInput; byte = 0; act = didOwn }
+changed x = record { site = x; input = noInput; channel = 0; act = didOwn }
 
 -- x is site s as it was
 abbrev pub ofAct : Network → ℕ → Site → Act → Change
 ofAct n s x Idle = unchanged x
 ofAct n s x (Own z) = changed z
-ofAct n s x (Serve z q) = record { site = z; input = noInput; byte = 0; act = didServe q }
-ofAct n s x (Pass z j y) = record { site = z; input = y; byte = channel n s j; act = didPass }
+ofAct n s x (Serve z q) = record { site = z; input = noInput; channel = 0; act = didServe q }
+ofAct n s x (Pass z j y) = record { site = z; input = y; channel = channel n s j; act = didPass }
 
 -- of the ports 1 to 4, as arrays: the inputs at the ends of the channels, and which have one
 abbrev pub farAt : List Input → ℕ → Input
@@ -90,7 +90,7 @@ isPass didPass = true
 
 -- an input that is passed on has a place
 abbrev pub Passable : Change → Type 0
-Passable c = isPass (c .act) ≡ true → c .byte < portCount * sitesMost
+Passable c = isPass (c .act) ≡ true → c .channel < portCount * sitesMost
 
 -- the site stored, and the two stores of an input passed on
 abbrev pub owned : State → ℕ → Site → State
@@ -103,7 +103,7 @@ passed st s x b y = record { sites = setFar (setSite (st .sites) s x) b y; count
 abbrev pub storedState : State → ℕ → Change → State
 storedState st s c =
     cond (isIdle (c .act)) st
-    (cond (isPass (c .act)) (passed st s (c .site) (c .byte) (c .input)) (owned st s (c .site)))
+    (cond (isPass (c .act)) (passed st s (c .site) (c .channel) (c .input)) (owned st s (c .site)))
 
 abbrev pub answerTo : Did → ℕ → Ran
 answerTo didNothing s = Nothing

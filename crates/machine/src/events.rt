@@ -1,4 +1,4 @@
-// Single SEND and RUN, with their refusals 3, 6, 7, 13, 9, 10, 12, 11, and the empty state.
+// Single SEND and RUN, with their refusals 2, 17, 3, 6, 7, 13, 9, 10, 12, 11, and the empty state.
 ghost use mathlib.Core.Path.{_≡_};
 ghost use mathlib.Core.Bool.{true};
 ghost use Prim.Native.Nat.{_<_, _≤_};

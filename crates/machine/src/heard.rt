@@ -11,11 +11,11 @@ use types::Input;
 use types::Network;
 use types::Output;
 
-// Whether a channel byte stands for a channel.
-pub(crate) fn is_channel(byte: u8) -> bool
-    ensures { λ r. ⌜ r ≡ net.isChannel byte ⌝ }
+// Whether there is a channel.
+pub(crate) fn is_channel(channel: u16) -> bool
+    ensures { λ r. ⌜ r ≡ net.isChannel channel ⌝ }
 {
-    byte != base::NO_CHANNEL
+    channel != base::NO_CHANNEL
 }
 
 // Whether output 0 is ready: in use with its head taken.
@@ -25,8 +25,8 @@ fn is_ready(output: Output) -> bool
     output.used & output.head & true
 }
 
-// The byte of the channel of output j + 1 of site s.
-pub(crate) fn channel_byte(network: Network, s: usize, j: usize) -> u8
+// The channel of output j + 1 of site s.
+pub(crate) fn channel_at(network: Network, s: usize, j: usize) -> u16
     requires { ⌜ (s < sitesMost) × (j < portCount) ⌝ }
     ensures { λ r. ⌜ r ≡ net.channel network s (suc j) ⌝ }
 {
@@ -39,8 +39,8 @@ fn is_joined(network: Network, s: usize, j: usize) -> bool
     requires { ⌜ (s < sitesMost) × (j < portCount) ⌝ }
     ensures { λ r. ⌜ r ≡ net.joined network s (suc j) ⌝ }
 {
-    let byte = channel_byte(network, s, j);
-    is_channel(byte)
+    let channel = channel_at(network, s, j);
+    is_channel(channel)
 }
 
 // Which of the outputs 1 to 4 of site s have a channel.

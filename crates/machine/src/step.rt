@@ -7,7 +7,7 @@ ghost use Rattle.model.specs.Types as spec;
 ghost use Rattle.model.specs.Steps as steps;
 ghost use Rattle.machine.specs.Step.{ofAct, unchanged, changed, farAt, Runnable};
 ghost use Rattle.rules.specs.Acts.{inputAct, localAct, channelAct, queueAct, operatorAct, timeoutAct};
-use crate::heard::channel_byte;
+use crate::heard::channel_at;
 use crate::heard::ends_there;
 use crate::heard::is_channel;
 use crate::heard::ready_outputs;
@@ -30,11 +30,11 @@ pub enum Act {
     Pass,
 }
 
-// The act, the site after it, and where a far input changes that input after it, with the byte of its channel.
+// The act, the site after it, and where a far input changes that input after it, with its channel.
 pub struct Change {
     pub site: Site,
     pub input: Input,
-    pub byte: u8,
+    pub channel: u16,
     pub act: Act,
 }
 
@@ -44,7 +44,7 @@ fn stays(site: Site) -> Change
     Change {
         site,
         input: free_input(),
-        byte: 0,
+        channel: 0,
         act: Act::Idle,
     }
 }
@@ -55,7 +55,7 @@ fn owns(site: Site) -> Change
     Change {
         site,
         input: free_input(),
-        byte: 0,
+        channel: 0,
         act: Act::Own,
     }
 }
@@ -119,8 +119,8 @@ fn channel_step(
 {
     let output = site.outputs[j + 1];
     let input = far[j];
-    let byte = channel_byte(network, s, j);
-    let there = is_channel(byte);
+    let channel = channel_at(network, s, j);
+    let there = is_channel(channel);
     let turn = channel_output(there, output, input);
     let now = turn.output;
     let after = turn.input;
@@ -130,7 +130,7 @@ fn channel_step(
         return Change {
             site: next,
             input: after,
-            byte,
+            channel,
             act: Act::Pass,
         };
     }
@@ -171,7 +171,7 @@ fn operator_step(network: Network, s: usize, site: Site) -> Change
             return Change {
                 site: next,
                 input: free_input(),
-                byte: 0,
+                channel: 0,
                 act: Act::Serve(turn.packet),
             };
         }

@@ -8,7 +8,7 @@ ghost use Rattle.base.specs.Sizes.{sitesMost, portCount};
 ghost use Rattle.model.specs.Types.{noInput, inAt};
 ghost use Rattle.model.specs.Network.{isChannel, endPort};
 ghost use Rattle.machine.specs.Step.{seenAt, storedState, answerTo, passed, isIdle, isPass, EndsWithin, Passable};
-use crate::heard::channel_byte;
+use crate::heard::channel_at;
 use crate::heard::is_channel;
 use crate::step::Act;
 use crate::step::Change;
@@ -26,19 +26,19 @@ pub struct Seen {
 }
 
 // The site at the end of a channel; where there is no channel some site.
-fn end_site(byte: u8) -> usize
-    ensures { λ r. ⌜ r ≡ byte / portCount % sitesMost ⌝ }
+fn end_site(channel: u16) -> usize
+    ensures { λ r. ⌜ r ≡ channel / portCount % sitesMost ⌝ }
 {
-    (byte / 4) as usize % base::SITES
+    (channel / 4) as usize % base::SITES
 }
 
 // The input at the end of a channel, of the site there; a free one where there is no channel.
-fn end_of(site: Site, byte: u8) -> Input
-    ensures { λ r. ⌜ r ≡ cond (isChannel byte) (inAt site (endPort byte)) noInput ⌝ }
+fn end_of(site: Site, channel: u16) -> Input
+    ensures { λ r. ⌜ r ≡ cond (isChannel channel) (inAt site (endPort channel)) noInput ⌝ }
 {
     let inputs = site.inputs;
-    if is_channel(byte) {
-        let k = (byte % 4) as usize + 1;
+    if is_channel(channel) {
+        let k = (channel % 4) as usize + 1;
         return inputs[k];
     }
     free_input()
@@ -49,10 +49,10 @@ pub(crate) fn seen_at(network: Network, state: State, s: usize) -> Seen
     requires { ⌜ s < sitesMost ⌝ ∗ ⌜ EndsWithin network s ⌝ }
     ensures { λ r. ⌜ r ≡ seenAt network (state .sites) s ⌝ }
 {
-    let first = channel_byte(network, s, 0);
-    let second = channel_byte(network, s, 1);
-    let third = channel_byte(network, s, 2);
-    let fourth = channel_byte(network, s, 3);
+    let first = channel_at(network, s, 0);
+    let second = channel_at(network, s, 1);
+    let third = channel_at(network, s, 2);
+    let fourth = channel_at(network, s, 3);
     let site = state.sites[s];
     let a = state.sites[end_site(first)];
     let b = state.sites[end_site(second)];
@@ -69,14 +69,14 @@ pub(crate) fn seen_at(network: Network, state: State, s: usize) -> Seen
     }
 }
 
-// Site s becomes `site`, then the input at the end of the channel with this byte becomes `input`: it may be of that
+// Site s becomes `site`, then the input at the end of this channel becomes `input`: it may be of that
 // very site.
-fn pass_on(state: State, s: usize, site: Site, byte: u8, input: Input) -> State
-    requires { ⌜ (s < sitesMost) × (byte < portCount * sitesMost) ⌝ }
-    ensures { λ r. ⌜ r ≡ passed state s site byte input ⌝ }
+fn pass_on(state: State, s: usize, site: Site, channel: u16, input: Input) -> State
+    requires { ⌜ (s < sitesMost) × (channel < portCount * sitesMost) ⌝ }
+    ensures { λ r. ⌜ r ≡ passed state s site channel input ⌝ }
 {
-    let u = (byte / 4) as usize;
-    let k = (byte % 4) as usize + 1;
+    let u = (channel / 4) as usize;
+    let k = (channel % 4) as usize + 1;
     let mut next = state;
     next.sites[s] = site;
     let mut far = next.sites[u];
@@ -117,12 +117,12 @@ pub(crate) fn store_change(state: State, s: usize, change: Change) -> State
     let act = change.act;
     let site = change.site;
     let input = change.input;
-    let byte = change.byte;
+    let channel = change.channel;
     if is_idle(act) {
         return state;
     }
     if is_pass(act) {
-        return pass_on(state, s, site, byte, input);
+        return pass_on(state, s, site, channel, input);
     }
     let mut next = state;
     next.sites[s] = site;

@@ -5,6 +5,7 @@ pub mod AnswerCases
 pub mod RouterCases
 pub mod RangeCases
 pub mod RefusalCases
+pub mod WideCases
 pub mod Shown
 pub mod ReadyCases
 pub mod InputCases

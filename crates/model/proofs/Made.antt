@@ -9,16 +9,22 @@ use Rattle.model.specs.Types.{Network, StoredSend, Run as StoredRun, sen
 abbrev pub filled : {A : Type 0} → ℕ → A → List A → List A
 filled n x l = l ++ replicate (n - length l) x
 
--- S, T, D, the channels and the routes; the room behind them holds x and y
-abbrev pub netWith : ℕ → ℕ → ℕ → ℕ → ℕ → List ℕ → List ℕ → Network
-netWith x y S T D cs rs =
+-- version and edition, S, T, D, the channels and the routes; the room behind them holds x and y
+abbrev pub netIn : ℕ → ℕ → ℕ → ℕ → ℕ → ℕ → ℕ → List ℕ → List ℕ → Network
+netIn version edition x y S T D cs rs =
     record {
       sites = S;
       depth = D;
       tries = T;
+      version = version;
+      edition = edition;
       channels = filled (portCount * sitesMost) x cs;
       routes = filled (sitesMost * sitesMost) y rs;
     }
+
+-- the same in version 1 and edition 1
+abbrev pub netWith : ℕ → ℕ → ℕ → ℕ → ℕ → List ℕ → List ℕ → Network
+netWith x y S T D cs rs = netIn 1 1 x y S T D cs rs
 
 -- the same, no channel and no route behind them
 abbrev pub net : ℕ → ℕ → ℕ → List ℕ → List ℕ → Network

@@ -1,5 +1,5 @@
--- Document 01, the single events and their refusals, "single events 3, 6, 7, 13, 9, 10, 12, 11"; and what a list of events leaves
--- behind.
+-- Document 01, the single events and their refusals, "single events 3, 6, 7, 13, 9, 10, 12, 11", with
+-- L4's 2 and 17 before them; and what a list of events leaves behind.
 use Prim.Native.Nat.{ℕ, _+_}
 use mathlib.Core.List.{List, [], _∷_}
 use mathlib.Core.Bool.{Bool, cond, _&&_}
@@ -14,7 +14,7 @@ use Rattle.model.specs.Network.{networkRefusal}
 use Rattle.model.specs.Range.{inRange}
 use Rattle.model.specs.Steps.{run, enqueue}
 
--- the network's own refusals 3, 6, 7, then "13: state not in range", then those of the event
+-- the network's own refusals 2, 17, 3, 6, 7, then "13: state not in range", then those of the event
 abbrev pub refusalThen : Network → State → ℕ → ℕ
 refusalThen n st own = orNext (networkRefusal n) (cond (inRange n st) own 13)
 

@@ -1,23 +1,24 @@
--- Document 01, "Network and state": channels, route lists, and which networks are valid, as the refusal number 3, 6, 7 or none.
+-- Document 01, "Network and state", with document 02's L4: channels, route lists, and which networks are valid, as the refusal
+-- number 2, 17, 3, 6, 7 or none.
 use Prim.Native.Nat.{ℕ, zero, suc, _+_, _-_, _*_, _/_, _%_}
 use mathlib.Core.List.{List, [], _∷_}
 use mathlib.Core.Bool.{Bool, cond, not, _&&_, _||_}
 use lib.Dec.{eqb, ltb, leb}
 use lib.ListN.{getD, replicate}
-use Rattle.base.specs.Sizes.{sitesMost, portCount, queueRoom, noChannel}
+use Rattle.base.specs.Sizes.{sitesMost, firstSites, portCount, queueRoom, noChannel}
 use Rattle.base.specs.Bools.{implies}
 use Rattle.base.specs.All.{all}
 use Rattle.base.specs.Over.{over}
 use Rattle.model.specs.Types.{Network}
 
--- "per site and port 1..4 a channel byte, 255 for none, else 4 x site + port - 1 of the input": that of port j of site s;
--- "port 0 is local" and has none
-abbrev pub channelByte : Network → ℕ → ℕ
-channelByte n m = getD (n .channels) m 0
+-- "per site and port 1..4 a channel .., else 4 x site + port - 1 of the input", in memory "65535 for none": that of port j of
+-- site s; "port 0 is local" and has none
+abbrev pub channelAt : Network → ℕ → ℕ
+channelAt n m = getD (n .channels) m 0
 
 abbrev pub channel : Network → ℕ → ℕ → ℕ
 channel n s zero = noChannel
-channel n s (suc j) = channelByte n (portCount * s + j)
+channel n s (suc j) = channelAt n (portCount * s + j)
 
 -- whether such a byte stands for a channel, and whether port j of site s has one
 abbrev pub isChannel : ℕ → Bool
@@ -43,16 +44,37 @@ choices route = route / 4096 ∷ route / 256 % 16 ∷ route / 16 % 16 ∷ route 
 abbrev pub listOf : Network → ℕ → ℕ → List ℕ
 listOf n s t = choices (routeOf n s t)
 
--- "S sites, 1 to 16"; "T, 1 to 255" (a byte: at most 255); "D, 1 to 8"
-abbrev pub sizesOk : Network → Bool
-sizesOk n = leb 1 (n .sites) && leb (n .sites) sitesMost && leb 1 (n .tries) && leb 1 (n .depth) && leb (n .depth) queueRoom
+-- L4: "2 means neither 1 nor 2"
+abbrev pub versionOk : Network → Bool
+versionOk n = eqb (n .version) 1 || eqb (n .version) 2
 
--- "channel byte neither 255 nor below 4S, or an input fed twice" is what is turned down
+-- L4: "17, an edition unknown or not 1 in version 1": edition 1 is the only one, in both versions
+abbrev pub editionOk : Network → Bool
+editionOk n = eqb (n .edition) 1
+
+-- L4: "both precede 3": 2, 17, or what comes after them
+abbrev pub kindThen : Network → ℕ → ℕ
+kindThen n next = cond (versionOk n) (cond (editionOk n) next 17) 2
+
+-- "S sites, 1 to 16", L4: "Version 1 keeps its 16 sites", "3 allows 64 sites in version 2": the sites of a version at most
+abbrev pub sitesIn : ℕ → ℕ
+sitesIn version = cond (eqb version 1) firstSites sitesMost
+
+-- "S sites, 1 to 16", or 64; "T, 1 to 255" (a byte: at most 255); "D, 1 to 8"
+abbrev pub sizesOk : Network → Bool
+sizesOk n =
+    leb 1 (n .sites)
+    && leb (n .sites) (sitesIn (n .version))
+    && leb 1 (n .tries)
+    && leb 1 (n .depth)
+    && leb (n .depth) queueRoom
+
+-- "channel byte neither 255 nor below 4S, or an input fed twice" is what is turned down, 65535 for 255 in memory
 abbrev pub channelOk : Network → ℕ → Bool
 channelOk n m =
-    eqb (channelByte n m) noChannel
-    || ltb (channelByte n m) (portCount * n .sites)
-    && all (λ m′. not (eqb (channelByte n m′) (channelByte n m))) m
+    eqb (channelAt n m) noChannel
+    || ltb (channelAt n m) (portCount * n .sites)
+    && all (λ m′. not (eqb (channelAt n m′) (channelAt n m))) m
 
 abbrev pub channelsOk : Network → Bool
 channelsOk n = all (channelOk n) (portCount * n .sites)
@@ -85,9 +107,9 @@ routesOk n = all (λ s. all (routeOk n s) (n .sites)) (n .sites)
 abbrev pub joinsThen : Network → ℕ → ℕ
 joinsThen n next = cond (channelsOk n) (cond (routesOk n) next 7) 6
 
--- "3: S, T or D outside its limits"; 6; 7; 0 for a valid network
+-- 2; 17; "3: S, T or D outside its limits"; 6; 7; 0 for a valid network
 unfoldable pub networkRefusal : Network → ℕ
-networkRefusal n = cond (sizesOk n) (joinsThen n 0) 3
+networkRefusal n = kindThen n (cond (sizesOk n) (joinsThen n 0) 3)
 
 -- "Room beyond S sites .. belongs to no network ..: it is not looked at": a network with that room at zero, of which every test
 -- and every event says the same
@@ -103,6 +125,8 @@ trimmedNetwork n =
       sites = n .sites;
       depth = n .depth;
       tries = n .tries;
-      channels = over (channelByte n) (portCount * n .sites) noChannels;
+      version = n .version;
+      edition = n .edition;
+      channels = over (channelAt n) (portCount * n .sites) noChannels;
       routes = over (λ m. getD (n .routes) m 0) (n .sites * n .sites) noRoutes;
     }

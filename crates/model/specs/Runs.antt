@@ -14,7 +14,7 @@ use Rattle.model.specs.Types.{State, Network, StoredSend, Run as StoredR
 use Rattle.model.specs.Types.{AfterRun, Counts}
 use Rattle.model.specs.Types.{noState, sendD, sendAt}
 use Rattle.types.specs.Numbers.{answerOf, ranPacket, ranSite}
-use Rattle.model.specs.Network.{sizesOk, joinsThen, trimmedNetwork}
+use Rattle.model.specs.Network.{kindThen, sizesOk, joinsThen, trimmedNetwork}
 use Rattle.model.specs.Events.{Event, Send, Run, sendFault, runs, sends, ran, sent}
 use Rattle.model.specs.Owing.{owedPairs}
 
@@ -33,13 +33,15 @@ sendsOk R = all (sendOk R) (R .count)
 unfoldable pub bodyRefusal : StoredRun → ℕ
 bodyRefusal R = joinsThen (R .network) (cond (sendsOk R) 0 8)
 
--- "3: S, T or D outside its limits"; "4: seed 0"; "5: .. more than 255 sends"; then 6, 7, 8: the writer's order; 0 for a valid run
+-- 2, 17; "3: S, T or D outside its limits"; "4: seed 0"; "5: .. more than 255 sends"; then 6, 7, 8: the writer's order; 0 for a
+-- valid run
 unfoldable pub storedRefusal : StoredRun → ℕ
 storedRefusal R =
-    cond (sizesOk (R .network))
+    kindThen (R .network)
+    (cond (sizesOk (R .network))
     (cond (eqb (R .seed) 0) 4
     (cond (leb (R .count) sendsMost) (bodyRefusal R) 5))
-    3
+    3)
 
 -- "Room beyond S sites or N sends belongs to no network or run: it is not looked at, and the reader leaves it zero": a run with
 -- that room at zero

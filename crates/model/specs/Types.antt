@@ -8,7 +8,7 @@
 --   y  a net-input         i   its number, 0 to 4                ph a phase                 bs marks, one an output
 --   o  a net-output        j   its number, 0 to 4 (a port: 1 to 4)                          os a site's net-outputs
 --   oq an out-queue        u   an entry of it                    iq an in-queue             a  an entry of it
---   q  a place's packet    p   a packet that is asked for        X, Y  sets of sites        b  a channel's byte
+--   q  a place's packet    p   a packet that is asked for        X, Y  sets of sites        b  a channel's number
 --   c  a connection        r   what was received                 h  a terminator            f  a refusal's number
 --   m  a place in a list   l   a list                            g  how far a run has come
 --   e, es  events, and what stands for one: a stored send, a service

@@ -3,11 +3,11 @@ use libc::STDOUT_FILENO;
 use std::num::wrapping_add_u64;
 use types::Run;
 
-// The bytes of the longest archive.
-const MOST: usize = 13
-    + base::PORTS * base::SITES
+// The bytes of the longest archive, which is of version 2.
+const MOST: usize = 14
+    + 2 * base::PORTS * base::SITES
     + 2 * base::SITES * base::SITES
-    + 5 * base::SENDS;
+    + 11 * base::SENDS;
 // What a room is filled with before the writer gets it.
 const FILL: u8 = 165;
 

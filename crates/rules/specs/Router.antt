@@ -25,7 +25,8 @@ ofChoice Unserved = record { sets = unchosen; connection = Unicast; served = fal
 
 -- a network of S sites with these routes, all that the router reads of one
 abbrev pub routesOnly : ℕ → List ℕ → Network
-routesOnly S l = record { sites = S; depth = 0; tries = 0; channels = []; routes = l }
+routesOnly S l =
+    record { sites = S; depth = 0; tries = 0; version = 0; edition = 0; channels = []; routes = l }
 
 -- "Two or more targets": the rules after those for a single target, first the spread over the targets in Y
 abbrev pub spreadTargets : Network → ℕ → List Output → ℕ → ℕ → ModelChoice

@@ -108,7 +108,8 @@ seekTurn T i y os ch = ofInputTurn y os (seek T i y os (toChoice (ch .served) (c
 
 -- a net-input's rule in every state but seek, which asks a network
 abbrev pub noNetwork : Network
-noNetwork = record { sites = 0; depth = 0; tries = 0; channels = []; routes = [] }
+noNetwork =
+    record { sites = 0; depth = 0; tries = 0; version = 0; edition = 0; channels = []; routes = [] }
 
 unfoldable pub otherTurn : Input → List Output → (ℕ → Bool) → Turn Input (List Output)
 otherTurn y os isReady = cond (eqb (stateNumber (y .phase)) 1) Stay (netInput noNetwork 0 0 y os isReady)

@@ -13,6 +13,7 @@ use Rattle.checks.proofs.is_input as the-is-input
 use Rattle.checks.proofs.ports_by as the-ports-by
 use Rattle.checks.proofs.route_ok as the-route-ok
 use Rattle.checks.proofs.stored_ok as the-stored-ok
+use Rattle.checks.proofs.kind_refusal as the-kind-refusal
 
 pub network-refusal-settled : Settles the-network-refusal.ended (λ M. the-network-refusal.clauses) (λ M. the-network-refusal.spec)
 network-refusal-settled = settled (λ κs a x y p q. refl) (λ κs a x y p q i. (same p q i, x .1))
@@ -43,3 +44,6 @@ route-ok-settled = settled (λ κs a x y p q. refl) (λ κs a x y p q i. (same p
 
 pub stored-ok-settled : Settles the-stored-ok.ended (λ M. the-stored-ok.clauses) (λ M. the-stored-ok.spec)
 stored-ok-settled = settled (λ κs a x y p q. refl) (λ κs a x y p q i. (same p q i, x .1))
+
+pub kind-refusal-settled : Settles the-kind-refusal.ended (λ M. the-kind-refusal.clauses) (λ M. the-kind-refusal.spec)
+kind-refusal-settled = settled (λ κs a x y p q. refl) (λ κs a x y p q i. (same p q i, x .1))

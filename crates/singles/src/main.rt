@@ -1,13 +1,15 @@
 // Replays single events: reads the cases of docs/TESTING.md ('Single event cases: the text form') from standard input,
 // each with its own network and state, calls SEND or RUN, and writes `refusal answer packet site` and the state handed
-// back. `stdin` and `stdout` are the second model's, by its program `cases`.
+// back. A narrow case is of version 1 and has 16 sites; a wide one says version and edition and has 64. `stdin` and
+// `stdout` are the second model's, by its program `cases`.
 mod line;
 mod numbers;
 mod site;
 mod text;
 
 ghost use mathlib.Core.Path.{_≡_};
-ghost use Prim.Native.Nat.{_%_};
+ghost use Prim.Native.Nat.{_%_, _≤_};
+ghost use Rattle.base.specs.Sizes.{sitesMost};
 use site::NUMBERS;
 use text::Cursor;
 use text::PIECE;
@@ -32,50 +34,104 @@ fn short_of(n: u64) -> u16
     (n % 65536) as u16
 }
 
-// The network from S, T, D, the numbers of its channels and the numbers of its routes: four routes for each channel.
-fn network_of(
+// How a case begins: version and edition, S, T and D.
+struct Head {
+    version: u64,
+    edition: u64,
     sites: u64,
     tries: u64,
     depth: u64,
+    cursor: Cursor,
+}
+
+// A channel's number: in a narrow case a byte, 255 for none.
+fn channel_of(wide: bool, n: u64) -> u16 {
+    if wide {
+        return short_of(n);
+    }
+    let byte = site::byte_of(n);
+    if byte == 255 {
+        return base::NO_CHANNEL;
+    }
+    byte as u16
+}
+
+// The sites of a case's state.
+fn sites_of(wide: bool) -> usize
+    ensures { λ r. ⌜ r ≤ sitesMost ⌝ }
+{
+    if wide { base::SITES } else { base::FIRST_SITES }
+}
+
+// The network from its head, the numbers of its channels and the numbers of its routes: sixteen routes for each channel.
+fn network_of(
+    head: Head,
+    wide: bool,
     channel: &[u64; text::LONGEST],
     route: &[u64; text::LONGEST],
 ) -> Network {
-    let mut channels = [0u8; base::PORTS * base::SITES];
+    let mut channels = [0u16; base::PORTS * base::SITES];
     let mut routes = [0u16; text::LONGEST];
     let mut i: usize = 0;
     while i < text::LONGEST {
-        channels[i / 4] = site::byte_of(channel[i / 4]);
+        channels[i / 16] = channel_of(wide, channel[i / 16]);
         routes[i] = short_of(route[i]);
         i += 1;
     }
     Network {
-        sites: sites as usize,
-        depth: depth as usize,
-        tries: site::byte_of(tries),
+        sites: head.sites as usize,
+        depth: head.depth as usize,
+        tries: site::byte_of(head.tries),
+        version: site::byte_of(head.version),
+        edition: site::byte_of(head.edition),
         channels,
         routes,
     }
 }
 
-fn read_network(piece: &mut [u8; PIECE], from: Cursor) -> ReadNetwork {
+// S, T and D behind a version and an edition.
+fn read_sizes(piece: &mut [u8; PIECE], from: Cursor, version: u64, edition: u64) -> Head {
     let sites = text::number(piece, from);
     let tries = text::number(piece, sites.cursor);
     let depth = text::number(piece, tries.cursor);
+    let cursor = depth.cursor;
+    Head {
+        version,
+        edition,
+        sites: sites.value,
+        tries: tries.value,
+        depth: depth.value,
+        cursor,
+    }
+}
+
+fn read_head(piece: &mut [u8; PIECE], from: Cursor, wide: bool) -> Head {
+    if wide {
+        let version = text::number(piece, from);
+        let edition = text::number(piece, version.cursor);
+        return read_sizes(piece, edition.cursor, version.value, edition.value);
+    }
+    read_sizes(piece, from, 1, 1)
+}
+
+fn read_network(piece: &mut [u8; PIECE], from: Cursor, wide: bool) -> ReadNetwork {
+    let head = read_head(piece, from, wide);
     let mut channels = [0u64; text::LONGEST];
-    let behind = text::filled(piece, depth.cursor, &mut channels);
+    let behind = text::filled(piece, head.cursor, &mut channels);
     let mut routes = [0u64; text::LONGEST];
     let cursor = text::filled(piece, behind, &mut routes);
-    let network = network_of(sites.value, tries.value, depth.value, &channels, &routes);
+    let network = network_of(head, wide, &channels, &routes);
     ReadNetwork { network, cursor }
 }
 
-fn read_state(piece: &mut [u8; PIECE], from: Cursor) -> ReadState {
+fn read_state(piece: &mut [u8; PIECE], from: Cursor, wide: bool) -> ReadState {
+    let end = sites_of(wide);
     let counter = text::number(piece, from);
     let mut state = machine::empty_state();
     state.counter = site::byte_of(counter.value);
     let mut cursor = counter.cursor;
     let mut s: usize = 0;
-    while s < base::SITES {
+    while s < end {
         let mark = text::number(piece, cursor);
         cursor = mark.cursor;
         if mark.value == 1 {
@@ -140,60 +196,69 @@ fn put_site(n: &[u64; NUMBERS]) {
     line::write(text, end);
 }
 
-fn put_state(state: State) {
+fn put_state(state: State, wide: bool) {
+    let last = sites_of(wide);
     let mut text = [0u8; line::ROOM];
     let end = line::put(&mut text, 0, state.counter as u64);
     line::write(text, end);
     let sites = state.sites;
     let mut s: usize = 0;
-    while s < base::SITES {
+    while s < last {
         let n = numbers::of_site(sites[s]);
         put_site(&n);
         s += 1;
     }
 }
 
-fn replay_run(network: Network, state: State, site: u64, code: u64) {
+fn replay_run(network: Network, state: State, site: u64, code: u64, wide: bool) {
     let ran = machine::run(network, state, site as usize, code as usize);
     let answer = ran.answer;
     put_ran(answer);
-    put_state(ran.state);
+    put_state(ran.state, wide);
 }
 
-fn replay_send(network: Network, state: State, site: u64, set: u64) {
+fn replay_send(network: Network, state: State, site: u64, set: u64, wide: bool) {
     let sent = machine::send(network, state, site as usize, set);
     let answer = sent.answer;
     put_sent(answer);
-    put_state(sent.state);
+    put_state(sent.state, wide);
 }
 
 // One case: 1 is RUN, anything else SEND.
-fn replay(piece: &mut [u8; PIECE], from: Cursor) -> Cursor {
-    let net = read_network(piece, from);
-    let start = read_state(piece, net.cursor);
+fn replay(piece: &mut [u8; PIECE], from: Cursor, wide: bool) -> Cursor {
+    let net = read_network(piece, from, wide);
+    let start = read_state(piece, net.cursor, wide);
     let kind = text::number(piece, start.cursor);
     let site = text::number(piece, kind.cursor);
     let last = text::number(piece, site.cursor);
     let network = net.network;
     let state = start.state;
     if kind.value == 1 {
-        replay_run(network, state, site.value, last.value);
+        replay_run(network, state, site.value, last.value, wide);
     } else {
-        replay_send(network, state, site.value, last.value);
+        replay_send(network, state, site.value, last.value, wide);
     }
     last.cursor
 }
 
-fn main() {
-    let mut piece = [0u8; PIECE];
-    let count = text::number(&mut piece, text::start());
-    let mut cursor = count.cursor;
-    let mut left = count.value;
+// So many cases, up to the end of the text.
+fn replay_all(piece: &mut [u8; PIECE], from: Cursor, count: u64, wide: bool) -> Cursor {
+    let mut cursor = from;
+    let mut left = count;
     while left > 0 {
         if cursor.over {
-            return;
+            return cursor;
         }
-        cursor = replay(&mut piece, cursor);
+        cursor = replay(piece, cursor, wide);
         left -= 1;
     }
+    cursor
+}
+
+fn main() {
+    let mut piece = [0u8; PIECE];
+    let narrow = text::number(&mut piece, text::start());
+    let wide = text::number(&mut piece, narrow.cursor);
+    let behind = replay_all(&mut piece, wide.cursor, narrow.value, false);
+    replay_all(&mut piece, behind, wide.value, true);
 }

@@ -2,6 +2,7 @@
 pub mod Examples
 pub mod Counted
 pub mod Networks
+pub mod SoundRuns
 pub mod Refusals
 pub mod Numbered
 pub mod RouterGather

@@ -6,24 +6,25 @@ use mathlib.Core.List.{List, [], _∷_, _++_}
 use mathlib.Core.Bool.{true, cond}
 use native.Mathlib.Omega.{arith}
 use borrow.Author.Tests.{lt-ltb}
-use lib.Dec.{eqb, leb}
+use lib.Dec.{eqb}
 use lib.ListN.{length}
-use Rattle.base.specs.Sizes.{codeCount, sendsMost}
-use Rattle.base.specs.Bools.{cond-ok, first-of, second-of}
+use Rattle.base.specs.Sizes.{codeCount}
+use Rattle.base.specs.Bools.{cond-ok}
 use Rattle.base.specs.Sums.{sum, sum-append}
 use Rattle.sets.specs.Sets.{size, bit}
 use Rattle.draws.proofs.Laws.{site-below, code-below}
 use Rattle.theorems.specs.Names.{State, Network, Run as StoredRun, StoredSend, Ran, Nothing, Changed, Serviced, RunRefused, AfterSend}
 use Rattle.model.specs.Types.{noState}
-use Rattle.model.specs.Network.{sizesOk, channelsOk, routesOk, networkRefusal}
+use Rattle.model.specs.Network.{networkRefusal}
 use Rattle.model.specs.Range.{inRange}
 use Rattle.model.specs.Events.{Event, Send, Run, refusalThen, runFault, sendFault, runRefusal, sendRefusal, runs, ran, sent, after}
 use Rattle.model.specs.Events.{final, accepted, ifAccepted, acceptedBy, acceptedSet, hits, servicedBy, serviced}
 use Rattle.model.specs.Owing.{owed}
 use Rattle.model.specs.Runs.{Timed, Service, Played, events, inBook, unplayed, marked, atDraw, sendsAt, drawAt, scriptTo, script}
-use Rattle.model.specs.Runs.{bodyRefusal, storedRefusal, sendPlayed, entered, runPlayed, trySend, advance, advanceSingly, played}
+use Rattle.model.specs.Runs.{storedRefusal, sendPlayed, entered, runPlayed, trySend, advance, advanceSingly, played}
 use Rattle.model.specs.Runs.{playedRun, playedSingly}
 use Rattle.theorems.proofs.Networks.{valid-ok}
+use Rattle.theorems.proofs.SoundRuns.{sound}
 use Rattle.theorems.proofs.Refusals.{sent-ways}
 use Rattle.theorems.proofs.RangeKept.{empty-shaped, shaped-kept, empty-in-range, range-kept}
 use Rattle.theorems.proofs.Demand3.{once}
@@ -185,14 +186,9 @@ module _ (n : Network) (v : networkRefusal n ≡ 0) where
 
 -- a valid run has a valid network
 pub stored-network : (r : StoredRun) → storedRefusal r ≡ 0 → networkRefusal (r .network) ≡ 0
-unfolding storedRefusal bodyRefusal networkRefusal
+unfolding networkRefusal
 stored-network r h =
-    let a = first-of (sizesOk (r .network)) _ 3 0 (λ e. omega arith) h in
-    let b = second-of (eqb (r .seed) 0) 4 _ 0 (λ e. omega arith) (a .1) in
-    let c = first-of (leb (r .count) sendsMost) _ 5 0 (λ e. omega arith) (b .1) in
-    let d = first-of (channelsOk (r .network)) _ 6 0 (λ e. omega arith) (c .1) in
-    let e = first-of (routesOk (r .network)) _ 7 0 (λ e. omega arith) (d .1) in
-    rw (a .0, d .0, e .0) refl
+    let k = sound r h in rw (k .version, k .edition, k .sizes, k .channels, k .routes) refl
 
 -- a run played, with its state, book and counts, is the public single events applied in order from the empty state
 pub played-singly : (r : StoredRun) → storedRefusal r ≡ 0 → playedRun r ≡ playedSingly (r .network) unplayed (script r)

@@ -16,7 +16,7 @@ use Rattle.sets.specs.Sets.{targets}
 use Rattle.sets.proofs.Laws.{targets-at}
 use Rattle.theorems.specs.Names.{Input, State, Network, AfterSend, AfterRun}
 use Rattle.model.specs.Types.{noInput, noSite, noState, inputD, siteD, siteAt, inAt}
-use Rattle.model.specs.Network.{sizesOk, channelsOk, routesOk, networkRefusal}
+use Rattle.model.specs.Network.{versionOk, editionOk, sizesOk, channelsOk, routesOk, networkRefusal}
 use Rattle.model.specs.Range.{siteOk, zeroSite, placeOk, inRange}
 use Rattle.model.specs.Steps.{run}
 use Rattle.model.specs.Events.{refusalThen, runFault, sendFault, runRefusal, sendRefusal, runs, sends, ran, sent, Event, Send, Run}
@@ -132,37 +132,43 @@ reached n es = final-in-range n es noState empty-shaped (empty-in-range n)
 
 -- ---- refusal 13
 
-abbrev Low : ℕ → Type 0
-Low r = r < 13
+abbrev Other : ℕ → Type 0
+Other r = r ≡ 13 → ⊥
 
-network-low : (n : Network) → Low (networkRefusal n)
+network-other : (n : Network) → Other (networkRefusal n)
 unfolding networkRefusal
-network-low n =
-    cond-ok Low (sizesOk n) _ 3
+network-other n =
+    cond-ok Other (versionOk n) _ 2
     (λ a.
-    cond-ok Low (channelsOk n) _ 6 (λ b. cond-ok Low (routesOk n) 0 7 (λ c. omega arith) (λ c. omega arith))
-    (λ b. omega arith))
-    (λ a. omega arith)
-
-run-low : (n : Network) (s code : ℕ) → Low (runFault n s code)
-run-low n s code = cond-ok Low (ltb s (n .sites) && ltb code codeCount) 0 9 (λ a. omega arith) (λ a. omega arith)
-
-send-low : (n : Network) (st : State) (s X : ℕ) → Low (sendFault n st s X)
-send-low n st s X =
-    cond-ok Low (ltb s (n .sites)) _ 9
-    (λ a.
-    cond-ok Low (targets (n .sites) X) _ 10
+    cond-ok Other (editionOk n) _ 17
     (λ b.
-    cond-ok Low (ltb (st .counter) packetsMost) _ 12
+    cond-ok Other (sizesOk n) _ 3
     (λ c.
-    cond-ok Low (ltb (siteAt (st .sites) s .outgoing .count) (n .depth)) 0 11 (λ d. omega arith) (λ d. omega arith))
-    (λ c. omega arith))
-    (λ b. omega arith))
-    (λ a. omega arith)
+    cond-ok Other (channelsOk n) _ 6 (λ d. cond-ok Other (routesOk n) 0 7 (λ f e. omega arith) (λ f e. omega arith))
+    (λ d e. omega arith))
+    (λ c e. omega arith))
+    (λ b e. omega arith))
+    (λ a e. omega arith)
 
-refusal-low : (n : Network) (st : State) (own : ℕ) → inRange n st ≡ true → Low own → Low (refusalThen n st own)
-refusal-low n st own h l =
-    rw h (cond-ok Low (eqb (networkRefusal n) 0) own (networkRefusal n) (λ a. l) (λ a. network-low n))
+run-other : (n : Network) (s code : ℕ) → Other (runFault n s code)
+run-other n s code = cond-ok Other (ltb s (n .sites) && ltb code codeCount) 0 9 (λ a e. omega arith) (λ a e. omega arith)
+
+send-other : (n : Network) (st : State) (s X : ℕ) → Other (sendFault n st s X)
+send-other n st s X =
+    cond-ok Other (ltb s (n .sites)) _ 9
+    (λ a.
+    cond-ok Other (targets (n .sites) X) _ 10
+    (λ b.
+    cond-ok Other (ltb (st .counter) packetsMost) _ 12
+    (λ c.
+    cond-ok Other (ltb (siteAt (st .sites) s .outgoing .count) (n .depth)) 0 11 (λ d e. omega arith) (λ d e. omega arith))
+    (λ c e. omega arith))
+    (λ b e. omega arith))
+    (λ a e. omega arith)
+
+refusal-other : (n : Network) (st : State) (own : ℕ) → inRange n st ≡ true → Other own → Other (refusalThen n st own)
+refusal-other n st own h l =
+    rw h (cond-ok Other (eqb (networkRefusal n) 0) own (networkRefusal n) (λ a. l) (λ a. network-other n))
 
 -- no event after a list from the empty state is refused with 13
 pub never-13 : (n : Network) (es : List Event)
@@ -171,6 +177,6 @@ pub never-13 : (n : Network) (es : List Event)
 unfolding runRefusal sendRefusal
 never-13 n es =
     let st = final n noState es in (
-      λ s code h. omega (arith, refusal-low n st (runFault n s code) (reached n es) (run-low n s code)),
-      λ s X h. omega (arith, refusal-low n st (sendFault n st s X) (reached n es) (send-low n st s X)),
+      λ s code h. refusal-other n st (runFault n s code) (reached n es) (run-other n s code) h,
+      λ s X h. refusal-other n st (sendFault n st s X) (reached n es) (send-other n st s X) h,
     )

@@ -20,7 +20,7 @@ use Rattle.sets.proofs.LawsSize.{minus-pos, size-within}
 use Rattle.theorems.specs.Names.{Phase, Free, Seek, Open, Wait, Done, Last, Aborted, FinAbort}
 use Rattle.theorems.specs.Names.{Input, Output, Site, Network}
 use Rattle.model.specs.Types.{noInput, siteAt, inAt, outOf, outAt, withOutQueue, withInQueue, setIn, setOut}
-use Rattle.model.specs.Network.{channelByte, channel, joined, routeOf, choices, listOf, channelOk, channelsOk}
+use Rattle.model.specs.Network.{channelAt, channel, joined, routeOf, choices, listOf, channelOk, channelsOk}
 use Rattle.model.specs.Network.{choice, portOk, listOk, routeOk, routesOk, joinsThen}
 use Rattle.types.specs.Phases.{listening}
 use Rattle.model.specs.Router.{serves, firstPort, gets, unchosen, gatherFrom, gather, route}
@@ -76,17 +76,26 @@ act-on n s x far code =
 
 -- ---- a network with other channels that agree on the places below 4S
 
-module _ (n : Network) (cs rs : List ℕ) (hc : (m : ℕ) → m < portCount * n .sites → getD cs m 0 ≡ channelByte n m) where
+module _ (n : Network) (cs rs : List ℕ) (hc : (m : ℕ) → m < portCount * n .sites → getD cs m 0 ≡ channelAt n m) where
   abbrev pub other : Network
-  other = record { sites = n .sites; depth = n .depth; tries = n .tries; channels = cs; routes = rs }
+  other =
+      record {
+        sites = n .sites;
+        depth = n .depth;
+        tries = n .tries;
+        version = n .version;
+        edition = n .edition;
+        channels = cs;
+        routes = rs;
+      }
 
   channel-at : (s j : ℕ) → s < n .sites → j < portCount → channel other s (suc j) ≡ channel n s (suc j)
   channel-at s j hs hj = hc (portCount * s + j) (omega arith)
 
   channel-same : (m : ℕ) → m < portCount * n .sites → channelOk other m ≡ channelOk n m
   channel-same m l =
-      let a = all-same (λ m′. not (eqb (channelByte other m′) (channelByte other m)))
-      (λ m′. not (eqb (channelByte n m′) (channelByte n m))) m
+      let a = all-same (λ m′. not (eqb (channelAt other m′) (channelAt other m)))
+      (λ m′. not (eqb (channelAt n m′) (channelAt n m))) m
       (λ m′ k. ap₂ (λ (b c : ℕ). not (eqb b c)) (hc m′ (omega arith)) (hc m l)) in
       ap₂ (λ (b : ℕ) (y : Bool). eqb b noChannel || ltb b (portCount * n .sites) && y) (hc m l) a
 

@@ -12,14 +12,14 @@ use borrow.Author.Tests.{leb-true, eqb-true}
 use lib.Dec.{eqb, ltb, leb}
 use lib.ListN.{getD, take, length, List·getD-eq-default}
 use Rattle.base.specs.Sizes.{sitesMost, portCount, sendsMost}
-use Rattle.base.specs.Bools.{both, either-way, first-of, second-of}
+use Rattle.base.specs.Bools.{both, either-way}
 use Rattle.base.specs.All.{all-at, all-same}
 use Rattle.base.specs.Over.{over, over-below}
 use Rattle.sets.specs.Sets.{targets}
 use Rattle.sets.proofs.Laws.{targets-at}
 use Rattle.theorems.specs.Names.{State, Network, StoredSend, Run as StoredRun, AfterRun, AfterSend}
 use Rattle.model.specs.Types.{sendD, sendAt}
-use Rattle.model.specs.Network.{channelByte, sizesOk, channelsOk, routesOk, joinsThen, networkRefusal}
+use Rattle.model.specs.Network.{channelAt, kindThen, sizesOk, joinsThen, networkRefusal}
 use Rattle.model.specs.Network.{noChannels, noRoutes, trimmedNetwork}
 use Rattle.model.specs.Range.{inRange}
 use Rattle.model.specs.Steps.{Stepped}
@@ -28,6 +28,7 @@ use Rattle.model.specs.Runs.{sendOk, sendsOk, bodyRefusal, storedRefusal, noSen
 use Rattle.model.specs.Runs.{Timed, marked, sendsAt, scriptTo, script}
 use Rattle.model.specs.Runs.{Played, unplayed, sendPlayed, runPlayed, advanceSingly, playedSingly, playedRun}
 use Rattle.theorems.proofs.Networks.{sizes-at, valid-ok}
+use Rattle.theorems.proofs.SoundRuns.{sound}
 use Rattle.theorems.proofs.Refusals.{run-passes}
 use Rattle.theorems.proofs.Demand3.{seek-set}
 use Rattle.theorems.proofs.RoomLaws.{joins-same, run-same}
@@ -36,9 +37,9 @@ use Rattle.theorems.proofs.Played.{played-singly}
 -- ---- a network
 
 module _ (n : Network) (few : n .sites ≤ sitesMost) where
-  pub channels-kept : (m : ℕ) → m < portCount * n .sites → getD (trimmedNetwork n .channels) m 0 ≡ channelByte n m
+  pub channels-kept : (m : ℕ) → m < portCount * n .sites → getD (trimmedNetwork n .channels) m 0 ≡ channelAt n m
   unfolding trimmedNetwork
-  channels-kept m l = over-below (channelByte n) (portCount * n .sites) noChannels m 0 l (omega arith)
+  channels-kept m l = over-below (channelAt n) (portCount * n .sites) noChannels m 0 l (omega arith)
 
   pub routes-kept : (m : ℕ) → m < n .sites * n .sites → getD (trimmedNetwork n .routes) m 0 ≡ getD (n .routes) m 0
   unfolding trimmedNetwork
@@ -53,7 +54,8 @@ module _ (n : Network) (few : n .sites ≤ sitesMost) where
 
 pub trimmed-refusal : (n : Network) → networkRefusal (trimmedNetwork n) ≡ networkRefusal n
 unfolding networkRefusal trimmedNetwork
-trimmed-refusal n = either-way (sizesOk n) (λ e. rw e (trimmed-joins n (sizes-at n e .1) 0)) (λ e. rw e refl)
+trimmed-refusal n =
+    either-way (sizesOk n) (λ e. rw e (ap (kindThen n) (trimmed-joins n (sizes-at n e .1) 0))) (λ e. rw e refl)
 
 -- ---- RUN and SEND
 
@@ -146,15 +148,7 @@ module _ (r : StoredRun) (h : storedRefusal r ≡ 0) where
   r′ = trimmed r
 
   passed-sends : (r .count ≤ sendsMost) × (r .count ≤ length (r .sends))
-  unfolding storedRefusal bodyRefusal
-  passed-sends =
-      let a = first-of (sizesOk (r .network)) _ 3 0 (λ e. omega arith) h in
-      let b = second-of (eqb (r .seed) 0) 4 _ 0 (λ e. omega arith) (a .1) in
-      let c = first-of (leb (r .count) sendsMost) _ 5 0 (λ e. omega arith) (b .1) in
-      let d = first-of (channelsOk (r .network)) _ 6 0 (λ e. omega arith) (c .1) in
-      let f = first-of (routesOk (r .network)) _ 7 0 (λ e. omega arith) (d .1) in
-      let g = first-of (sendsOk r) 0 8 0 (λ e. omega arith) (f .1) in
-      (leb-true (r .count) sendsMost (c .0), sends-there r (g .0))
+  passed-sends = let k = sound r h in (k .count, sends-there r (k .sends))
 
   sends-at : (d : ℕ) → sendsAt r′ d ≡ sendsAt r d
   unfolding trimmed

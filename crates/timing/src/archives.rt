@@ -11,13 +11,18 @@ fn picked(run: Run) -> usize {
     let channel = channels[base::PORTS * base::SITES - 1];
     let route = routes[base::SITES * base::SITES - 1];
     let send = sends[base::SENDS - 1];
-    base::wide(channel) + (route as usize) % 65536 + (send.draw as usize) % 65536
+    base::wider(channel) + (route as usize) % 65536 + (send.draw as usize) % 65536
 }
 
-// Another last byte of the seed, where the bytes reach so far.
+// Another last byte of the seed, where the bytes reach so far: in version 2 it stands one place further.
 fn reseed(bytes: &mut [u8], k: usize) {
-    if 9 < bytes.len() {
-        bytes[9] = (k % 255 + 1) as u8;
+    if 10 < bytes.len() {
+        let last = (k % 255 + 1) as u8;
+        if bytes[2] == 1 {
+            bytes[9] = last;
+            return;
+        }
+        bytes[10] = last;
     }
 }
 

@@ -71,16 +71,25 @@ pub extern "C" fn timing_runs(
     picked(last, times)
 }
 
+// Site k of so many, from the first on again behind the last.
+fn site_of(k: usize, sites: usize) -> usize {
+    if sites == 0 {
+        return 0;
+    }
+    k % sites
+}
+
 // So many SENDs from the empty state, to {0} at site after site of the archive's network.
 #[no_mangle]
 pub extern "C" fn timing_sends(bytes: &[u8], times: usize) -> usize {
     let decoded = archive::read(bytes);
     let run = decoded.run;
     let network = run.network;
+    let sites = network.sites;
     let mut state = machine::empty_state();
     let mut k: usize = 0;
     while k < times {
-        let after = machine::send(network, state, k % base::SITES, 1);
+        let after = machine::send(network, state, site_of(k, sites), 1);
         state = after.state;
         k += 1;
     }

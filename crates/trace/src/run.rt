@@ -15,8 +15,8 @@ use types::Run;
 use types::Sent;
 use types::StoredSend;
 
-// Room for every line: the longest has some 350 bytes, a split to five outputs in a network of 16 sites.
-const ROOM: usize = 512;
+// Room for every line: the longest has some 550 bytes, a split to five outputs in a network of 64 sites.
+const ROOM: usize = 1024;
 
 // Why a trace goes no further: it does not stop; a line could not be written; RUN refused, which no valid run comes to.
 pub const GOES_ON: u8 = 0;
@@ -163,12 +163,12 @@ fn print_change(
 
 // The channel of the net-output that this code names at site s: 4 x site + port - 1 of the input at its end; 0 for
 // another code.
-fn channel_of(channels: [u8; base::PORTS * base::SITES], s: usize, code: usize) -> usize {
+fn channel_of(channels: [u16; base::PORTS * base::SITES], s: usize, code: usize) -> usize {
     if 6 <= code {
         let port = code - 6;
         if port < base::PORTS {
             if s < base::SITES {
-                return base::wide(channels[base::PORTS * s + port]);
+                return base::wider(channels[base::PORTS * s + port]);
             }
         }
     }

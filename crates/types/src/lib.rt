@@ -98,12 +98,15 @@ pub struct State {
     pub counter: u8,
 }
 
-// A network: S, T, D; a channel byte for each site and port 1 to 4; a route for each from-site and to-site, in rows of S.
+// A network: the stored version and the edition of the rules that it goes by; S, T, D; a channel for each site and port 1 to
+// 4; a route for each from-site and to-site, in rows of S.
 pub struct Network {
     pub sites: usize,
     pub depth: usize,
     pub tries: u8,
-    pub channels: [u8; base::PORTS * base::SITES],
+    pub version: u8,
+    pub edition: u8,
+    pub channels: [u16; base::PORTS * base::SITES],
     pub routes: [u16; base::SITES * base::SITES],
 }
 

@@ -22,7 +22,7 @@ use Rattle.words.proofs.Acts.{did-nothing}
 
 -- ---- what the arms ask
 
-module _ (S D T : ℕ) (l m c : List ℕ) (s : ℕ) (ok : RunAsks (networkBy S D T l m) c s) where
+module _ (version edition S D T : ℕ) (l m c : List ℕ) (s : ℕ) (ok : RunAsks (networkBy version edition S D T l m) c s) where
   pub below : s < sitesMost
   below = omega (arith, ok .site, ok .few)
 

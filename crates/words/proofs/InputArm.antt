@@ -40,12 +40,12 @@ use Rattle.words.proofs.Acts.{did-nothing, input-done}
 use Rattle.layout.proofs.Rests.{quiet-stays, stands-stays}
 
 -- the router asked by the parts of a network
-asked-is : (m : List ℕ) (S D T : ℕ) (l : List ℕ) (s : ℕ) (os : List Output) (X : ℕ) → s < S → S ≤ sitesMost
+asked-is : (m : List ℕ) (version edition S D T : ℕ) (l : List ℕ) (s : ℕ) (os : List Output) (X : ℕ) → s < S → S ≤ sitesMost
     → length m ≡ sitesMost * sitesMost → targets S X ≡ true
-    → askedBy m S s os X ≡ route (networkBy S D T l m) s os X
-asked-is m S D T l s os X a b e t =
+    → askedBy m S s os X ≡ route (networkBy version edition S D T l m) s os X
+asked-is m version edition S D T l s os X a b e t =
     rw (lt-ltb s S a, le-leb S sitesMost b, eq-eqb (length m) (sitesMost * sitesMost) e, t)
-    (route-same (routesOnly S m) (networkBy S D T l m) refl refl s os X)
+    (route-same (routesOnly S m) (networkBy version edition S D T l m) refl refl s os X)
 
 -- ---- the input at a channel's end
 
@@ -118,10 +118,11 @@ module _ (c : List ℕ) (s i : ℕ) where
     -- the router was asked
     pub sought-done : (m : List ℕ) (S T : ℕ) (w : InputTurn) → Seekable m S c s i → stateNumber (y .phase) ≡ 1
         → w ≡ ofInputTurn y (x .outputs) (sought m S T x s i) → DidOwn c d s r (ownTurn (setBoth x i) (inputBack w)) → DidSought m S T c d s r i
-    sought-done m S T w ok e f p D l =
-        let n = networkBy S D T l m in
+    sought-done m S T w ok e f p version edition D l =
+        let n = networkBy version edition S D T l m in
         subst (λ (t : Turn Input (List Output)). Did n c d s r (ownTurn (setBoth x i) t))
-        (ap (seek T i y (x .outputs)) (asked-is m S D T l s (x .outputs) (y .set) (ok .site) (ok .few) (ok .routes) (ok .set e))
+        (ap (seek T i y (x .outputs))
+        (asked-is m version edition S D T l s (x .outputs) (y .set) (ok .site) (ok .few) (ok .routes) (ok .set e))
         ∙ sym (seek-is y (x .outputs) (readyIn n (sitesOf c) s) n s i e))
         (input-done c d s r i (sought m S T x s i) w f p n)
 

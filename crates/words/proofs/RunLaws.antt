@@ -14,7 +14,7 @@ use Rattle.model.specs.Steps.{act, ends, run}
 use Rattle.model.specs.Events.{runs}
 use Rattle.theorems.proofs.Networks.{Valid}
 use Rattle.machine.proofs.RangeAt.{range-runnable}
-use Rattle.machine.proofs.Seen.{valid-bytes}
+use Rattle.machine.proofs.Seen.{valid-ends}
 use Rattle.layout.specs.Layout.{wordCount}
 use Rattle.layout.specs.Words.{sitesOf, stateOf}
 use Rattle.words.specs.Events.{Did, RunAsks, siteIn}
@@ -44,6 +44,6 @@ run-asks n c s val ok size chans routes h =
       channels = chans;
       routes = routes;
       feeder = w .feeder;
-      ends = λ j k e. valid-bytes n val s h j k e;
+      ends = λ j k e. valid-ends n val s h j k e;
       sought = λ i k e. let t = w .sought i k e in targets-by (n .sites) _ (t .0) (t .1);
     }

@@ -78,7 +78,7 @@ module _ (S D : ℕ) (c d : List ℕ) (o : StoredSend) (t : Tally) (w : Sent) (s
   unfolding tried
   refused-on f e =
       let a : triedSend S D c o .answer ≡ SendRefused f = sym (took .answer) ∙ e in
-      let y : stateOf d ≡ stateOf c = took .state ∙ refused-state (networkBy S D 0 [] []) (stateOf c) (o .site) (o .set) f a in
+      let y : stateOf d ≡ stateOf c = took .state ∙ refused-state (networkBy 0 0 S D 0 [] []) (stateOf c) (o .site) (o .set) f a in
       record {
         size = took .size;
         same =

@@ -36,8 +36,17 @@ use Rattle.layout.specs.Words.{sitesOf, stateOf, canonical}
 use Rattle.layout.specs.Stored.{Stored}
 
 -- a network by its parts
-abbrev pub networkBy : ℕ → ℕ → ℕ → List ℕ → List ℕ → Network
-networkBy S D T channels routes = record { sites = S; depth = D; tries = T; channels = channels; routes = routes }
+abbrev pub networkBy : ℕ → ℕ → ℕ → ℕ → ℕ → List ℕ → List ℕ → Network
+networkBy version edition S D T channels routes =
+    record {
+      sites = S;
+      depth = D;
+      tries = T;
+      version = version;
+      edition = edition;
+      channels = channels;
+      routes = routes;
+    }
 
 -- site s of the words c
 abbrev pub siteIn : List ℕ → ℕ → Site
@@ -72,13 +81,13 @@ pub record Took (c d : List ℕ) (r : Sent) (w : AfterSend) : Type 0 where
 
 -- what SEND leaves, nothing but its own refusals tested: of a network its sites S and its depth D alone are looked at
 unfoldable pub tried : ℕ → ℕ → State → ℕ → ℕ → AfterSend
-tried S D st s X = trySend (networkBy S D 0 [] []) st s X
+tried S D st s X = trySend (networkBy 0 0 S D 0 [] []) st s X
 
--- the input at the end of a channel with the byte b; a free one where there is no channel
+-- the input at the end of a channel b; a free one where there is no channel
 abbrev pub endOf : List Site → ℕ → Input
 endOf xs b = cond (isChannel b) (farEnd xs b) noInput
 
--- output j + 1 with the byte b of its channel: of any network that has it there
+-- output j + 1 with its channel b: of any network that has it there
 abbrev pub DidPass : List ℕ → List ℕ → ℕ → Ran → ℕ → ℕ → Turn Output Input → Type 0
 DidPass c d s r j b t = (n : Network) → channel n s (suc j) ≡ b → Did n c d s r (passTurn (siteIn c s) (suc j) t)
 
@@ -100,7 +109,7 @@ workBack r = cond (r .changed) (cond (r .serviced) (Service (r .incoming) (r .ou
 
 -- ---- codes 0 to 4
 
--- whether output j + 1 of site s is ready, by the channels' bytes l
+-- whether output j + 1 of site s is ready, by the channels l
 abbrev pub readyAt : List ℕ → List Site → ℕ → ℕ → Bool
 readyAt l xs s j =
     let b = getD l (portCount * s + j) 0 in
@@ -143,8 +152,8 @@ DidInput l c d s r i = (n : Network) → n .channels ≡ l → Did n c d s r (in
 
 abbrev pub DidSought : List ℕ → ℕ → ℕ → List ℕ → List ℕ → ℕ → Ran → ℕ → Type 0
 DidSought m S T c d s r i =
-    (D : ℕ) (l : List ℕ) → Did (networkBy S D T l m) c d s r (inputAct (networkBy S D T l m) s (siteIn c s) (ends (networkBy S D T l m) (sitesOf c) s) i)
+    (version edition D : ℕ) (l : List ℕ) → let n = networkBy version edition S D T l m in Did n c d s r (inputAct n s (siteIn c s) (ends n (sitesOf c) s) i)
 
 abbrev pub DidAsked : List ℕ → List ℕ → ℕ → ℕ → List ℕ → List ℕ → ℕ → Ran → ℕ → Type 0
 DidAsked l m S T c d s r i =
-    (D : ℕ) → Did (networkBy S D T l m) c d s r (inputAct (networkBy S D T l m) s (siteIn c s) (ends (networkBy S D T l m) (sitesOf c) s) i)
+    (version edition D : ℕ) → let n = networkBy version edition S D T l m in Did n c d s r (inputAct n s (siteIn c s) (ends n (sitesOf c) s) i)

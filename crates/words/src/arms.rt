@@ -54,23 +54,23 @@ pub(crate) fn local_in_place(depth: usize, words: &mut [u64], s: usize) -> Ran
     put_local(words, s, turn)
 }
 
-// Codes 6 to 9: net-output j + 1; the byte of its channel is at hand.
-pub(crate) fn channel_in_place(words: &mut [u64], s: usize, j: usize, byte: u8) -> Ran
-    requires { ⌜ (s < sitesMost) × (j < portCount) × (length (now words) ≡ wordCount) × (isChannel byte ≡ true → byte < endCount) ⌝ }
+// Codes 6 to 9: net-output j + 1; its channel is at hand.
+pub(crate) fn channel_in_place(words: &mut [u64], s: usize, j: usize, channel: u16) -> Ran
+    requires { ⌜ (s < sitesMost) × (j < portCount) × (length (now words) ≡ wordCount) × (isChannel channel ≡ true → channel < endCount) ⌝ }
     ensures { λ r. ⌜
-        spec.DidPass (now (words .entry)) (now (words .exit)) s r j byte
-        (channelOutput (isChannel byte) (outAt (siteIn (now (words .entry)) s) (suc j))
-        (spec.endOf (sitesOf (now (words .entry))) byte))
+        spec.DidPass (now (words .entry)) (now (words .exit)) s r j channel
+        (channelOutput (isChannel channel) (outAt (siteIn (now (words .entry)) s) (suc j))
+        (spec.endOf (sitesOf (now (words .entry))) channel))
         ⌝ }
 {
     if is_at_rest(words, s, j + 1) {
         return Ran::Nothing;
     }
-    if byte == base::NO_CHANNEL {
+    if channel == base::NO_CHANNEL {
         return Ran::Nothing;
     }
-    let turn = channel_turn(words, s, j, byte);
-    put_channel(words, s, j, byte, turn)
+    let turn = channel_turn(words, s, j, channel);
+    put_channel(words, s, j, channel, turn)
 }
 
 // Code 10: the out-queue.

@@ -1,4 +1,4 @@
-// RUN and SEND on any lent words, with their refusals 3, 6, 7, 13, 9, 10, 12, 11. A refusal writes nothing.
+// RUN and SEND on any lent words, with their refusals 2, 17, 3, 6, 7, 13, 9, 10, 12, 11. A refusal writes nothing.
 ghost use mathlib.Core.Path.{_≡_};
 ghost use Prim.Native.Nat.{_<_};
 ghost use Rattle.model.specs.Steps.{act, ends};
@@ -20,12 +20,25 @@ fn run_checked(network: Network, words: &mut [u64], s: usize, code: usize) -> Ra
         (act network s (siteIn (now (words .entry)) s) (ends network (sitesOf (now (words .entry))) s) code)
         ⌝ }
 {
+    let version = network.version;
+    let edition = network.edition;
     let sites = network.sites;
     let depth = network.depth;
     let tries = network.tries;
     let channels = network.channels;
     let routes = network.routes;
-    run_in_place(&channels, &routes, sites, depth, tries, words, s, code)
+    run_in_place(
+        &channels,
+        &routes,
+        version,
+        edition,
+        sites,
+        depth,
+        tries,
+        words,
+        s,
+        code,
+    )
 }
 
 // RUN (site, code).

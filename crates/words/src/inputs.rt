@@ -28,34 +28,34 @@ use types::Phase;
 use types::Ran;
 
 // Whether the input at the end of a channel is open or abort; not where there is no channel.
-fn is_heard(words: &[u64], byte: u8) -> bool
-    requires { ⌜ (length (now words) ≡ wordCount) × (isChannel byte ≡ true → byte < endCount) ⌝ }
-    ensures { λ r. ⌜ r ≡ (isChannel byte && listening (endOf (sitesOf (now (words .entry))) byte .phase)) ⌝ }
+fn is_heard(words: &[u64], channel: u16) -> bool
+    requires { ⌜ (length (now words) ≡ wordCount) × (isChannel channel ≡ true → channel < endCount) ⌝ }
+    ensures { λ r. ⌜ r ≡ (isChannel channel && listening (endOf (sitesOf (now (words .entry))) channel .phase)) ⌝ }
 {
-    if byte == base::NO_CHANNEL {
+    if channel == base::NO_CHANNEL {
         return false;
     }
-    let b = base::wide(byte);
+    let b = base::wider(channel);
     let number = state_of(words, b / base::PORTS, b % base::PORTS + 1);
     (number == 2) | (number == 6)
 }
 
 // Whether output j + 1 is ready.
-fn is_ready(channels: &[u8], words: &[u64], s: usize, j: usize) -> bool
+fn is_ready(channels: &[u16], words: &[u64], s: usize, j: usize) -> bool
     requires { ⌜
         (s < sitesMost) × (j < portCount) × (length (now channels) ≡ endCount) × (length (now words) ≡ wordCount) ×
         spec.BytesWithin (now channels) s
         ⌝ }
     ensures { λ r. ⌜ r ≡ spec.readyAt (now (channels .entry)) (sitesOf (now (words .entry))) s j ⌝ }
 {
-    let byte = channels[base::PORTS * s + j];
+    let channel = channels[base::PORTS * s + j];
     let taken = is_taken(words, s, j + 1);
-    let heard = is_heard(words, byte);
+    let heard = is_heard(words, channel);
     taken & heard
 }
 
 // Which outputs of site s are ready.
-fn readies(channels: &[u8], words: &[u64], s: usize) -> [bool; base::OUTPUTS]
+fn readies(channels: &[u16], words: &[u64], s: usize) -> [bool; base::OUTPUTS]
     requires { ⌜ (s < sitesMost) × (length (now channels) ≡ endCount) × (length (now words) ≡ wordCount) × spec.BytesWithin (now channels) s ⌝ }
     ensures { λ r. ⌜ r ≡ spec.readyFlags (now (channels .entry)) (sitesOf (now (words .entry))) s ⌝ }
 {
@@ -124,7 +124,7 @@ fn ready_in_place(words: &mut [u64], s: usize, i: usize, ready: [bool; base::OUT
 }
 
 // Net-input i in another state than seek.
-fn other_in_place(channels: &[u8], words: &mut [u64], s: usize, i: usize) -> Ran
+fn other_in_place(channels: &[u16], words: &mut [u64], s: usize, i: usize) -> Ran
     requires { ⌜
         (s < sitesMost) × (i < inputCount) × (length (now channels) ≡ endCount) × (length (now words) ≡ wordCount) × spec.BytesWithin
         (now channels) s × (stateNumber (inAt (siteIn (now words) s) i .phase) ≡ 1 → ⊥)
@@ -167,7 +167,7 @@ fn seek_in_place(
 
 // Codes 0 to 4: net-input i, by its state number.
 pub(crate) fn input_in_place(
-    channels: &[u8],
+    channels: &[u16],
     routes: &[u16],
     sites: usize,
     tries: u8,

@@ -32,23 +32,23 @@ pub(crate) fn store_local(words: &mut [u64], s: usize, queue: InQueue, output: O
     store_output(words, s, 0, output);
 }
 
-// Output j + 1, and the input at the end of its channel with this byte.
+// Output j + 1, and the input at the end of its channel, this one.
 pub(crate) fn store_passed(
     words: &mut [u64],
     s: usize,
     j: usize,
     output: Output,
-    byte: u8,
+    channel: u16,
     input: Input,
 )
-    requires { ⌜ (s < sitesMost) × (j < portCount) × (length (now words) ≡ wordCount) × (byte < endCount) ⌝ }
+    requires { ⌜ (s < sitesMost) × (j < portCount) × (length (now words) ≡ wordCount) × (channel < endCount) ⌝ }
     ensures { λ _. ⌜
         Stored (now (words .entry)) (now (words .exit))
         (setFar (setSite (sitesOf (now (words .entry))) s (setOut (siteIn (now (words .entry)) s) (suc j) output))
-        byte input)
+        channel input)
         ⌝ }
 {
-    let b = base::wide(byte);
+    let b = base::wider(channel);
     store_output(words, s, j + 1, output);
     store_input(words, b / base::PORTS, b % base::PORTS + 1, input);
 }

@@ -68,8 +68,10 @@ fn send_turn(sites: usize, depth: usize, words: &mut [u64], order: StoredSend, t
 
 // A draw: the clock advances, and the event that its value names is run.
 fn draw_turn(
-    channels: &[u8],
+    channels: &[u16],
     routes: &[u16],
+    version: u8,
+    edition: u8,
     sites: usize,
     depth: usize,
     tries: u8,
@@ -77,9 +79,9 @@ fn draw_turn(
     book: &mut [u8],
     t: Tally,
 ) -> Tally
-    requires { ⌜ Turnable (networkBy sites depth tries (now channels) (now routes)) (now words) t ⌝ }
+    requires { ⌜ Turnable (networkBy version edition sites depth tries (now channels) (now routes)) (now words) t ⌝ }
     ensures { λ r. ⌜
-        Drew (networkBy sites depth tries (now (channels .entry)) (now (routes .entry))) (now (words .entry))
+        Drew (networkBy version edition sites depth tries (now (channels .entry)) (now (routes .entry))) (now (words .entry))
         (now (words .exit)) (now (book .entry)) (now (book .exit)) t r
         ⌝ }
 {
@@ -89,6 +91,8 @@ fn draw_turn(
     let answer = run_in_place(
         channels,
         routes,
+        version,
+        edition,
         sites,
         depth,
         tries,
@@ -108,8 +112,10 @@ fn draw_turn(
 
 // A turn: the send that is due, or a draw.
 fn take_turn(
-    channels: &[u8],
+    channels: &[u16],
     routes: &[u16],
+    version: u8,
+    edition: u8,
     sites: usize,
     depth: usize,
     tries: u8,
@@ -119,9 +125,9 @@ fn take_turn(
     book: &mut [u8],
     t: Tally,
 ) -> Tally
-    requires { ⌜ Turnable (networkBy sites depth tries (now channels) (now routes)) (now words) t ⌝ }
+    requires { ⌜ Turnable (networkBy version edition sites depth tries (now channels) (now routes)) (now words) t ⌝ }
     ensures { λ r. ⌜
-        Turned (networkBy sites depth tries (now (channels .entry)) (now (routes .entry))) count (now (words .entry))
+        Turned (networkBy version edition sites depth tries (now (channels .entry)) (now (routes .entry))) count (now (words .entry))
         (now (words .exit)) (now (book .entry)) (now (book .exit)) order t r
         ⌝ }
 {
@@ -129,13 +135,26 @@ fn take_turn(
     if is_due(order, t.next, count, clock.draw) {
         return send_turn(sites, depth, words, order, t);
     }
-    draw_turn(channels, routes, sites, depth, tries, words, book, t)
+    draw_turn(
+        channels,
+        routes,
+        version,
+        edition,
+        sites,
+        depth,
+        tries,
+        words,
+        book,
+        t,
+    )
 }
 
 // The turns of a valid run, from zero words: first its sends and draws in turn, then no more.
 fn play_turns(
-    channels: &[u8],
+    channels: &[u16],
     routes: &[u16],
+    version: u8,
+    edition: u8,
     sites: usize,
     depth: usize,
     tries: u8,
@@ -147,12 +166,12 @@ fn play_turns(
     book: &mut [u8],
 ) -> Tally
     requires { ⌜
-        Startable (runWith (networkBy sites depth tries (now channels) (now routes)) sends count seed draws)
+        Startable (runWith (networkBy version edition sites depth tries (now channels) (now routes)) sends count seed draws)
         (now words) (length (now book))
         ⌝ }
     ensures { λ r. ⌜
         Stands
-        (runWith (networkBy sites depth tries (now (channels .entry)) (now (routes .entry))) sends count seed draws)
+        (runWith (networkBy version edition sites depth tries (now (channels .entry)) (now (routes .entry))) sends count seed draws)
         (now (words .exit)) (now (book .entry)) (now (book .exit)) r
         ⌝ }
 {
@@ -174,6 +193,8 @@ fn play_turns(
         t = take_turn(
             channels,
             routes,
+            version,
+            edition,
             sites,
             depth,
             tries,
@@ -203,6 +224,8 @@ fn play_run(
         × (now (book .exit) ≡ bookIn (runWith network sends count seed draws) (now (book .entry)))
         ⌝ }
 {
+    let version = network.version;
+    let edition = network.edition;
     let sites = network.sites;
     let depth = network.depth;
     let tries = network.tries;
@@ -212,6 +235,8 @@ fn play_run(
     let t = play_turns(
         &channels,
         &routes,
+        version,
+        edition,
         sites,
         depth,
         tries,

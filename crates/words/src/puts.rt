@@ -37,14 +37,20 @@ pub(crate) fn put_local(words: &mut [u64], s: usize, turn: LocalTurn) -> Ran
     Ran::Nothing
 }
 
-pub(crate) fn put_channel(words: &mut [u64], s: usize, j: usize, byte: u8, turn: ChannelTurn) -> Ran
-    requires { ⌜ (s < sitesMost) × (j < portCount) × (length (now words) ≡ wordCount) × (byte < endCount) ⌝ }
-    ensures { λ r. ⌜ spec.DidPass (now (words .entry)) (now (words .exit)) s r j byte (spec.channelBack turn) ⌝ }
+pub(crate) fn put_channel(
+    words: &mut [u64],
+    s: usize,
+    j: usize,
+    channel: u16,
+    turn: ChannelTurn,
+) -> Ran
+    requires { ⌜ (s < sitesMost) × (j < portCount) × (length (now words) ≡ wordCount) × (channel < endCount) ⌝ }
+    ensures { λ r. ⌜ spec.DidPass (now (words .entry)) (now (words .exit)) s r j channel (spec.channelBack turn) ⌝ }
 {
     let output = turn.output;
     let input = turn.input;
     if turn.changed {
-        store_passed(words, s, j, output, byte, input);
+        store_passed(words, s, j, output, channel, input);
         return Ran::Changed;
     }
     Ran::Nothing

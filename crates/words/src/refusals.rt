@@ -1,4 +1,4 @@
-// The refusals that RUN and SEND on lent words share: 3, 6, 7 of the network; 13 for words that are no state's, or of a state
+// The refusals that RUN and SEND on lent words share: 2, 17, 3, 6, 7 of the network; 13 for words that are no state's, or of a state
 // that is not in range. Every place of every site is looked at, and no test leaves early.
 ghost use mathlib.Core.Path.{_≡_};
 ghost use mathlib.Core.List.{[]};
@@ -17,7 +17,7 @@ use types::Network;
 // Whether the words' state is in range for a network with these sites, tries and depth.
 pub(crate) fn is_in_range(sites: usize, tries: u8, depth: usize, words: &[u64]) -> bool
     requires { ⌜ length (now words) ≡ wordCount ⌝ }
-    ensures { λ r. ⌜ r ≡ inRange (networkBy sites depth tries [] []) (stateOf (now (words .entry))) ⌝ }
+    ensures { λ r. ⌜ r ≡ inRange (networkBy 0 0 sites depth tries [] []) (stateOf (now (words .entry))) ⌝ }
 {
     let counter = load_counter(words);
     let mut ok = true;
@@ -33,7 +33,7 @@ pub(crate) fn is_in_range(sites: usize, tries: u8, depth: usize, words: &[u64]) 
 
 // Whether these are the words of a state in range.
 fn is_fit(sites: usize, tries: u8, depth: usize, words: &[u64]) -> bool
-    ensures { λ r. ⌜ r ≡ isState (now (words .entry)) && inRange (networkBy sites depth tries [] []) (stateOf (now (words .entry))) ⌝ }
+    ensures { λ r. ⌜ r ≡ isState (now (words .entry)) && inRange (networkBy 0 0 sites depth tries [] []) (stateOf (now (words .entry))) ⌝ }
 {
     if is_state(words) {
         return is_in_range(sites, tries, depth, words);

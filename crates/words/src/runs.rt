@@ -13,8 +13,10 @@ use types::Ran;
 
 // RUN (s, code) on the words of a state in range of a valid network, handed in by its parts.
 pub(crate) fn run_in_place(
-    channels: &[u8],
+    channels: &[u16],
     routes: &[u16],
+    version: u8,
+    edition: u8,
     sites: usize,
     depth: usize,
     tries: u8,
@@ -22,13 +24,13 @@ pub(crate) fn run_in_place(
     s: usize,
     code: usize,
 ) -> Ran
-    requires { ⌜ RunAsks (networkBy sites depth tries (now channels) (now routes)) (now words) s ⌝ }
+    requires { ⌜ RunAsks (networkBy version edition sites depth tries (now channels) (now routes)) (now words) s ⌝ }
     ensures { λ r. ⌜
-        Did (networkBy sites depth tries (now (channels .entry)) (now (routes .entry))) (now (words .entry))
+        Did (networkBy version edition sites depth tries (now (channels .entry)) (now (routes .entry))) (now (words .entry))
         (now (words .exit)) s r
-        (act (networkBy sites depth tries (now (channels .entry)) (now (routes .entry))) s
+        (act (networkBy version edition sites depth tries (now (channels .entry)) (now (routes .entry))) s
         (siteIn (now (words .entry)) s)
-        (ends (networkBy sites depth tries (now (channels .entry)) (now (routes .entry)))
+        (ends (networkBy version edition sites depth tries (now (channels .entry)) (now (routes .entry)))
         (sitesOf (now (words .entry))) s)
         code)
         ⌝ }

@@ -8,27 +8,30 @@ use Rattle.singles.proofs.network_of.Statement.{statement}
 use Rattle.singles.proofs.network_of.Tie as tie
 use Rattle.singles.proofs.network_of.Reads as reads
 use Rattle.singles.proofs.network_of.Lts as lts
+use Rattle.singles.proofs.channel_of.Reads as channel-of-reads
 use Rattle.singles.proofs.short_of.Reads as short-of-reads
 use Rattle.singles.proofs.site.byte_of.Reads as byte-of-reads
 
 abbrev Inv-loop : tie.InvT-loop
-Inv-loop sites tries depth channel route channels₀ routes₀ i₀ channels routes i =
-    (i ≤ sitesMost * sitesMost) × (length channels ≡ portCount * sitesMost) × (length routes ≡ sitesMost * sitesMost)
+Inv-loop head wide channel route channels₀ routes₀ i₀ channels routes i = (i ≤ sitesMost * sitesMost) × (length channels ≡ portCount * sitesMost) × (length routes ≡ sitesMost * sitesMost)
 
 abbrev μ-loop : tie.MeasureT-loop
-μ-loop sites tries depth channel route channels₀ routes₀ i₀ channels routes i = sitesMost * sitesMost - i
+μ-loop head wide channel route channels₀ routes₀ i₀ channels routes i = sitesMost * sitesMost - i
 
 loop-holds : tie.Need-loop-holds Inv-loop μ-loop
 loop-holds c = search needs
 
-mul-byte-of : tie.Need-mul-byte-of Inv-loop μ-loop
-mul-byte-of c = search needs
+mul-channel-of : tie.Need-mul-channel-of Inv-loop μ-loop
+mul-channel-of c = search needs
 
-element-copy-out-byte-of : tie.Need-element-copy-out-byte-of Inv-loop μ-loop
-element-copy-out-byte-of c = search needs
+element-copy-out-channel-of : tie.Need-element-copy-out-channel-of Inv-loop μ-loop
+element-copy-out-channel-of c = search needs
 
-byte-of-requires : tie.Need-byte-of-requires Inv-loop μ-loop
-byte-of-requires c κs = search needs
+channel-of-requires : tie.Need-channel-of-requires Inv-loop μ-loop
+channel-of-requires c κs = search needs
+
+mul-channels : tie.Need-mul-channels Inv-loop μ-loop
+mul-channels c = search needs
 
 array-write-channels : tie.Need-array-write-channels Inv-loop μ-loop
 array-write-channels c = search needs
@@ -57,8 +60,14 @@ loop-less c = search needs
 loop-again : tie.Need-loop-again Inv-loop μ-loop
 loop-again c = search needs
 
+byte-of-requires : tie.Need-byte-of-requires Inv-loop μ-loop
+byte-of-requires c κs = search needs
+
 byte-of-requires-2 : tie.Need-byte-of-requires-2 Inv-loop μ-loop
 byte-of-requires-2 c κs = search needs
+
+byte-of-requires-3 : tie.Need-byte-of-requires-3 Inv-loop μ-loop
+byte-of-requires-3 c κs = search needs
 
 returns : tie.Need-returns Inv-loop μ-loop
 returns c = search needs
@@ -70,9 +79,10 @@ network-of-spec =
     Inv-loop
     μ-loop
     loop-holds
-    mul-byte-of
-    element-copy-out-byte-of
-    byte-of-requires
+    mul-channel-of
+    element-copy-out-channel-of
+    channel-of-requires
+    mul-channels
     array-write-channels
     mul-short-of
     element-copy-out-short-of
@@ -82,5 +92,7 @@ network-of-spec =
     add-i
     loop-less
     loop-again
+    byte-of-requires
     byte-of-requires-2
+    byte-of-requires-3
     returns)

@@ -1,15 +1,25 @@
--- `put_state` is safe and ends: the index stays within the 16 sites, and what is left of them falls. Assumes nothing.
+-- `put_state` is safe and ends: the index stays within the sites, and what is left of them falls. Assumes nothing.
 use Prim.Native.Nat.{_≤_, _-_}
 use borrow.Author.Needs.{needs}
 use Rattle.base.specs.Sizes.{sitesMost}
 use Rattle.singles.proofs.put_state.Statement.{statement}
 use Rattle.singles.proofs.put_state.Tie as tie
+use Rattle.singles.proofs.put_state.Reads as reads
+use Rattle.singles.proofs.put_state.Lts as lts
+use Rattle.singles.proofs.line.put.Reads as put-reads
+use Rattle.singles.proofs.line.write.Reads as write-reads
+use Rattle.singles.proofs.numbers.of_site.Reads as of-site-reads
+use Rattle.singles.proofs.put_site.Reads as put-site-reads
+use Rattle.singles.proofs.sites_of.Reads as sites-of-reads
 
 abbrev Inv-loop : tie.InvT-loop
-Inv-loop end sites s₀ s = s ≤ sitesMost
+Inv-loop wide last end sites s₀ s = (s ≤ last) × (last ≤ sitesMost)
 
 abbrev μ-loop : tie.MeasureT-loop
-μ-loop end sites s₀ s = sitesMost - s
+μ-loop wide last end sites s₀ s = last - s
+
+sites-of-requires : tie.Need-sites-of-requires Inv-loop μ-loop
+sites-of-requires c κs = search needs
 
 cast-put : tie.Need-cast-put Inv-loop μ-loop
 cast-put c = search needs
@@ -53,6 +63,7 @@ put-state-spec =
     (tie.spec
     Inv-loop
     μ-loop
+    sites-of-requires
     cast-put
     put-requires
     write-requires

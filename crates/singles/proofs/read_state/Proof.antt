@@ -1,15 +1,26 @@
--- `read_state` is safe and ends: the index stays within the 16 sites, and what is left of them falls. Assumes nothing.
+-- `read_state` is safe and ends: the index stays within the sites, and what is left of them falls. Assumes nothing.
 use Prim.Native.Nat.{_≤_, _-_}
 use borrow.Author.Needs.{needs}
 use Rattle.base.specs.Sizes.{sitesMost}
 use Rattle.singles.proofs.read_state.Statement.{statement}
 use Rattle.singles.proofs.read_state.Tie as tie
+use Rattle.singles.proofs.read_state.Reads as reads
+use Rattle.singles.proofs.read_state.Lts as lts
+use Rattle.machine.proofs.empty_state.Reads as empty-state-reads
+use Rattle.singles.proofs.site.byte_of.Reads as byte-of-reads
+use Rattle.singles.proofs.site.site_of.Reads as site-of-reads
+use Rattle.singles.proofs.sites_of.Reads as sites-of-reads
+use Rattle.singles.proofs.text.number.Reads as number-reads
+use Rattle.singles.proofs.text.site_numbers.Reads as site-numbers-reads
 
 abbrev Inv-loop : tie.InvT-loop
-Inv-loop piece₀ state₀ cursor₀ s₀ piece state cursor s = s ≤ sitesMost
+Inv-loop piece₀ wide end state₀ cursor₀ s₀ piece state cursor s = (s ≤ end) × (end ≤ sitesMost)
 
 abbrev μ-loop : tie.MeasureT-loop
-μ-loop piece₀ state₀ cursor₀ s₀ piece state cursor s = sitesMost - s
+μ-loop piece₀ wide end state₀ cursor₀ s₀ piece state cursor s = end - s
+
+sites-of-requires : tie.Need-sites-of-requires Inv-loop μ-loop
+sites-of-requires c κs = search needs
 
 number-requires : tie.Need-number-requires Inv-loop μ-loop
 number-requires c κs = search needs
@@ -32,8 +43,8 @@ site-numbers-requires c κs = search needs
 site-of-requires : tie.Need-site-of-requires Inv-loop μ-loop
 site-of-requires c κs = search needs
 
-mul-t18 : tie.Need-mul-t18 Inv-loop μ-loop
-mul-t18 c = search needs
+mul-t20 : tie.Need-mul-t20 Inv-loop μ-loop
+mul-t20 c = search needs
 
 element-set-from-state : tie.Need-element-set-from-state Inv-loop μ-loop
 element-set-from-state c = search needs
@@ -56,6 +67,7 @@ read-state-spec =
     (tie.spec
     Inv-loop
     μ-loop
+    sites-of-requires
     number-requires
     empty-state-requires
     byte-of-requires
@@ -63,7 +75,7 @@ read-state-spec =
     number-requires-2
     site-numbers-requires
     site-of-requires
-    mul-t18
+    mul-t20
     element-set-from-state
     add-s
     loop-less

@@ -2,10 +2,9 @@
 use mathlib.Core.Path.{_≡_, refl, sym, _∙_}
 use Prim.Native.Nat.{_≤_, _-_}
 use native.Mathlib.Omega.{arith}
+use borrow.Author.Needs.{needs}
 use Rattle.base.specs.Over.{over-none, over-step}
 use Rattle.format.specs.Format.{routesOf}
-use native.Mathlib.Omega.{arith}
-use borrow.Author.Needs.{needs}
 use Rattle.archive.proofs.reader.read_routes.Statement.{statement}
 use Rattle.archive.proofs.reader.read_routes.Tie as tie
 use Rattle.archive.proofs.reader.read_routes.Reads as reads
@@ -53,8 +52,8 @@ loop-less c = omega arith
 
 loop-again : tie.Need-loop-again Inv-loop μ-loop
 loop-again c =
-    let word = c .word in
     let loop = c .before .before .before .before .loop in
+    let word = c .word in
     (omega arith, over-step _ _ _ _ _ (loop .inv .1) (word .ensures) (omega arith))
 
 returns : tie.Need-returns Inv-loop μ-loop

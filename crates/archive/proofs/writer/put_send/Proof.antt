@@ -1,75 +1,55 @@
--- `writer::put_send` meets its contract: five stores. Assumes nothing.
+-- `writer::put_send` meets its contract: three parts, one behind the other. Assumes nothing.
+use mathlib.Core.Path.{refl, _∙_}
 use native.Mathlib.Omega.{arith}
-use lib.ListN.{length-set}
-use Rattle.archive.proofs.Put.{put-five}
-use native.Mathlib.Omega.{arith}
+use Rattle.base.specs.Put.{put-append}
 use borrow.Author.Needs.{needs}
 use Rattle.archive.proofs.writer.put_send.Statement.{statement}
 use Rattle.archive.proofs.writer.put_send.Tie as tie
 use Rattle.archive.proofs.writer.put_send.Reads as reads
 use Rattle.archive.proofs.writer.put_send.Lts as lts
+use Rattle.archive.proofs.writer.put_byte.Reads as put-byte-reads
+use Rattle.archive.proofs.writer.put_set.Reads as put-set-reads
+use Rattle.archive.proofs.writer.put_word.Reads as put-word-reads
 
-cast-out : tie.Need-cast-out
-cast-out c = search needs
+cast-put-word : tie.Need-cast-put-word
+cast-put-word c = search needs
 
-slice-write-out : tie.Need-slice-write-out
-slice-write-out c = search needs
+put-word-requires : tie.Need-put-word-requires
+put-word-requires c κs = search needs
 
-cast-out-2 : tie.Need-cast-out-2
-cast-out-2 c = search needs
+add-put-byte : tie.Need-add-put-byte
+add-put-byte c = search needs
 
-add-out : tie.Need-add-out
-add-out c = search needs
+put-byte-requires : tie.Need-put-byte-requires
+put-byte-requires c κs = search needs
 
-slice-write-out-2 : tie.Need-slice-write-out-2
-slice-write-out-2 c = simp length-set (omega arith)
+add-put-set : tie.Need-add-put-set
+add-put-set c = search needs
 
-add-out-2 : tie.Need-add-out-2
-add-out-2 c = search needs
-
-slice-write-out-3 : tie.Need-slice-write-out-3
-slice-write-out-3 c = simp length-set (omega arith)
-
-cast-out-3 : tie.Need-cast-out-3
-cast-out-3 c = search needs
-
-add-out-3 : tie.Need-add-out-3
-add-out-3 c = search needs
-
-slice-write-out-4 : tie.Need-slice-write-out-4
-slice-write-out-4 c = simp length-set (omega arith)
-
-cast-out-4 : tie.Need-cast-out-4
-cast-out-4 c = search needs
-
-add-out-4 : tie.Need-add-out-4
-add-out-4 c = search needs
-
-slice-write-out-5 : tie.Need-slice-write-out-5
-slice-write-out-5 c = simp length-set (omega arith)
+put-set-requires : tie.Need-put-set-requires
+put-set-requires c κs = search needs
 
 same-length : tie.Need-same-length
 same-length c = search needs
 
 returns : tie.Need-returns
-returns c = put-five _ _ _ _ _ _ _ (c .before .before .before .before .pre)
+returns c =
+    let past = c .before .before .before .before .before .before in
+    let word = past .before .before .before .before .put-word .ensures in
+    let byte = c .before .before .before .before .before .before .put-byte .ensures in
+    let set = c .before .before .put-set .ensures in
+    let b = byte ∙ put-append _ _ _ _ _ _ (omega arith) word refl in
+    set ∙ put-append _ _ _ _ _ _ (omega arith) b refl
 
 pub put-send-spec : {M : Type 1} → statement M
 put-send-spec =
     tie.close
     (tie.spec
-    cast-out
-    slice-write-out
-    cast-out-2
-    add-out
-    slice-write-out-2
-    add-out-2
-    slice-write-out-3
-    cast-out-3
-    add-out-3
-    slice-write-out-4
-    cast-out-4
-    add-out-4
-    slice-write-out-5
+    cast-put-word
+    put-word-requires
+    add-put-byte
+    put-byte-requires
+    add-put-set
+    put-set-requires
     same-length
     returns)

@@ -1,8 +1,7 @@
 -- `writer::put_word` meets its contract: two stores. Assumes nothing.
-use native.Mathlib.Omega.{arith}
 use lib.ListN.{length-set}
-use Rattle.archive.proofs.Put.{put-two}
 use native.Mathlib.Omega.{arith}
+use Rattle.archive.proofs.Put.{put-two}
 use borrow.Author.Needs.{needs}
 use Rattle.archive.proofs.writer.put_word.Statement.{statement}
 use Rattle.archive.proofs.writer.put_word.Tie as tie

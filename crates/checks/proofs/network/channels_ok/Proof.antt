@@ -15,7 +15,7 @@ use Rattle.checks.proofs.network.channels_ok.Statement.{statement}
 use Rattle.checks.proofs.network.channels_ok.Tie as tie
 use Rattle.checks.proofs.network.channels_ok.Reads as reads
 use Rattle.checks.proofs.network.channels_ok.Lts as lts
-use Rattle.base.proofs.wide.Reads as wide-reads
+use Rattle.base.proofs.wider.Reads as wider-reads
 use Rattle.checks.proofs.network.is_input.Reads as is-input-reads
 
 abbrev Inv-loop : tie.InvT-loop
@@ -34,8 +34,11 @@ loop-holds c =
     let args = c .before .args in
     (omega arith, omega (arith, pre), all-none _, refl, fed-none (args .network .channels))
 
-array-read-byte : tie.Need-array-read-byte Inv-loop μ-loop
-array-read-byte c = omega arith
+mul-channel : tie.Need-mul-channel Inv-loop μ-loop
+mul-channel c = omega arith
+
+array-read-channel : tie.Need-array-read-channel Inv-loop μ-loop
+array-read-channel c = omega arith
 
 add-c : tie.Need-add-c Inv-loop μ-loop
 add-c c = omega arith
@@ -58,22 +61,22 @@ loop-again c =
 is-input-requires : tie.Need-is-input-requires Inv-loop μ-loop
 is-input-requires c κs = search needs
 
-wide-requires : tie.Need-wide-requires Inv-loop μ-loop
-wide-requires c κs = search needs
+wider-requires : tie.Need-wider-requires Inv-loop μ-loop
+wider-requires c κs = search needs
 
 array-read-if3 : tie.Need-array-read-if3 Inv-loop μ-loop
 array-read-if3 c =
-    let wide = c .wide in
+    let wider = c .wider in
     let if2 = c .before .if2 in
     let is-input = c .before .before .is-input in
     let past = c .before .before .before .before .before .before in
     let args = past .before .args in
-    omega (arith, input-known _ _ (args .network .sites) _ (wide .ensures .0) (is-input .ensures) (if2 .taken))
+    omega (arith, input-known _ _ (args .network .sites) _ (wider .ensures .0) (is-input .ensures) (if2 .taken))
 
 returns : tie.Need-returns Inv-loop μ-loop
 returns c =
     let if3 = c .if3 in
-    let wide = c .before .wide in
+    let wider = c .before .wider in
     let if2 = c .before .before .if2 in
     let is-input = c .before .before .before .is-input in
     let if1 = c .before .before .before .before .if1 in
@@ -81,18 +84,18 @@ returns c =
     let past = c .before .before .before .before .before .before in
     let loop = past .loop in
     let args = past .before .before .args in
-    let l = input-known _ _ (args .network .sites) _ (wide .ensures .0) (is-input .ensures) (if2 .taken) in
-    fed-twice (args .network .channels) (loop .fed) _ (loop .c) (wide .result) (wide .ensures .0) (loop .inv .4)
+    let l = input-known _ _ (args .network .sites) _ (wider .ensures .0) (is-input .ensures) (if2 .taken) in
+    fed-twice (args .network .channels) (loop .fed) _ (loop .c) (wider .result) (wider .ensures .0) (loop .inv .4)
     (loop .inv .3) (loop-test .taken) (if1 .left) l (loop .inv .1) (if3 .taken)
 
 array-write-fed : tie.Need-array-write-fed Inv-loop μ-loop
 array-write-fed c =
-    let wide = c .before .wide in
+    let wider = c .before .wider in
     let if2 = c .before .before .if2 in
     let is-input = c .before .before .before .is-input in
     let past = c .before .before .before .before .before .before in
     let args = past .before .before .args in
-    omega (arith, input-known _ _ (args .network .sites) _ (wide .ensures .0) (is-input .ensures) (if2 .taken))
+    omega (arith, input-known _ _ (args .network .sites) _ (wider .ensures .0) (is-input .ensures) (if2 .taken))
 
 add-c-2 : tie.Need-add-c-2 Inv-loop μ-loop
 add-c-2 c = omega arith
@@ -103,7 +106,7 @@ loop-less-2 c = omega arith
 loop-again-2 : tie.Need-loop-again-2 Inv-loop μ-loop
 loop-again-2 c =
     let if3 = c .if3 in
-    let wide = c .before .wide in
+    let wider = c .before .wider in
     let if2 = c .before .before .if2 in
     let is-input = c .before .before .before .is-input in
     let if1 = c .before .before .before .before .if1 in
@@ -111,14 +114,14 @@ loop-again-2 c =
     let past = c .before .before .before .before .before .before in
     let loop = past .loop in
     let args = past .before .before .args in
-    let l = input-known _ _ (args .network .sites) _ (wide .ensures .0) (is-input .ensures) (if2 .taken) in (
+    let l = input-known _ _ (args .network .sites) _ (wider .ensures .0) (is-input .ensures) (if2 .taken) in (
       omega arith,
       omega arith,
-      fed-once (args .network .channels) (loop .fed) _ (loop .c) (wide .result) (wide .ensures .0) (loop .inv .4)
+      fed-once (args .network .channels) (loop .fed) _ (loop .c) (wider .result) (wider .ensures .0) (loop .inv .4)
           (loop .inv .3) (loop-test .taken) (if1 .left) l (loop .inv .1) (if3 .left)
           (loop .inv .2),
       simp length-set (loop .inv .3),
-      fed-now (args .network .channels) (loop .fed) _ (loop .c) (wide .result) (wide .ensures .0) (loop .inv .4)
+      fed-now (args .network .channels) (loop .fed) _ (loop .c) (wider .result) (wider .ensures .0) (loop .inv .4)
           (loop .inv .3) (loop-test .taken) (if1 .left) l (loop .inv .1),
     )
 
@@ -147,12 +150,13 @@ channels-ok-spec =
     μ-loop
     mul-end
     loop-holds
-    array-read-byte
+    mul-channel
+    array-read-channel
     add-c
     loop-less
     loop-again
     is-input-requires
-    wide-requires
+    wider-requires
     array-read-if3
     returns
     array-write-fed

@@ -1,77 +1,39 @@
--- `network::network_refusal` meets its contract: 3, 6, 7 in the definition's order. Assumes nothing.
+-- `network::network_refusal` meets its contract: 2 and 17, then what the network's parts are turned down for. Assumes nothing.
 use mathlib.Core.Path.{refl, sym, _∙_}
 use Rattle.model.specs.Network.{networkRefusal}
-use Rattle.checks.proofs.NetworkLaws.{sizes-few}
+use Rattle.checks.specs.Network.{partsRefusal}
+use Rattle.checks.proofs.NetworkLaws.{kind-then}
+use borrow.Author.Tests.{eq-eqb, ne-eqb}
 use borrow.Author.Needs.{needs}
 use Rattle.checks.proofs.network.network_refusal.Statement.{statement}
 use Rattle.checks.proofs.network.network_refusal.Tie as tie
 use Rattle.checks.proofs.network.network_refusal.Reads as reads
 use Rattle.checks.proofs.network.network_refusal.Lts as lts
-use Rattle.checks.proofs.network.channels_ok.Reads as channels-ok-reads
-use Rattle.checks.proofs.network.routes_ok.Reads as routes-ok-reads
-use Rattle.checks.proofs.network.sizes_ok.Reads as sizes-ok-reads
+use Rattle.checks.proofs.network.kind_refusal.Reads as kind-refusal-reads
+use Rattle.checks.proofs.network.parts_refusal.Reads as parts-refusal-reads
 
-sizes-ok-requires : tie.Need-sizes-ok-requires
-sizes-ok-requires c κs = search needs
-
-channels-ok-requires : tie.Need-channels-ok-requires
-channels-ok-requires c κs = sizes-few (c .before .before .args .network) (sym (c .before .sizes-ok .ensures) ∙ c .if1 .taken) .0
-
-routes-ok-requires : tie.Need-routes-ok-requires
-routes-ok-requires c κs =
-    let sizes-ok = c .before .before .before .sizes-ok in
-    let args = c .before .before .before .before .args in
-    sizes-few (args .network) (sym (sizes-ok .ensures) ∙ c .before .before .if1 .taken) .0
+kind-refusal-requires : tie.Need-kind-refusal-requires
+kind-refusal-requires c κs = search needs
 
 returns : tie.Need-returns
 unfolding networkRefusal
 returns c =
-    let the-channels-ok = c .before .before .before .channels-ok in
-    let the-if1 = c .before .before .before .before .if1 in
-    let the-sizes-ok = c .before .before .before .before .before .sizes-ok in
-    let channels-ok = the-channels-ok in
-    let if1 = the-if1 in
-    let sizes-ok = the-sizes-ok in
-    rw (
-      sym (sizes-ok .ensures) ∙ if1 .taken,
-      sym (channels-ok .ensures) ∙ c .before .before .if2 .taken,
-      sym (c .before .routes-ok .ensures) ∙ c .if3 .taken,
-    ) refl
+    let args = c .before .before .args in
+    sym
+    (kind-then (args .network) _ (partsRefusal (args .network)) (c .before .kind-refusal .ensures)
+    ∙ rw (ne-eqb _ 0 (c .if1 .taken)) refl)
+
+parts-refusal-requires : tie.Need-parts-refusal-requires
+parts-refusal-requires c κs = search needs
 
 returns-2 : tie.Need-returns-2
 unfolding networkRefusal
 returns-2 c =
-    let the-channels-ok = c .before .before .before .channels-ok in
-    let the-if1 = c .before .before .before .before .if1 in
-    let the-sizes-ok = c .before .before .before .before .before .sizes-ok in
-    let channels-ok = the-channels-ok in
-    let if1 = the-if1 in
-    let sizes-ok = the-sizes-ok in
-    rw (
-      sym (sizes-ok .ensures) ∙ if1 .taken,
-      sym (channels-ok .ensures) ∙ c .before .before .if2 .taken,
-      sym (c .before .routes-ok .ensures) ∙ c .if3 .left,
-    ) refl
-
-returns-3 : tie.Need-returns-3
-unfolding networkRefusal
-returns-3 c =
-    let sizes-ok = c .before .before .before .sizes-ok in
-    rw (sym (sizes-ok .ensures) ∙ c .before .before .if1 .taken, sym (c .before .channels-ok .ensures) ∙ c .if2 .left)
-    refl
-
-returns-4 : tie.Need-returns-4
-unfolding networkRefusal
-returns-4 c = rw (sym (c .before .sizes-ok .ensures) ∙ c .if1 .left) refl
+    let args = c .before .before .before .args in
+    c .parts-refusal .ensures
+    ∙ sym
+    (kind-then (args .network) _ (partsRefusal (args .network)) (c .before .before .kind-refusal .ensures)
+    ∙ rw (eq-eqb _ 0 (c .before .if1 .left)) refl)
 
 pub network-refusal-spec : {M : Type 1} → statement M
-network-refusal-spec =
-    tie.close
-    (tie.spec
-    sizes-ok-requires
-    channels-ok-requires
-    routes-ok-requires
-    returns
-    returns-2
-    returns-3
-    returns-4)
+network-refusal-spec = tie.close (tie.spec kind-refusal-requires returns parts-refusal-requires returns-2)

@@ -11,11 +11,17 @@ use Rattle.checks.proofs.network.ports_by.Reads as ports-by-reads
 mul-at : tie.Need-mul-at
 mul-at c = search needs
 
+mul-first : tie.Need-mul-first
+mul-first c = search needs
+
 array-read-first : tie.Need-array-read-first
 array-read-first c = search needs
 
 add-second : tie.Need-add-second
 add-second c = search needs
+
+mul-second : tie.Need-mul-second
+mul-second c = search needs
 
 array-read-second : tie.Need-array-read-second
 array-read-second c = search needs
@@ -23,11 +29,17 @@ array-read-second c = search needs
 add-third : tie.Need-add-third
 add-third c = search needs
 
+mul-third : tie.Need-mul-third
+mul-third c = search needs
+
 array-read-third : tie.Need-array-read-third
 array-read-third c = search needs
 
 add-last : tie.Need-add-last
 add-last c = search needs
+
+mul-last : tie.Need-mul-last
+mul-last c = search needs
 
 array-read-last : tie.Need-array-read-last
 array-read-last c = search needs
@@ -43,12 +55,16 @@ ports-of-spec =
     tie.close
     (tie.spec
     mul-at
+    mul-first
     array-read-first
     add-second
+    mul-second
     array-read-second
     add-third
+    mul-third
     array-read-third
     add-last
+    mul-last
     array-read-last
     ports-by-requires
     returns)

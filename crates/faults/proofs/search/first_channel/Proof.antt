@@ -7,8 +7,7 @@ use Rattle.base.specs.All.{all, all-none, all-more}
 use Rattle.model.specs.Network.{channelOk}
 use Rattle.format.specs.Format.{networkOf}
 use Rattle.format.specs.First.{left-at, left-none}
-use Rattle.faults.proofs.Held.{few-sites}
-use native.Mathlib.Omega.{arith}
+use Rattle.faults.proofs.Held.{sized}
 use Rattle.faults.proofs.search.first_channel.Statement.{statement}
 use Rattle.faults.proofs.search.first_channel.Tie as tie
 use Rattle.faults.proofs.search.first_channel.Reads as reads
@@ -16,22 +15,19 @@ use Rattle.faults.proofs.search.first_channel.Lts as lts
 use Rattle.faults.proofs.tests.channel_ok.Reads as channel-ok-reads
 
 abbrev Inv-loop : tie.InvT-loop
-Inv-loop b sites end m₀ m = (m ≤ end) × (all (channelOk (networkOf b)) m ≡ true)
+Inv-loop b version sites end m₀ m = (m ≤ end) × (all (channelOk (networkOf b)) m ≡ true)
 
 abbrev μ-loop : tie.MeasureT-loop
-μ-loop b sites end m₀ m = end - m
+μ-loop b version sites end m₀ m = end - m
 
 mul-end : tie.Need-mul-end Inv-loop μ-loop
-mul-end c = omega (arith, few-sites _ (c .before .pre .0) (c .before .args .sites) (c .before .pre .1))
+mul-end c = omega (arith, sized _ _ _ (c .before .pre) .few)
 
 loop-holds : tie.Need-loop-holds Inv-loop μ-loop
 loop-holds c = (omega arith, all-none _)
 
 channel-ok-requires : tie.Need-channel-ok-requires Inv-loop μ-loop
-channel-ok-requires c κs =
-    let loop-test = c .loop-test in
-    let pre = c .before .before .before .pre in
-    (pre .0, pre .1, loop-test .taken)
+channel-ok-requires c κs = (c .before .before .before .pre, c .loop-test .taken)
 
 add-m : tie.Need-add-m Inv-loop μ-loop
 add-m c = omega arith
@@ -41,19 +37,17 @@ loop-less c = omega arith
 
 loop-again : tie.Need-loop-again Inv-loop μ-loop
 loop-again c =
-    let if1 = c .if1 in
-    let channel-ok = c .before .channel-ok in
-    let loop = c .before .before .before .loop in
-    (omega arith, all-more _ _ (loop .inv .1) (sym (channel-ok .ensures) ∙ if1 .taken))
+    let said = c .before in
+    let loop = said .before .before .loop in
+    (omega arith, all-more _ _ (loop .inv .1) (sym (said .channel-ok .ensures) ∙ c .if1 .taken))
 
 returns : tie.Need-returns Inv-loop μ-loop
 returns c =
-    let if1 = c .if1 in
-    let channel-ok = c .before .channel-ok in
-    let loop-test = c .before .before .loop-test in
-    let loop = c .before .before .before .loop in
-    let args = c .before .before .before .before .before .args in
-    left-at _ (4 * args .sites) (loop .m) (loop-test .taken) (loop .inv .1) (sym (channel-ok .ensures) ∙ if1 .left)
+    let said = c .before in
+    let turn = said .before in
+    let loop = turn .before .loop in
+    let args = turn .before .before .before .args in
+    left-at _ (4 * args .sites) (loop .m) (turn .loop-test .taken) (loop .inv .1) (sym (said .channel-ok .ensures) ∙ c .if1 .left)
 
 returns-2 : tie.Need-returns-2 Inv-loop μ-loop
 returns-2 c =

@@ -1,59 +1,86 @@
--- `tests::is_first` meets its contract: every channel byte before is compared. Assumes nothing.
-use mathlib.Core.Path.{_≡_, refl, sym}
-use mathlib.Core.Bool.{not}
-use Prim.Native.Nat.{_+_, _-_, _≤_}
+-- `tests::is_first` meets its contract: the bytes are those of channel m, by the version. Assumes nothing.
+use Prim.Native.Nat.{_+_, _*_, _≤_}
 use native.Mathlib.Omega.{arith}
-use lib.Dec.{eqb}
-use Rattle.base.specs.All.{all, all-none, all-next, all-end}
-use Rattle.format.specs.Format.{at, headLength}
-use native.Mathlib.Omega.{arith}
+use lib.ListN.{length}
+use Rattle.faults.proofs.Versions.{channel-first, channel-second}
+use Rattle.faults.proofs.Fed.{bytes-first, pairs-first}
+use borrow.Author.Needs.{needs}
 use Rattle.faults.proofs.tests.is_first.Statement.{statement}
 use Rattle.faults.proofs.tests.is_first.Tie as tie
 use Rattle.faults.proofs.tests.is_first.Reads as reads
 use Rattle.faults.proofs.tests.is_first.Lts as lts
+use Rattle.faults.proofs.tests.byte_is_first.Reads as byte-is-first-reads
+use Rattle.faults.proofs.tests.pair_is_first.Reads as pair-is-first-reads
 
-abbrev Inv-loop : tie.InvT-loop
-Inv-loop b m byte is-new₀ i₀ is-new i = (i ≤ m) × (is-new ≡ all (λ k. not (eqb (at b (headLength + k)) byte)) i)
+-- ---- where the channels stand, by the version: behind m bytes of them, or behind m pairs
 
-abbrev μ-loop : tie.MeasureT-loop
-μ-loop b m byte is-new₀ i₀ is-new i = m - i
+placed-1 : (c : tie.Then1) → 13 + c .before .before .args .m + 2 ≤ length (c .before .before .args .b .now)
+placed-1 c =
+    let start = c .before .before in
+    omega (arith, start .pre .1, channel-first (start .args .version) (start .args .m) (c .if1 .taken))
 
-loop-holds : tie.Need-loop-holds Inv-loop μ-loop
-loop-holds c = (omega arith, sym (all-none _))
+placed-2 : (c : tie.Else1) → 14 + 2 * c .before .before .args .m + 2 ≤ length (c .before .before .args .b .now)
+placed-2 c =
+    let start = c .before .before in
+    omega (arith, start .pre .1, channel-second (start .args .version) (start .args .m) (c .if1 .left))
 
-add-is-new : tie.Need-add-is-new Inv-loop μ-loop
-add-is-new c = omega arith
+-- ---- the needs
 
-shared-slice-read-is-new : tie.Need-shared-slice-read-is-new Inv-loop μ-loop
-shared-slice-read-is-new c = omega arith
+add-byte-is-first : tie.Need-add-byte-is-first
+add-byte-is-first c = search needs
 
-add-i : tie.Need-add-i Inv-loop μ-loop
-add-i c = omega arith
+shared-slice-read-byte-is-first : tie.Need-shared-slice-read-byte-is-first
+shared-slice-read-byte-is-first c = omega (arith, placed-1 (c .before))
 
-loop-less : tie.Need-loop-less Inv-loop μ-loop
-loop-less c = omega arith
+byte-is-first-requires : tie.Need-byte-is-first-requires
+byte-is-first-requires c κs = omega (arith, placed-1 (c .before))
 
-loop-again : tie.Need-loop-again Inv-loop μ-loop
-loop-again c =
-    let loop = c .before .before .loop in
-    (omega arith, all-next _ (loop .i) _ _ (loop .inv .1) refl)
-
-returns : tie.Need-returns Inv-loop μ-loop
+returns : tie.Need-returns
 returns c =
-    let loop = c .before .loop in
-    let args = c .before .before .args in
-    all-end _ (args .m) (loop .i) _ (loop .inv .0) (omega arith) (loop .inv .1)
+    let taken = c .before .before in
+    let args = taken .before .before .args in
+    bytes-first (args .version) (args .b .now) (args .m) _ (taken .if1 .taken) (c .byte-is-first .ensures)
+
+mul-pair-is-first : tie.Need-mul-pair-is-first
+mul-pair-is-first c = search needs
+
+add-pair-is-first : tie.Need-add-pair-is-first
+add-pair-is-first c = search needs
+
+shared-slice-read-pair-is-first : tie.Need-shared-slice-read-pair-is-first
+shared-slice-read-pair-is-first c = omega (arith, placed-2 (c .before))
+
+mul-pair-is-first-2 : tie.Need-mul-pair-is-first-2
+mul-pair-is-first-2 c = search needs
+
+add-pair-is-first-2 : tie.Need-add-pair-is-first-2
+add-pair-is-first-2 c = search needs
+
+shared-slice-read-pair-is-first-2 : tie.Need-shared-slice-read-pair-is-first-2
+shared-slice-read-pair-is-first-2 c = omega (arith, placed-2 (c .before .before))
+
+pair-is-first-requires : tie.Need-pair-is-first-requires
+pair-is-first-requires c κs = omega (arith, placed-2 (c .before .before))
+
+returns-2 : tie.Need-returns-2
+returns-2 c =
+    let left = c .before .before .before in
+    let args = left .before .before .args in
+    pairs-first (args .version) (args .b .now) (args .m) _ (left .if1 .left) (c .pair-is-first .ensures)
 
 pub is-first-spec : {M : Type 1} → statement M
 is-first-spec =
     tie.close
     (tie.spec
-    Inv-loop
-    μ-loop
-    loop-holds
-    add-is-new
-    shared-slice-read-is-new
-    add-i
-    loop-less
-    loop-again
-    returns)
+    add-byte-is-first
+    shared-slice-read-byte-is-first
+    byte-is-first-requires
+    returns
+    mul-pair-is-first
+    add-pair-is-first
+    shared-slice-read-pair-is-first
+    mul-pair-is-first-2
+    add-pair-is-first-2
+    shared-slice-read-pair-is-first-2
+    pair-is-first-requires
+    returns-2)

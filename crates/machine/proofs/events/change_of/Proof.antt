@@ -2,7 +2,7 @@ use mathlib.Core.Path.{_∙_}
 use native.Mathlib.Omega.{arith}
 use Rattle.theorems.proofs.Networks.{valid-ok}
 use Rattle.machine.proofs.RangeAt.{range-runnable}
-use Rattle.machine.proofs.Seen.{valid-bytes}
+use Rattle.machine.proofs.Seen.{valid-ends}
 use Rattle.machine.proofs.Single.{change-seen}
 use Rattle.machine.proofs.events.change_of.Statement.{statement}
 use Rattle.machine.proofs.events.change_of.Tie as tie
@@ -14,7 +14,7 @@ use Rattle.machine.proofs.store.seen_at.Reads as seen-at-reads
 seen-at-requires : tie.Need-seen-at-requires
 seen-at-requires c κs =
     let v = valid-ok (c .args .network) (c .pre .0) in
-    (omega (arith, v .few, c .pre .2), valid-bytes (c .args .network) v (c .args .s) (c .pre .2))
+    (omega (arith, v .few, c .pre .2), valid-ends (c .args .network) v (c .args .s) (c .pre .2))
 
 step-requires : tie.Need-step-requires
 step-requires c κs =

@@ -2,7 +2,7 @@ use Prim.Native.Nat.{_≤_, _<_}
 use native.Mathlib.Omega.{arith}
 use denote.Ref.{now}
 use Rattle.model.specs.Runs.{bookRoom}
-use Rattle.format.specs.Format.{at, countPlace}
+use Rattle.format.specs.Format.{versionOf, countPlace, countOf}
 use Rattle.machine.proofs.PlayerAnswers.{read-room, start-refused, start-short, start-done, start-playable}
 use native.Mathlib.Omega.{arith}
 use borrow.Author.Needs.{needs}
@@ -31,7 +31,7 @@ returns-2 c =
     let a = k .before .before .args in
     let b = now (a .bytes) in
     let z = c .before .before .if1 .left in
-    let byte : at b countPlace < 256 = omega (arith, k .before .shared-slice-known .given 12) in
+    let byte : countOf b < 256 = omega (arith, k .before .shared-slice-known .given (countPlace (versionOf b))) in
     let w = read-room b (k .read .result) (k .read .ensures) z byte (c .before .book-room .ensures) in
     (start-short b (k .read .result) (k .read .ensures) (a .room) z (omega (arith, w, c .if2 .taken)), λ e. absurd (omega (arith, e)))
 
@@ -41,7 +41,7 @@ returns-3 c =
     let a = k .before .before .args in
     let b = now (a .bytes) in
     let z = c .before .before .if1 .left in
-    let byte : at b countPlace < 256 = omega (arith, k .before .shared-slice-known .given 12) in
+    let byte : countOf b < 256 = omega (arith, k .before .shared-slice-known .given (countPlace (versionOf b))) in
     let w = read-room b (k .read .result) (k .read .ensures) z byte (c .before .book-room .ensures) in
     let h : bookRoom (k .read .result .run) ≤ a .room = omega (arith, w, c .if2 .left) in (
       start-done b (k .read .result) (k .read .ensures) (a .room) z h,

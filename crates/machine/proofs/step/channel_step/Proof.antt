@@ -11,7 +11,7 @@ use Rattle.machine.proofs.step.channel_step.Statement.{statement}
 use Rattle.machine.proofs.step.channel_step.Tie as tie
 use Rattle.machine.proofs.step.channel_step.Reads as reads
 use Rattle.machine.proofs.step.channel_step.Lts as lts
-use Rattle.machine.proofs.heard.channel_byte.Reads as channel-byte-reads
+use Rattle.machine.proofs.heard.channel_at.Reads as channel-at-reads
 use Rattle.machine.proofs.heard.is_channel.Reads as is-channel-reads
 use Rattle.machine.proofs.step.stays.Reads as stays-reads
 use Rattle.rules.proofs.channel_output.Reads as channel-output-reads
@@ -31,8 +31,8 @@ mul-input c = search needs
 array-copy-out-input : tie.Need-array-copy-out-input
 array-copy-out-input c = search needs
 
-channel-byte-requires : tie.Need-channel-byte-requires
-channel-byte-requires c κs = search needs
+channel-at-requires : tie.Need-channel-at-requires
+channel-at-requires c κs = search needs
 
 is-channel-requires : tie.Need-is-channel-requires
 is-channel-requires c κs = search needs
@@ -52,7 +52,7 @@ element-set-from-now c = search needs
 returns : tie.Need-returns
 returns c =
     let k = c .before .before .before in
-    let byte = k .before .before .channel-byte .ensures in
+    let byte = k .before .before .channel-at .ensures in
     let a = k .before .before .before .before .before .args in
     let o = outAt (a .t3) (suc (a .j)) in
     let y = farAt (a .t4) (suc (a .j)) in
@@ -66,7 +66,7 @@ stays-requires c κs = search needs
 returns-2 : tie.Need-returns-2
 returns-2 c =
     let k = c .before .before .before .before in
-    let byte = k .before .before .channel-byte .ensures in
+    let byte = k .before .before .channel-at .ensures in
     let a = k .before .before .before .before .before .args in
     let o = outAt (a .t3) (suc (a .j)) in
     let y = farAt (a .t4) (suc (a .j)) in
@@ -83,7 +83,7 @@ channel-step-spec =
     element-copy-out-output
     mul-input
     array-copy-out-input
-    channel-byte-requires
+    channel-at-requires
     is-channel-requires
     channel-output-requires
     add-now

@@ -6,21 +6,21 @@ use Rattle.machine.proofs.store.seen_at.Statement.{statement}
 use Rattle.machine.proofs.store.seen_at.Tie as tie
 use Rattle.machine.proofs.store.seen_at.Reads as reads
 use Rattle.machine.proofs.store.seen_at.Lts as lts
-use Rattle.machine.proofs.heard.channel_byte.Reads as channel-byte-reads
+use Rattle.machine.proofs.heard.channel_at.Reads as channel-at-reads
 use Rattle.machine.proofs.store.end_of.Reads as end-of-reads
 use Rattle.machine.proofs.store.end_site.Reads as end-site-reads
 
-channel-byte-requires : tie.Need-channel-byte-requires
-channel-byte-requires c κs = search needs
+channel-at-requires : tie.Need-channel-at-requires
+channel-at-requires c κs = search needs
 
-channel-byte-requires-2 : tie.Need-channel-byte-requires-2
-channel-byte-requires-2 c κs = search needs
+channel-at-requires-2 : tie.Need-channel-at-requires-2
+channel-at-requires-2 c κs = search needs
 
-channel-byte-requires-3 : tie.Need-channel-byte-requires-3
-channel-byte-requires-3 c κs = search needs
+channel-at-requires-3 : tie.Need-channel-at-requires-3
+channel-at-requires-3 c κs = search needs
 
-channel-byte-requires-4 : tie.Need-channel-byte-requires-4
-channel-byte-requires-4 c κs = search needs
+channel-at-requires-4 : tie.Need-channel-at-requires-4
+channel-at-requires-4 c κs = search needs
 
 mul-site : tie.Need-mul-site
 mul-site c = search needs
@@ -90,20 +90,20 @@ returns c =
     let xs = a .t2 .sites in
     let h = start .pre .1 in
     rw (
-      end-seen n xs (a .s) h 0 (omega arith) (bytes .before .before .before .channel-byte .ensures) (first .end-site .ensures) (far .end-of .ensures),
-      end-seen n xs (a .s) h 1 (omega arith) (bytes .before .before .channel-byte2 .ensures) (second .end-site2 .ensures) (c .before .before .end-of2 .ensures),
-      end-seen n xs (a .s) h 2 (omega arith) (bytes .before .channel-byte3 .ensures) (third .end-site3 .ensures) (c .before .end-of3 .ensures),
-      end-seen n xs (a .s) h 3 (omega arith) (bytes .channel-byte4 .ensures) (fourth .end-site4 .ensures) (c .end-of4 .ensures),
+      end-seen n xs (a .s) h 0 (omega arith) (bytes .before .before .before .channel-at .ensures) (first .end-site .ensures) (far .end-of .ensures),
+      end-seen n xs (a .s) h 1 (omega arith) (bytes .before .before .channel-at2 .ensures) (second .end-site2 .ensures) (c .before .before .end-of2 .ensures),
+      end-seen n xs (a .s) h 2 (omega arith) (bytes .before .channel-at3 .ensures) (third .end-site3 .ensures) (c .before .end-of3 .ensures),
+      end-seen n xs (a .s) h 3 (omega arith) (bytes .channel-at4 .ensures) (fourth .end-site4 .ensures) (c .end-of4 .ensures),
     ) refl
 
 pub seen-at-spec : {M : Type 1} → statement M
 seen-at-spec =
     tie.close
     (tie.spec
-    channel-byte-requires
-    channel-byte-requires-2
-    channel-byte-requires-3
-    channel-byte-requires-4
+    channel-at-requires
+    channel-at-requires-2
+    channel-at-requires-3
+    channel-at-requires-4
     mul-site
     element-copy-out-site
     end-site-requires

@@ -9,12 +9,13 @@ use Rattle.archive.proofs.read.Reads as read-reads
 use Rattle.machine.proofs.empty_state.Reads as empty-state-reads
 use Rattle.machine.proofs.send.Reads as send-reads
 use Rattle.timing.proofs.events.picked.Reads as picked-reads
+use Rattle.timing.proofs.events.site_of.Reads as site-of-reads
 
 abbrev Inv-loop : tie.InvT-loop
-Inv-loop bytes times network state₀ k₀ state k = k ≤ times
+Inv-loop bytes times network sites state₀ k₀ state k = k ≤ times
 
 abbrev μ-loop : tie.MeasureT-loop
-μ-loop bytes times network state₀ k₀ state k = times - k
+μ-loop bytes times network sites state₀ k₀ state k = times - k
 
 read-requires : tie.Need-read-requires Inv-loop μ-loop
 read-requires c κs = search needs
@@ -24,6 +25,9 @@ empty-state-requires c κs = search needs
 
 loop-holds : tie.Need-loop-holds Inv-loop μ-loop
 loop-holds c = search needs
+
+site-of-requires : tie.Need-site-of-requires Inv-loop μ-loop
+site-of-requires c κs = search needs
 
 send-requires : tie.Need-send-requires Inv-loop μ-loop
 send-requires c κs = search needs
@@ -52,6 +56,7 @@ timing-sends-spec =
     read-requires
     empty-state-requires
     loop-holds
+    site-of-requires
     send-requires
     add-k
     loop-less

@@ -13,10 +13,10 @@ use Rattle.words.proofs.form.write_zeros.Reads as reads
 use Rattle.words.proofs.form.write_zeros.Lts as lts
 
 abbrev Inv-loop : tie.InvT-loop
-Inv-loop words₀ m₀ words m = (m ≤ 865) × (length words ≡ wordCount) × (words ≡ over (λ i. 0) m words₀)
+Inv-loop words₀ m₀ words m = (m ≤ wordCount) × (length words ≡ wordCount) × (words ≡ over (λ i. 0) m words₀)
 
 abbrev μ-loop : tie.MeasureT-loop
-μ-loop words₀ m₀ words m = 865 - m
+μ-loop words₀ m₀ words m = wordCount - m
 
 -- src/form.rt:113:5
 loop-holds : tie.Need-loop-holds Inv-loop μ-loop

@@ -19,7 +19,7 @@ same-length c = search needs
 
 -- src/inputs.rt:169:9
 returns : tie.Need-returns
-returns c = λ D. quiet-none _ _ _ _ _ (search needs) (c .before .state-of .ensures) (c .if1 .taken)
+returns c = λ version edition D. quiet-none _ _ _ _ _ (search needs) (c .before .state-of .ensures) (c .if1 .taken)
 
 -- src/inputs.rt:172:9
 seek-in-place-requires : tie.Need-seek-in-place-requires
@@ -31,7 +31,7 @@ same-length-2 c = search needs
 
 -- src/inputs.rt:172:9
 returns-2 : tie.Need-returns-2
-returns-2 c = λ D. c .before .before .seek-in-place .ensures D _
+returns-2 c = λ version edition D. c .before .before .seek-in-place .ensures version edition D _
 
 -- src/inputs.rt:174:5
 other-in-place-requires : tie.Need-other-in-place-requires
@@ -43,7 +43,7 @@ same-length-3 c = search needs
 
 -- src/inputs.rt:155:1
 returns-3 : tie.Need-returns-3
-returns-3 c = λ D. c .before .before .other-in-place .ensures _ refl
+returns-3 c = λ version edition D. c .before .before .other-in-place .ensures _ refl
 
 pub input-in-place-spec : {M : Type 1} → statement M
 input-in-place-spec =

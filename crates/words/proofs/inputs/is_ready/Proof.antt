@@ -7,16 +7,19 @@ use Rattle.words.proofs.inputs.is_heard.Reads as is-heard-reads
 use Rattle.words.proofs.load.is_taken.Reads as is-taken-reads
 
 -- src/inputs.rt:46:25
-mul-byte : tie.Need-mul-byte
-mul-byte c = search needs
+mul-channel : tie.Need-mul-channel
+mul-channel c = search needs
 
 -- src/inputs.rt:46:25
-add-byte : tie.Need-add-byte
-add-byte c = search needs
+add-channel : tie.Need-add-channel
+add-channel c = search needs
 
 -- src/inputs.rt:46:16
-shared-slice-read-byte : tie.Need-shared-slice-read-byte
-shared-slice-read-byte c = search needs
+mul-channel-2 : tie.Need-mul-channel-2
+mul-channel-2 c = search needs
+
+shared-slice-read-channel : tie.Need-shared-slice-read-channel
+shared-slice-read-channel c = search needs
 
 -- src/inputs.rt:47:36
 add-is-taken : tie.Need-add-is-taken
@@ -38,9 +41,10 @@ pub is-ready-spec : {M : Type 1} → statement M
 is-ready-spec =
     tie.close
     (tie.spec
-    mul-byte
-    add-byte
-    shared-slice-read-byte
+    mul-channel
+    add-channel
+    mul-channel-2
+    shared-slice-read-channel
     add-is-taken
     is-taken-requires
     is-heard-requires

@@ -4,13 +4,13 @@ use Rattle.words.proofs.pairs.store_passed.Statement.{statement}
 use Rattle.words.proofs.pairs.store_passed.Tie as tie
 use Rattle.words.proofs.pairs.store_passed.Reads as reads
 use Rattle.words.proofs.pairs.store_passed.Lts as lts
-use Rattle.base.proofs.wide.Reads as wide-reads
+use Rattle.base.proofs.wider.Reads as wider-reads
 use Rattle.words.proofs.store.store_input.Reads as store-input-reads
 use Rattle.words.proofs.store.store_output.Reads as store-output-reads
 
 -- src/pairs.rt:42:9
-wide-requires : tie.Need-wide-requires
-wide-requires c κs = search needs
+wider-requires : tie.Need-wider-requires
+wider-requires c κs = search needs
 
 -- src/pairs.rt:43:28
 add-store-output : tie.Need-add-store-output
@@ -37,14 +37,14 @@ returns : tie.Need-returns
 returns c =
     let past = c .before .before .before .before .before .before in
     let store-output = c .before .before .before .before .before .before .store-output in
-    let wide = past .before .before .wide in
-    passed-by _ _ _ _ _ _ _ _ _ (wide .ensures .0) (store-output .ensures) (c .before .before .store-input .ensures)
+    let wider = past .before .before .wider in
+    passed-by _ _ _ _ _ _ _ _ _ (wider .ensures .0) (store-output .ensures) (c .before .before .store-input .ensures)
 
 pub store-passed-spec : {M : Type 1} → statement M
 store-passed-spec =
     tie.close
     (tie.spec
-    wide-requires
+    wider-requires
     add-store-output
     store-output-requires
     add-store-input

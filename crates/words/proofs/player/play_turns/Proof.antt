@@ -20,11 +20,11 @@ use Rattle.machine.proofs.capped.Reads as capped-reads
 use Rattle.words.proofs.player.take_turn.Reads as take-turn-reads
 
 abbrev Inv-loop : tie.InvT-loop
-Inv-loop channels routes sites depth tries count seed draws words₀ book₀ sends total t₀ k₀ words book t k =
-    Going (runWith (networkBy sites depth tries channels routes) sends count seed draws) book₀ total k words book t
+Inv-loop channels routes version edition sites depth tries count seed draws words₀ book₀ sends total t₀ k₀ words book t k =
+    Going (runWith (networkBy version edition sites depth tries channels routes) sends count seed draws) book₀ total k words book t
 
 abbrev μ-loop : tie.MeasureT-loop
-μ-loop channels routes sites depth tries count seed draws words₀ book₀ sends total t₀ k₀ words book t k =
+μ-loop channels routes version edition sites depth tries count seed draws words₀ book₀ sends total t₀ k₀ words book t k =
     total - k
 
 -- src/player.rt:136:17

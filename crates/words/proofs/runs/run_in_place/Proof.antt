@@ -40,8 +40,8 @@ input-in-place-requires c κs =
       (i, p .channels),
       (
         λ j h e. p .ends j h e,
-        seekable (a .sites) (a .depth) (a .tries) (a .channels .now) (a .routes .now) (a .words .now) (a .s) p
-            (a .code) i,
+        seekable (a .version) (a .edition) (a .sites) (a .depth) (a .tries) (a .channels .now) (a .routes .now)
+            (a .words .now) (a .s) p (a .code) i,
       ),
     )
 
@@ -60,6 +60,10 @@ sub-channel-in-place-2 c = search needs
 -- src/runs.rt:31:64
 add-channel-in-place : tie.Need-add-channel-in-place
 add-channel-in-place c = search needs
+
+-- src/runs.rt:31:55
+mul-channel-in-place-2 : tie.Need-mul-channel-in-place-2
+mul-channel-in-place-2 c = search needs
 
 -- src/runs.rt:31:55
 shared-slice-read-channel-in-place : tie.Need-shared-slice-read-channel-in-place
@@ -116,7 +120,7 @@ same-length-5 c = search needs
 
 -- src/runs.rt:15:1
 returns-5 : tie.Need-returns-5
-returns-5 c = by-input _ _ _ _ _ _ (omega arith) (c .before .before .input-in-place .ensures _)
+returns-5 c = by-input _ _ _ _ _ _ (omega arith) (c .before .before .input-in-place .ensures _ _ _)
 
 -- src/runs.rt:15:1
 same-length-6 : tie.Need-same-length-6
@@ -143,6 +147,7 @@ run-in-place-spec =
     mul-channel-in-place
     sub-channel-in-place-2
     add-channel-in-place
+    mul-channel-in-place-2
     shared-slice-read-channel-in-place
     channel-in-place-requires
     same-length

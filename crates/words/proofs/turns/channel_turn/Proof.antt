@@ -5,14 +5,14 @@ use Rattle.words.proofs.turns.channel_turn.Statement.{statement}
 use Rattle.words.proofs.turns.channel_turn.Tie as tie
 use Rattle.words.proofs.turns.channel_turn.Reads as reads
 use Rattle.words.proofs.turns.channel_turn.Lts as lts
-use Rattle.base.proofs.wide.Reads as wide-reads
+use Rattle.base.proofs.wider.Reads as wider-reads
 use Rattle.words.proofs.load.load_input.Reads as load-input-reads
 use Rattle.words.proofs.load.load_output.Reads as load-output-reads
 use Rattle.rules.proofs.channel_output.Reads as channel-output-reads
 
 -- src/turns.rt:43:9
-wide-requires : tie.Need-wide-requires
-wide-requires c κs = search needs
+wider-requires : tie.Need-wider-requires
+wider-requires c κs = search needs
 
 -- src/turns.rt:44:40
 add-load-output : tie.Need-add-load-output
@@ -37,22 +37,22 @@ channel-output-requires c κs = search needs
 -- src/turns.rt:39:1
 returns : tie.Need-returns
 returns c =
-    let wide = c .before .before .before .wide in
+    let wider = c .before .before .before .wider in
     let args = c .before .before .before .before .before .args in
     rw (
       c .channel-output .ensures,
       c .before .load-input .ensures,
       c .before .before .load-output .ensures,
-      wide .ensures .0,
+      wider .ensures .0,
       add-one (args .j),
-      add-one (args .byte % 4),
+      add-one (args .channel % 4),
     )
 
 pub channel-turn-spec : {M : Type 1} → statement M
 channel-turn-spec =
     tie.close
     (tie.spec
-    wide-requires
+    wider-requires
     add-load-output
     load-output-requires
     add-load-input
