@@ -1,7 +1,8 @@
 #!/bin/sh
 # Makes the corpus (crates/batch/data, to which corpus leads) and its expected outputs (crates/batch/stdout, for the names
-# of crates/batch/stdin) anew under target/ (or the folder FENNQUALO_BUILD), and so the stored cases of crates/singles, and compares them with the committed
-# ones. With --write the committed ones are replaced instead (not corpus/typed, which is typed by hand).
+# of crates/batch/stdin) anew under target/ (or the folder FENNQUALO_BUILD), and so the stored cases of crates/singles,
+# and compares them with the committed ones. With --write the committed ones are replaced instead (not corpus/typed,
+# which is typed by hand).
 # It needs cargo; nothing is fetched.
 set -eu
 export LC_ALL=C
@@ -22,9 +23,10 @@ list() {
     printf '%s\n%s' .bin ./01-run-r.bin
 }
 
-# The stored cases of `singles` and what comes of them: 300 of seed 193.
+# The stored cases of `singles` and what comes of them, of seed 193: so many of the first form, so many of the second.
+stored='300 120'
 cases() {
-    "$programs/cases" 193 300 "$1/stdin" "$1/stdout" > /dev/null
+    "$programs/cases" 193 $stored "$1/stdin" "$1/stdout" > /dev/null
 }
 
 (cd "$root/reference" && cargo build --release --offline --quiet)
@@ -70,10 +72,10 @@ fi
 cases "$fresh"
 for name in stdin stdout; do
     cmp -s "$fresh/$name" "$singles/$name" ||
-        differs "crates/singles/$name is not what the second model's \`cases 193 300\` writes; --write makes it anew"
+        differs "crates/singles/$name is not what the second model's \`cases 193 $stored\` writes; --write makes it anew"
 done
 
-# The outputs typed from document 01 are those of the second model.
+# The outputs typed by hand are those of the second model.
 typed=0
 for file in "$root"/corpus/typed/*.out; do
     name=${file##*/}
@@ -84,4 +86,4 @@ for file in "$root"/corpus/typed/*.out; do
 done
 
 [ "$bad" = 0 ] || exit 1
-echo "expected: $(tail -n 1 "$outputs"), $typed typed by hand; the 300 stored cases of singles"
+echo "expected: $(tail -n 1 "$outputs"), $typed typed by hand; the $((${stored% *} + ${stored#* })) stored cases of singles"

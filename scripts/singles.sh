@@ -1,15 +1,16 @@
 #!/bin/sh
-# Single events through the product and the second model: makes COUNT cases (3000) from SEED (1) with the second model,
-# replays them with the proved program target/bin/singles (run as scripts/program.sh says) and compares what both print,
-# byte by byte.
+# Single events through the product and the second model: makes COUNT cases (3000) of the first form and WIDE (400) of
+# the second from SEED (1) with the second model, replays them with the proved program target/bin/singles (run as
+# scripts/program.sh says) and compares what both print, byte by byte.
 # Prints one line; fails at any difference, and leaves the texts in target/singles/. Run it after `rt ci` or `rt check`.
-# usage: scripts/singles.sh [COUNT] [SEED]. It needs cargo; nothing is fetched.
+# usage: scripts/singles.sh [COUNT] [SEED] [WIDE]. It needs cargo; nothing is fetched.
 set -eu
 export LC_ALL=C
 root=$(CDPATH= cd -- "$(dirname -- "$0")/.." && pwd)
 export CARGO_TARGET_DIR="$root/target/reference"
 count=${1:-3000}
 seed=${2:-1}
+wide=${3:-400}
 program="$root/target/bin/singles"
 texts="$root/target/singles"
 
@@ -24,15 +25,16 @@ if ! can_run "$program"; then
 fi
 (cd "$root/reference" && cargo build --release --offline --quiet)
 mkdir -p "$texts"
-"$CARGO_TARGET_DIR/release/cases" "$seed" "$count" "$texts/cases" "$texts/expected" > "$texts/counters"
+"$CARGO_TARGET_DIR/release/cases" "$seed" "$count" "$wide" "$texts/cases" "$texts/expected" > "$texts/counters"
 if ! run "$program" < "$texts/cases" > "$texts/printed"; then
     echo "singles: target/bin/singles failed on target/singles/cases" >&2
     exit 1
 fi
 if ! cmp -s "$texts/expected" "$texts/printed"; then
-    echo "singles: target/singles/printed differs from target/singles/expected; a case has 18 lines:" >&2
+    echo "singles: target/singles/printed differs from target/singles/expected; a case of the first form has 18" \
+        "lines, one of the second 66:" >&2
     diff "$texts/expected" "$texts/printed" | head -n 6 >&2 || true
     exit 1
 fi
-passed=$(awk '/not refused/ { print $1 }' "$texts/counters")
-echo "singles: $count single events of seed $seed, $passed of them not refused, 0 differences"
+passed=$(awk '/not refused/ { print $1 + $2 }' "$texts/counters")
+echo "singles: $count and $wide single events of seed $seed, $passed of them not refused, 0 differences"

@@ -1,15 +1,16 @@
-//! The stored run: its reader (refusals 1 to 8) and its writer (3, 4, 5, 6, 7, 8, 14).
+//! The stored run: its reader (refusals 1, 2, 17, 3 to 8) and its writer (2, 17, 3 to 8, 14), in both versions.
 //!
-//! Each refusal is judged over the whole archive before the next one.
+//! Each refusal is judged over the whole archive before the next one. `format` says what stands where.
 
-use crate::network::{Network, SITES};
+use crate::format::{channel, number, Format, FEWEST, VERSION_AT};
+use crate::network::{Network, EDITION, SITES};
 use crate::refusal::Refusal;
 use crate::sets::{is_target_set, Set};
 
-/// Bytes before the channels.
-pub const HEAD: usize = 13;
 /// Sends that an archive can hold.
 pub const SENDS: usize = 255;
+/// Bytes of the longest archive.
+pub const LONGEST: usize = Format::of(2).length(SITES, SENDS);
 
 /// A stored send, applied before draw `draw`.
 #[derive(Clone, Copy, PartialEq, Eq, Debug)]
@@ -19,7 +20,7 @@ pub struct Send {
     pub set: Set,
 }
 
-/// A stored run.
+/// A stored run; its version and edition are the network's.
 #[derive(Clone, PartialEq, Eq, Debug)]
 pub struct Run {
     pub network: Network,
@@ -28,43 +29,40 @@ pub struct Run {
     pub sends: Vec<Send>,
 }
 
-/// The length of an archive with this many sites and sends.
-pub fn length(sites: usize, sends: usize) -> usize {
-    HEAD + 4 * sites + 2 * sites * sites + 5 * sends
-}
-
-fn word(bytes: &[u8], at: usize) -> u16 {
-    u16::from_be_bytes([bytes[at], bytes[at + 1]])
-}
-
-/// The run that the bytes hold, or the first refusal of 1 to 8.
+/// The run that the bytes hold, or the first refusal of 1, 2, 17, 3 to 8.
 pub fn read(bytes: &[u8]) -> Result<Run, Refusal> {
-    if bytes.len() < HEAD || word(bytes, 0) as usize != bytes.len() {
+    if bytes.len() < FEWEST || number(&bytes[..2]) as usize != bytes.len() {
         return Err(Refusal::Length);
     }
-    if bytes[2] != 1 {
-        return Err(Refusal::Version);
-    }
-    let (sites, tries, depth) = (bytes[3] as u64, bytes[4], bytes[5] as u64);
-    let mut network = Network { sites, tries, depth, ..Network::blank() };
-    network.check_limits()?;
-    let seed = u32::from_be_bytes([bytes[6], bytes[7], bytes[8], bytes[9]]);
+    let version = bytes[VERSION_AT];
+    let format = Format::of(version);
+    let mut network = Network {
+        version,
+        edition: format.edition.map_or(EDITION, |at| bytes[at]),
+        sites: bytes[format.sites].into(),
+        tries: bytes[format.tries],
+        depth: bytes[format.depth].into(),
+        ..Network::blank()
+    };
+    network.check_head()?;
+    let seed = number(&bytes[format.seed..][..4]) as u32;
     check_seed(seed)?;
-    let (sites, sends) = (network.sites as usize, bytes[12] as usize);
-    if bytes.len() != length(sites, sends) {
+    let draws = number(&bytes[format.draws..][..2]) as u16;
+    let sites = network.sites as usize;
+    let sends = *bytes.get(format.sends).ok_or(Refusal::Size)?;
+    if bytes.len() != format.length(sites, sends.into()) {
         return Err(Refusal::Size);
     }
-    let (channels, rest) = bytes[HEAD..].split_at(4 * sites);
-    let (routes, sends) = rest.split_at(2 * sites * sites);
-    network.channels[..4 * sites].copy_from_slice(channels);
-    for (place, pair) in routes.chunks_exact(2).enumerate() {
-        network.routes[place] = word(pair, 0);
-    }
+    let (channels, routes) = (format.channel_at(0), format.route_at(sites, 0));
+    let places = bytes[channels..routes].chunks_exact(format.channel_width);
+    network.channels.iter_mut().zip(places).for_each(|(end, place)| *end = channel(place));
     network.check_channels()?;
+    let places = bytes[routes..format.send_at(sites, 0)].chunks_exact(2);
+    network.routes.iter_mut().zip(places).for_each(|(route, place)| *route = number(place) as u16);
     network.check_routes()?;
-    let stored = |b: &[u8]| Send { draw: word(b, 0), site: b[2], set: word(b, 3) as Set };
-    let sends = sends.chunks_exact(5).map(stored).collect();
-    let run = Run { network, seed, draws: word(bytes, 10), sends };
+    let stored = |b: &[u8]| Send { draw: number(&b[..2]) as u16, site: b[2], set: number(&b[3..]) };
+    let sends = bytes[format.send_at(sites, 0)..].chunks_exact(format.send_width()).map(stored).collect();
+    let run = Run { network, seed, draws, sends };
     run.check_sends()?;
     Ok(run)
 }
@@ -75,7 +73,7 @@ fn check_seed(seed: u32) -> Result<(), Refusal> {
 
 /// Writes the run at the front of the room and gives its length; a refusal writes nothing.
 pub fn write(run: &Run, room: &mut [u8]) -> Result<usize, Refusal> {
-    run.network.check_limits()?;
+    run.network.check_head()?;
     check_seed(run.seed)?;
     if run.sends.len() > SENDS {
         return Err(Refusal::Size);
@@ -99,24 +97,30 @@ impl Run {
         (rising && self.sends.iter().all(possible)).then_some(()).ok_or(Refusal::Send)
     }
 
-    /// The archive's bytes with the fields as they are, good or bad. S is at most 16, D a byte, at most 255 sends.
+    /// The archive's bytes with the fields as they are, good or bad. S is at most 64, D a byte, at most 255 sends.
     pub fn bytes(&self) -> Vec<u8> {
         let network = &self.network;
+        let format = Format::of(network.version);
         let sites = (network.sites as usize).min(SITES);
-        let mut bytes = Vec::with_capacity(length(sites, self.sends.len()));
-        bytes.extend((length(sites, self.sends.len()) as u16).to_be_bytes());
-        bytes.extend([1, network.sites as u8, network.tries, network.depth as u8]);
+        let length = format.length(sites, self.sends.len());
+        let mut bytes = Vec::with_capacity(length);
+        bytes.extend((length as u16).to_be_bytes());
+        bytes.push(network.version);
+        bytes.extend(format.edition.map(|_| network.edition));
+        bytes.extend([network.sites as u8, network.tries, network.depth as u8]);
         bytes.extend(self.seed.to_be_bytes());
         bytes.extend(self.draws.to_be_bytes());
         bytes.push(self.sends.len() as u8);
-        bytes.extend(&network.channels[..4 * sites]);
+        for end in &network.channels[..4 * sites] {
+            bytes.extend(&end.to_be_bytes()[2 - format.channel_width..]);
+        }
         for route in &network.routes[..sites * sites] {
             bytes.extend(route.to_be_bytes());
         }
         for send in &self.sends {
             bytes.extend(send.draw.to_be_bytes());
             bytes.push(send.site);
-            bytes.extend((send.set as u16).to_be_bytes());
+            bytes.extend(&send.set.to_be_bytes()[8 - format.set_width..]);
         }
         bytes
     }

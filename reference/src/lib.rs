@@ -1,12 +1,14 @@
-//! A second model of document 01, edition 1, written from the document's words.
+//! A second model of document 01, edition 1, in versions 1 and 2, written from the document's words.
 //!
 //! It is the partner of every comparison: it makes the expected outputs and the single event cases, and it
 //! is the baseline of speed figures. One `State` holds every place in flat arrays and is changed in place.
 //! A place has one number: input or output `p` of site `s` is place `5 * s + p`.
 
 pub mod archive;
+pub mod coverage;
 pub mod draws;
 pub mod faults;
+pub mod format;
 pub mod making;
 pub mod network;
 pub mod owing;

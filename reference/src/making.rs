@@ -4,6 +4,7 @@ pub mod cases;
 pub mod clauses;
 pub mod corpus;
 pub mod damage;
+pub mod edges;
 pub mod graphs;
 pub mod rng;
 pub mod routes;

@@ -1,30 +1,36 @@
-//! The network as handed in, its refusals 3, 6 and 7, and the wiring made from one that passes.
+//! The network as handed in, its refusals 2, 17, 3, 6 and 7, and the wiring made from one that passes.
 //!
 //! `Network` can hold anything; a `Wiring` can only be had from a network that is not refused.
 
 use crate::refusal::Refusal;
 
 /// Sites that a network can have at most.
-pub const SITES: usize = 16;
+pub const SITES: usize = 64;
+/// Sites that a network of version 1 can have at most.
+pub const SITES_OF_1: usize = 16;
+/// The only edition that there is.
+pub const EDITION: u8 = 1;
 /// Net-inputs, and net-outputs, of a site; port 0 is local.
 pub const PORTS: usize = 5;
 /// Places in each queue at most.
 pub const DEPTH: usize = 8;
 /// Event codes of a site.
 pub const CODES: usize = 13;
-/// The channel byte of an output without a channel.
-pub const NO_CHANNEL: u8 = 255;
+/// The channel of an output without one, in both versions.
+pub const NO_CHANNEL: u16 = 65_535;
 /// In a wiring: no input at the end of this output.
-pub const NO_INPUT: u8 = 255;
+pub const NO_INPUT: u16 = 65_535;
 
 /// A network as it is handed in, S and D of any size; room beyond S sites is not looked at.
 #[derive(Clone, PartialEq, Eq, Debug)]
 pub struct Network {
+    pub version: u8,
+    pub edition: u8,
     pub sites: u64,
     pub tries: u8,
     pub depth: u64,
-    /// At 4 * site + port - 1: 255, or 4 * site + port - 1 of the input that the channel feeds.
-    pub channels: [u8; 4 * SITES],
+    /// At 4 * site + port - 1: 65535, or 4 * site + port - 1 of the input that the channel feeds.
+    pub channels: [u16; 4 * SITES],
     /// At S * from + to: four hex digits, first choice highest.
     pub routes: [u16; SITES * SITES],
 }
@@ -36,8 +42,8 @@ pub struct Wiring {
     pub tries: u8,
     pub depth: usize,
     /// For each output place, the input place that its channel feeds, or `NO_INPUT`.
-    pub far: [u8; PORTS * SITES],
-    /// At 16 * from + to: the route list.
+    pub far: [u16; PORTS * SITES],
+    /// At S * from + to: the route list.
     lists: [u16; SITES * SITES],
 }
 
@@ -45,7 +51,7 @@ impl Wiring {
     /// The route list from a site to another one.
     #[inline]
     pub fn list(&self, from: usize, to: usize) -> u16 {
-        self.lists[(from * SITES + to) % (SITES * SITES)]
+        self.lists[(from * self.sites + to) % (SITES * SITES)]
     }
 }
 
@@ -60,31 +66,60 @@ pub fn ports(list: u16) -> impl Iterator<Item = usize> {
     })
 }
 
+/// Sites that a network of this version, 1 or 2, can have at most.
+pub fn most_sites(version: u8) -> usize {
+    if version == 1 {
+        SITES_OF_1
+    } else {
+        SITES
+    }
+}
+
 impl Network {
+    /// Version 1 and edition 1, everything else zero.
     pub fn blank() -> Network {
-        Network { sites: 0, tries: 0, depth: 0, channels: [0; 4 * SITES], routes: [0; SITES * SITES] }
+        let (channels, routes) = ([0; 4 * SITES], [0; SITES * SITES]);
+        Network { version: 1, edition: EDITION, sites: 0, tries: 0, depth: 0, channels, routes }
     }
 
-    /// Refusal 3: S 1 to 16, T 1 to 255, D 1 to 8.
+    /// The first of the refusals 2, 17, 3.
+    pub fn check_head(&self) -> Result<(), Refusal> {
+        self.check_version()?;
+        self.check_edition()?;
+        self.check_limits()
+    }
+
+    /// Refusal 2: version neither 1 nor 2.
+    pub fn check_version(&self) -> Result<(), Refusal> {
+        matches!(self.version, 1 | 2).then_some(()).ok_or(Refusal::Version)
+    }
+
+    /// Refusal 17: an edition unknown, or not 1 in version 1.
+    pub fn check_edition(&self) -> Result<(), Refusal> {
+        (self.edition == EDITION).then_some(()).ok_or(Refusal::Edition)
+    }
+
+    /// Refusal 3, for a known version: S 1 to 16 or to 64, T 1 to 255, D 1 to 8.
     pub fn check_limits(&self) -> Result<(), Refusal> {
-        let good = (1..=SITES as u64).contains(&self.sites)
+        let good = (1..=most_sites(self.version) as u64).contains(&self.sites)
             && self.tries >= 1
             && (1..=DEPTH as u64).contains(&self.depth);
         good.then_some(()).ok_or(Refusal::Limits)
     }
 
-    /// Refusal 6, for S within its limits: each byte 255 or below 4S, no input fed twice.
+    /// Refusal 6, for S within its limits: each channel none or below 4S, no input fed twice.
     pub fn check_channels(&self) -> Result<(), Refusal> {
         let ends = 4 * self.sites as usize;
-        let mut fed = 0u64;
+        let mut fed = [false; 4 * SITES];
         for &end in &self.channels[..ends] {
             if end == NO_CHANNEL {
                 continue;
             }
-            if end as usize >= ends || fed >> end & 1 == 1 {
+            let end = end as usize;
+            if end >= ends || fed[end] {
                 return Err(Refusal::Channel);
             }
-            fed |= 1 << end;
+            fed[end] = true;
         }
         Ok(())
     }
@@ -116,9 +151,9 @@ impl Network {
             && list.iter().enumerate().all(|(i, d)| !list[..i].contains(d))
     }
 
-    /// The wiring, or the first of the refusals 3, 6, 7.
+    /// The wiring, or the first of the refusals 2, 17, 3, 6, 7.
     pub fn wiring(&self) -> Result<Wiring, Refusal> {
-        self.check_limits()?;
+        self.check_head()?;
         self.check_channels()?;
         self.check_routes()?;
         Ok(self.wired())
@@ -132,12 +167,11 @@ impl Network {
             for port in 1..PORTS {
                 let end = self.channels[4 * site + port - 1];
                 if end != NO_CHANNEL {
-                    far[PORTS * site + port] = end / 4 * PORTS as u8 + end % 4 + 1;
+                    far[PORTS * site + port] = end / 4 * PORTS as u16 + end % 4 + 1;
                 }
             }
-            let row = &self.routes[sites * site..][..sites];
-            lists[SITES * site..][..sites].copy_from_slice(row);
         }
+        lists[..sites * sites].copy_from_slice(&self.routes[..sites * sites]);
         let (tries, depth) = (self.tries, self.depth as usize);
         Wiring { sites, tries, depth, far, lists }
     }

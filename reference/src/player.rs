@@ -1,8 +1,8 @@
 //! The player: a stored run from the empty state, draw by draw, with its book and counts.
 
-use crate::archive::{self, Run, Send};
+use crate::archive::{self, Run, Send, SENDS};
 use crate::draws::{event, Draws};
-use crate::network::Wiring;
+use crate::network::{Wiring, SITES};
 use crate::owing::owed;
 use crate::refusal::Refusal;
 use crate::sets::size;
@@ -11,8 +11,8 @@ use crate::state::State;
 use crate::step::{Answer, Machine};
 use crate::watch::{Rule, Watch};
 
-/// Room that every book fits in: 255 sends to 16 sites each, 4 bytes a service.
-pub const BOOK: usize = 4 * 255 * 16;
+/// Room that every book fits in: 255 sends to 64 sites each, 4 bytes a service.
+pub const BOOK: usize = 4 * SENDS * SITES;
 
 /// What the player answers beside the book.
 #[derive(Clone, Copy, PartialEq, Eq, Debug, Default)]
@@ -101,7 +101,7 @@ pub fn play_run<W: Watch>(
     (play.counts, play.state)
 }
 
-/// Plays an archive: refusals 1 to 8, then 14. The book goes to the front of the lent room, the rest stays.
+/// Plays an archive: the reader's refusals, then 14. The book goes to the front of the lent room, the rest stays.
 pub fn play(bytes: &[u8], book: &mut [u8]) -> Result<Counts, Refusal> {
     let run = archive::read(bytes)?;
     let wiring = run.network.wiring()?;

@@ -18,9 +18,14 @@ pub fn size(set: Set) -> u32 {
     set.count_ones()
 }
 
-/// Whether the set names no site at or above `sites` (at most 16).
+/// The set of all of so many sites, 1 to 64.
+pub fn all(sites: usize) -> Set {
+    Set::MAX >> (64 - sites)
+}
+
+/// Whether the set names no site at or above `sites`, 1 to 64.
 pub fn within(set: Set, sites: usize) -> bool {
-    set >> sites == 0
+    set & !all(sites) == 0
 }
 
 /// A target set: not empty, and within the sites.

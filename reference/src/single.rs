@@ -1,4 +1,5 @@
-//! Single SEND and RUN, for any network, state and numbers. Refusals in the order 3, 6, 7, 13, 9, 10, 12, 11.
+//! Single SEND and RUN, for any network, state and numbers. Refusals in the order
+//! 2, 17, 3, 6, 7, 13, 9, 10, 12, 11.
 //!
 //! A refusal leaves the state as it was handed in.
 

@@ -1,9 +1,9 @@
-//! The text form of single event cases and of their outcomes: decimal numbers, one space or newline between.
+//! The text forms of single event cases and of their outcomes: decimal numbers, one space or newline between.
 //!
-//! docs/TESTING.md gives the form number by number. Only states that an enum of phases can hold are written:
+//! docs/TESTING.md gives the forms number by number. Only states that an enum of phases can hold are written:
 //! connection and received terminator stand exactly where the phase has them.
 
-use crate::network::{Network, DEPTH, PORTS, SITES};
+use crate::network::{Network, DEPTH, NO_CHANNEL, PORTS, SITES, SITES_OF_1};
 use crate::refusal::Refusal;
 use crate::single::{run_seen, send_seen, Event};
 use crate::state::{Connection, InEntry, Input, OutEntry, Output, Phase, State, Terminator};
@@ -11,9 +11,29 @@ use crate::state::{CONNECTIONS, PHASES, TERMINATORS};
 use crate::step::Answer;
 use crate::watch::Watch;
 
-/// One event with the network and the state that it is handed.
+/// The two forms of a case.
+#[derive(Clone, Copy, PartialEq, Eq, Debug)]
+pub enum Form {
+    /// Version 1 and edition 1 without saying so, room for 16 sites, 255 for no channel.
+    First,
+    /// Any version and edition, room for 64 sites, 65535 for no channel.
+    Second,
+}
+
+impl Form {
+    /// Sites that a case of the form has room for.
+    pub fn room(self) -> usize {
+        match self {
+            Form::First => SITES_OF_1,
+            Form::Second => SITES,
+        }
+    }
+}
+
+/// One event with the network and the state that it is handed; what the form has no room for is zero.
 #[derive(Clone, PartialEq, Eq, Debug)]
 pub struct Case {
+    pub form: Form,
     pub network: Network,
     pub state: State,
     pub event: Event,
@@ -21,6 +41,7 @@ pub struct Case {
 
 /// What comes back: the answer's numbers, or the refusal, and the state.
 pub struct Outcome {
+    pub form: Form,
     pub told: Result<[u64; 3], Refusal>,
     pub state: State,
 }
@@ -40,7 +61,7 @@ impl Case {
                 })
             }
         };
-        Outcome { told, state }
+        Outcome { form: self.form, told, state }
     }
 
     /// Whether an enum of phases can hold every net-input.
@@ -68,11 +89,14 @@ impl Writer {
         self.text.push('\n');
     }
 
+    /// How many cases there are of each form, and the cases, those of the first form before the others.
     pub fn cases(&mut self, cases: &[Case]) {
-        self.line(&[cases.len() as u64]);
+        assert!(cases.is_sorted_by_key(|case| case.form == Form::Second), "the first form comes first");
+        let first = cases.iter().filter(|case| case.form == Form::First).count();
+        self.line(&[first, cases.len() - first].map(|count| count as u64));
         for case in cases {
-            self.network(&case.network);
-            self.state(&case.state);
+            self.network(case.form, &case.network);
+            self.state(case.form, &case.state);
             self.line(&match case.event {
                 Event::Run { site, code } => [1, site, code],
                 Event::Send { site, set } => [2, site, set],
@@ -85,13 +109,24 @@ impl Writer {
             Ok([answer, packet, site]) => self.line(&[0, answer, packet, site]),
             Err(refusal) => self.line(&[refusal.number() as u64, 0, 0, 0]),
         }
-        self.state(&outcome.state);
+        self.state(outcome.form, &outcome.state);
     }
 
-    fn network(&mut self, network: &Network) {
-        self.line(&[network.sites, network.tries as u64, network.depth]);
-        self.filled(&network.channels.map(u64::from));
-        self.filled(&network.routes.map(u64::from));
+    fn network(&mut self, form: Form, network: &Network) {
+        let limits = [network.sites, network.tries as u64, network.depth];
+        match form {
+            Form::First => self.line(&limits),
+            Form::Second => {
+                self.line(&[&[network.version as u64, network.edition as u64], &limits[..]].concat())
+            }
+        }
+        let shown = |end: &u16| match (form, *end) {
+            (Form::First, NO_CHANNEL) => 255,
+            (_, end) => u64::from(end),
+        };
+        let room = form.room();
+        self.filled(&network.channels[..4 * room].iter().map(shown).collect::<Vec<u64>>());
+        self.filled(&network.routes[..room * room].iter().map(|&route| route.into()).collect::<Vec<u64>>());
     }
 
     /// The number that fills the end of the room, how many come before it, and these.
@@ -101,9 +136,9 @@ impl Writer {
         self.line(&[&[fill, count as u64], &room[..count]].concat());
     }
 
-    fn state(&mut self, state: &State) {
+    fn state(&mut self, form: Form, state: &State) {
         self.line(&[state.counter as u64]);
-        for site in 0..SITES {
+        for site in 0..form.room() {
             if state.is_zero_site(site) {
                 self.line(&[0]);
             } else {
@@ -142,8 +177,9 @@ struct Reader<'a>(std::str::SplitAsciiWhitespace<'a>);
 /// The cases of a text.
 pub fn read_cases(text: &str) -> Vec<Case> {
     let mut reader = Reader(text.split_ascii_whitespace());
-    let count = reader.number();
-    (0..count).map(|_| reader.case()).collect()
+    let (first, second) = (reader.number(), reader.number());
+    let forms = (0..first).map(|_| Form::First).chain((0..second).map(|_| Form::Second));
+    forms.map(|form| reader.case(form)).collect()
 }
 
 impl Reader<'_> {
@@ -155,6 +191,10 @@ impl Reader<'_> {
         self.number().try_into().expect("a number below 256")
     }
 
+    fn word(&mut self) -> u16 {
+        self.number().try_into().expect("a number below 65536")
+    }
+
     fn mark(&mut self) -> bool {
         self.number() == 1
     }
@@ -163,32 +203,47 @@ impl Reader<'_> {
         TERMINATORS[self.number() as usize]
     }
 
-    fn case(&mut self) -> Case {
-        let network = self.network();
-        let state = self.state();
+    fn case(&mut self, form: Form) -> Case {
+        let network = self.network(form);
+        let state = self.state(form);
         let (kind, site, number) = (self.number(), self.number(), self.number());
         let event =
             if kind == 1 { Event::Run { site, code: number } } else { Event::Send { site, set: number } };
-        Case { network, state, event }
+        Case { form, network, state, event }
     }
 
-    fn network(&mut self) -> Network {
-        let (sites, tries, depth) = (self.number(), self.byte(), self.number());
-        let channels = self.filled().map(|n| n as u8);
-        let routes = self.filled().map(|n| n as u16);
-        Network { sites, tries, depth, channels, routes }
+    fn network(&mut self, form: Form) -> Network {
+        let mut network = Network::blank();
+        if form == Form::Second {
+            (network.version, network.edition) = (self.byte(), self.byte());
+        }
+        (network.sites, network.tries, network.depth) = (self.number(), self.byte(), self.number());
+        let room = form.room();
+        self.fill(&mut network.channels[..4 * room], |reader| reader.channel(form));
+        self.fill(&mut network.routes[..room * room], Reader::word);
+        network
     }
 
-    fn filled<const N: usize>(&mut self) -> [u64; N] {
-        let mut room = [self.number(); N];
+    fn channel(&mut self, form: Form) -> u16 {
+        match form {
+            Form::First => match self.byte() {
+                255 => NO_CHANNEL,
+                end => end.into(),
+            },
+            Form::Second => self.word(),
+        }
+    }
+
+    /// The number that fills the room, and those that stand at its front.
+    fn fill(&mut self, room: &mut [u16], next: impl Fn(&mut Self) -> u16) {
+        room.fill(next(self));
         let count = self.number() as usize;
-        room[..count].fill_with(|| self.number());
-        room
+        room[..count].fill_with(|| next(self));
     }
 
-    fn state(&mut self) -> State {
+    fn state(&mut self, form: Form) -> State {
         let mut state = State { counter: self.byte(), ..State::empty() };
-        for site in 0..SITES {
+        for site in 0..form.room() {
             if self.mark() {
                 self.site(&mut state, site);
             }

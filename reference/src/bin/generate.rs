@@ -1,47 +1,44 @@
-//! `generate SEED COUNT [FOLDER]`: makes COUNT archives, a third of them damaged, and prints what they reach.
+//! `generate SEED COUNT [FOLDER]`: makes COUNT archives of both versions, a third of them damaged, and prints what they
+//! reach, for each version.
 //!
 //! With a folder each archive becomes a file there; their names, sorted, are in the order of making.
 
 use reference::archive::{self, Run};
-use reference::making::{damage::damaged, rng::Rng, runs::any_run};
+use reference::coverage::{column, line, Coverage, COLUMNS};
+use reference::format::VERSION_AT;
+use reference::making::{damage::damaged, rng::Rng, runs::either_run};
 use reference::owing::{self, DEBTS};
 use reference::player::{play, play_run, BOOK};
 use reference::refusal::Refusal;
-use reference::watch::{Tally, RULES};
 use std::path::PathBuf;
 use std::process::exit;
 
 /// How often each rule, each refusal and each owing place at a run's end was met.
-struct Coverage {
-    rules: Tally,
-    refusals: [u64; 15],
-    debts: [u64; DEBTS.len()],
-    played: u64,
-    refused_sends: u64,
+#[derive(Default)]
+struct Reached {
+    coverage: Coverage,
+    debts: [[u64; COLUMNS.len()]; DEBTS.len()],
+    played: [u64; COLUMNS.len()],
 }
 
-impl Coverage {
-    fn new() -> Coverage {
-        let rules = Tally::default();
-        Coverage { rules, refusals: [0; 15], debts: [0; DEBTS.len()], played: 0, refused_sends: 0 }
-    }
-
+impl Reached {
     fn archive(&mut self, bytes: &[u8]) {
         match archive::read(bytes) {
             Ok(run) => self.run(&run, bytes),
-            Err(refusal) => self.refusals[refusal.number() as usize] += 1,
+            Err(refusal) => self.coverage.refused(bytes.get(VERSION_AT).copied(), refusal.number(), 1),
         }
     }
 
     fn run(&mut self, run: &Run, bytes: &[u8]) {
-        self.played += 1;
+        let version = run.network.version;
+        let column = column(Some(version));
+        self.played[column] += 1;
         let wiring = run.network.wiring().expect("read archives have valid networks");
-        let (counts, state) = play_run(run, &wiring, &mut self.rules, |_| ());
+        let (counts, state) = play_run(run, &wiring, self.coverage.rules(version), |_| ());
         assert_eq!(counts.pairs, counts.serviced + counts.owed, "pairs are serviced or owed");
         let refused = run.sends.len() as u64 - u64::from(counts.accepted);
-        self.refused_sends += refused;
-        self.refusals[Refusal::Full.number() as usize] += refused;
-        owing::each(&state, |kind, _, _| self.debts[kind as usize] += 1);
+        self.coverage.refused(Some(version), Refusal::Full.number(), refused);
+        owing::each(&state, |kind, _, _| self.debts[kind as usize][column] += 1);
         self.short_room(run, bytes);
     }
 
@@ -50,20 +47,16 @@ impl Coverage {
         let most = run.sends.iter().map(|s| 4 * s.set.count_ones() as usize).sum::<usize>();
         let mut book = [0; BOOK];
         if most > 0 && play(bytes, &mut book[..most - 1]) == Err(Refusal::Room) {
-            self.refusals[Refusal::Room.number() as usize] += 1;
+            self.coverage.refused(Some(run.network.version), Refusal::Room.number(), 1);
         }
     }
 
     fn print(&self) {
-        println!("played {} sends refused {}", self.played, self.refused_sends);
-        for number in (1..=8).chain([11, 14]) {
-            println!("{:>12}  refusal {number}", self.refusals[number]);
-        }
-        for (rule, words) in RULES {
-            println!("{:>12}  {words}", self.rules.count(*rule));
-        }
+        println!("{}", Coverage::heading());
+        line(self.played, "played");
+        self.coverage.print(&[1, 2, 17, 3, 4, 5, 6, 7, 8, 11, 14]);
         for (kind, words) in DEBTS {
-            println!("{:>12}  owes at the end: {words}", self.debts[kind as usize]);
+            line(self.debts[kind as usize], &format!("owes at the end: {words}"));
         }
     }
 }
@@ -77,13 +70,13 @@ fn main() {
     };
     let folder = args.get(2).map(PathBuf::from);
     let mut rng = Rng::new(seed);
-    let mut coverage = Coverage::new();
+    let mut reached = Reached::default();
     for at in 0..count {
-        let mut bytes = any_run(&mut rng, true).bytes();
+        let mut bytes = either_run(&mut rng, true).bytes();
         if rng.one_in(3) {
             bytes = damaged(&mut rng, &bytes);
         }
-        coverage.archive(&bytes);
+        reached.archive(&bytes);
         if let Some(folder) = &folder {
             let name = folder.join(format!("{seed}-{at:06}.bin"));
             if let Err(error) = std::fs::write(&name, &bytes) {
@@ -92,5 +85,5 @@ fn main() {
             }
         }
     }
-    coverage.print();
+    reached.print();
 }

@@ -2,11 +2,12 @@
 //!
 //! Of the events that a state allows, those whose rules the cases so far show least are preferred.
 
-use super::{clauses, rng::Rng, runs, spoil, states};
-use crate::network::{Network, CODES};
+use super::{clauses, graphs, rng::Rng, runs, spoil, states};
+use crate::network::{Network, CODES, SITES, SITES_OF_1};
 use crate::single::Event;
 use crate::state::State;
-use crate::text::Case;
+use crate::step::Machine;
+use crate::text::{Case, Form};
 use crate::watch::{Rule, Tally};
 
 /// The kinds of case, with the share of each in a hundred.
@@ -24,13 +25,14 @@ const TURNS: usize = 14;
 
 pub struct Maker {
     rng: Rng,
-    /// The rules that the cases so far take.
+    form: Form,
+    /// The rules that the cases so far take, of the second form those in version 2.
     pub shown: Tally,
 }
 
 impl Maker {
-    pub fn new(seed: u64) -> Maker {
-        Maker { rng: Rng::new(seed), shown: Tally::default() }
+    pub fn new(seed: u64, form: Form) -> Maker {
+        Maker { rng: Rng::new(seed), form, shown: Tally::default() }
     }
 
     /// Draws a kind of case, its place in `KINDS`, by its share.
@@ -48,20 +50,22 @@ impl Maker {
     pub fn any_case(&mut self, kind: usize) -> Case {
         loop {
             let mut case = self.telling_case(kind == 1, if kind < 2 { TURNS } else { 1 });
-            let rng = &mut self.rng;
+            let (rng, form) = (&mut self.rng, self.form);
             match kind {
-                2 => spoil::spoil_network(rng, &mut case.network),
-                3 if rng.one_in(3) => clauses::break_clause(rng, &case.network, &mut case.state),
-                3 => spoil::spoil_state(rng, &case.network, &mut case.state),
-                4 => case.event = spoil::stray_event(rng, case.network.sites as usize),
+                2 => spoil::spoil_network(rng, form, &mut case.network),
+                3 if rng.one_in(3) => clauses::break_clause(rng, &case.network, form.room(), &mut case.state),
+                3 => spoil::spoil_state(rng, form, &case.network, &mut case.state),
+                4 => case.event = spoil::stray_event(rng, form, case.network.sites as usize),
                 5 => two_faults(rng, &mut case),
                 _ => (),
             }
             if rng.one_in(3) {
-                spoil::junk_beyond(rng, &mut case.network);
+                spoil::junk_beyond(rng, form, &mut case.network);
             }
             if case.is_representable() {
-                case.outcome(&mut self.shown);
+                if self.form == Form::First || case.network.version == 2 {
+                    case.outcome(&mut self.shown);
+                }
                 return case;
             }
         }
@@ -76,6 +80,15 @@ impl Maker {
     }
 
     fn case(&mut self, reached: bool, send: bool) -> Case {
+        let (network, state) = match self.form {
+            Form::First => self.narrow(reached),
+            Form::Second => self.wide(reached),
+        };
+        self.with_event(network, state, send)
+    }
+
+    /// A network of version 1 and a state of it.
+    fn narrow(&mut self, reached: bool) -> (Network, State) {
         loop {
             let (network, state) = if reached {
                 states::reached(&mut self.rng)
@@ -85,9 +98,33 @@ impl Maker {
                 (network, state)
             };
             if is_small(&mut self.rng, &network) {
-                return self.with_event(network, state, send);
+                return (network, state);
             }
         }
+    }
+
+    /// A network of up to 64 sites, in version 2 or, where it can, sometimes 1, and a state of it. Most have few sites,
+    /// and of many few hold anything, so that the texts stay small.
+    fn wide(&mut self, reached: bool) -> (Network, State) {
+        let rng = &mut self.rng;
+        let sites = match rng.below(24) {
+            0 | 1 => SITES_OF_1 + 1,
+            2..=4 => SITES,
+            5 => rng.within(5, SITES - 1),
+            _ => rng.within(1, 4),
+        };
+        let network = graphs::of_size(rng, sites);
+        let mut network = runs::furnished(rng, network);
+        if sites <= SITES_OF_1 && rng.one_in(6) {
+            network.version = 1;
+        }
+        if reached {
+            let mut run = runs::run_on(rng, network, false);
+            run.sends.truncate(4);
+            return states::end_of(run);
+        }
+        let state = states::sparse_state(rng, &network);
+        (network, state)
     }
 
     /// A SEND, or a RUN: any, or the one whose rules have been shown least.
@@ -95,24 +132,52 @@ impl Maker {
         let rng = &mut self.rng;
         let sites = network.sites as usize;
         let site = rng.below(sites) as u64;
-        let mut case = Case { network, state, event: Event::Run { site, code: rng.below(CODES) as u64 } };
+        let mut event = Event::Run { site, code: rng.below(CODES) as u64 };
         if send {
-            case.event = Event::Send { site, set: rng.target_set(sites) };
+            event = Event::Send { site, set: rng.target_set(sites) };
         } else if !rng.one_in(5) {
-            let mut order: Vec<u64> = (0..(sites.min(4) * CODES) as u64).collect();
+            let mut order: Vec<usize> = (0..sites.min(4) * CODES).collect();
             rng.shuffle(&mut order);
-            let codes = CODES as u64;
-            let events = order.into_iter().map(|m| Event::Run { site: m / codes, code: m % codes });
-            let cases = events.map(|event| Case { event, ..case.clone() });
-            case = cases.min_by_key(|case| self.shown_least(case)).expect("there are codes");
+            let addresses = order.into_iter().map(|m| (self.looked_at(sites, m / CODES), m % CODES));
+            let (site, code) = self.least_shown(&network, &state, addresses);
+            event = Event::Run { site: site as u64, code: code as u64 };
         }
-        case
+        Case { form: self.form, network, state, event }
+    }
+
+    /// The first four sites; in the second form the first and the last, the second and the last but one.
+    fn looked_at(&self, sites: usize, turn: usize) -> usize {
+        match self.form {
+            Form::First => turn,
+            Form::Second if turn % 2 == 0 => turn / 2,
+            Form::Second => sites - 1 - turn / 2,
+        }
+    }
+
+    /// Of these sites and codes the one whose rules have been shown least, in a state in range.
+    fn least_shown(
+        &self,
+        network: &Network,
+        state: &State,
+        addresses: impl Iterator<Item = (usize, usize)>,
+    ) -> (usize, usize) {
+        let wiring = network.wiring().expect("a valid network");
+        let shown = |&(site, code): &(usize, usize)| {
+            let (mut state, mut rules) = (state.clone(), Vec::new());
+            Machine { wiring: &wiring, state: &mut state, watch: &mut rules }.run(site, code);
+            self.least(&rules)
+        };
+        addresses.min_by_key(shown).expect("there are codes")
     }
 
     /// How often the least shown of the case's rules has been shown.
     fn shown_least(&self, case: &Case) -> u64 {
         let mut rules: Vec<Rule> = Vec::new();
         case.outcome(&mut rules);
+        self.least(&rules)
+    }
+
+    fn least(&self, rules: &[Rule]) -> u64 {
         rules.iter().map(|rule| self.shown.count(*rule)).min().unwrap_or(u64::MAX)
     }
 }
@@ -122,16 +187,16 @@ fn two_faults(rng: &mut Rng, case: &mut Case) {
     let sites = case.network.sites as usize;
     let left_out = rng.below(3);
     if left_out != 0 {
-        spoil::spoil_state(rng, &case.network, &mut case.state);
+        spoil::spoil_state(rng, case.form, &case.network, &mut case.state);
     }
     if left_out != 1 {
-        case.event = spoil::stray_event(rng, sites);
+        case.event = spoil::stray_event(rng, case.form, sites);
     }
     if left_out != 2 {
-        spoil::spoil_network(rng, &mut case.network);
+        spoil::spoil_network(rng, case.form, &mut case.network);
     }
     if rng.one_in(4) {
-        spoil::spoil_network(rng, &mut case.network);
+        spoil::spoil_network(rng, case.form, &mut case.network);
     }
 }
 

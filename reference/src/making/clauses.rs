@@ -1,11 +1,18 @@
 //! Faults aimed at the clauses of in range that a random change seldom meets alone.
 
 use super::rng::Rng;
-use crate::network::{Network, DEPTH, PORTS, SITES};
+use crate::network::{Network, DEPTH, PORTS};
 use crate::state::{Connection, Input, Output, Phase, State, Terminator};
 
+/// A site of a network, in a case with room for so many.
+struct Spot<'a> {
+    network: &'a Network,
+    room: usize,
+    site: usize,
+}
+
 /// A fault at a site; false if the site has no place for it.
-type Fault = fn(&mut Rng, &Network, &mut State, usize) -> bool;
+type Fault = fn(&mut Rng, &Spot, &mut State) -> bool;
 
 const FAULTS: [Fault; 9] = [
     empty_connected,
@@ -19,11 +26,11 @@ const FAULTS: [Fault; 9] = [
     copy_beyond,
 ];
 
-/// Breaks one clause at one site, if some try finds a place for it.
-pub fn break_clause(rng: &mut Rng, network: &Network, state: &mut State) {
+/// Breaks one clause at one site, if some try finds a place for it; the state has room for so many sites.
+pub fn break_clause(rng: &mut Rng, network: &Network, room: usize, state: &mut State) {
     for _ in 0..40 {
-        let site = rng.below((network.sites as usize).clamp(1, SITES));
-        if rng.pick(&FAULTS)(rng, network, state, site) {
+        let site = rng.below((network.sites as usize).clamp(1, room));
+        if rng.pick(&FAULTS)(rng, &Spot { network, room, site }, state) {
             return;
         }
     }
@@ -43,7 +50,7 @@ fn aborts(input: &Input) -> bool {
 }
 
 /// A connected output is empty.
-fn empty_connected(_: &mut Rng, _: &Network, state: &mut State, site: usize) -> bool {
+fn empty_connected(_: &mut Rng, &Spot { site, .. }: &Spot, state: &mut State) -> bool {
     let Some(input) = input_where(state, site, |i| i.outputs != 0) else { return false };
     let port = input.outputs.trailing_zeros() as usize;
     state.outputs[PORTS * site + port] = Output::default();
@@ -51,7 +58,7 @@ fn empty_connected(_: &mut Rng, _: &Network, state: &mut State, site: usize) -> 
 }
 
 /// A connected output has a terminator.
-fn stop_connected(rng: &mut Rng, _: &Network, state: &mut State, site: usize) -> bool {
+fn stop_connected(rng: &mut Rng, &Spot { site, .. }: &Spot, state: &mut State) -> bool {
     let Some(input) = input_where(state, site, |i| i.outputs != 0) else { return false };
     let port = input.outputs.trailing_zeros() as usize;
     state.outputs[PORTS * site + port].terminator = rng.pick(&[Terminator::End, Terminator::Abort]);
@@ -59,28 +66,28 @@ fn stop_connected(rng: &mut Rng, _: &Network, state: &mut State, site: usize) ->
 }
 
 /// A split on several outputs is aborting.
-fn abort_with_others(_: &mut Rng, _: &Network, state: &mut State, site: usize) -> bool {
+fn abort_with_others(_: &mut Rng, &Spot { site, .. }: &Spot, state: &mut State) -> bool {
     let Some(input) = input_where(state, site, |i| splits(i) && i.outputs > 1) else { return false };
     input.phase = if input.received == Terminator::None { Phase::Abort } else { Phase::FinAbort };
     true
 }
 
 /// A split is not connected to output 0.
-fn split_without_local(_: &mut Rng, _: &Network, state: &mut State, site: usize) -> bool {
+fn split_without_local(_: &mut Rng, &Spot { site, .. }: &Spot, state: &mut State) -> bool {
     let Some(input) = input_where(state, site, |i| splits(i) && i.outputs > 1) else { return false };
     input.outputs &= !1;
     true
 }
 
 /// An aborting input is under another connection.
-fn abort_unsplit(rng: &mut Rng, _: &Network, state: &mut State, site: usize) -> bool {
+fn abort_unsplit(rng: &mut Rng, &Spot { site, .. }: &Spot, state: &mut State) -> bool {
     let Some(input) = input_where(state, site, aborts) else { return false };
     input.connection = rng.pick(&[Connection::Unicast, Connection::Passthru, Connection::Handed]);
     true
 }
 
 /// An entry after the front is started.
-fn start_second(rng: &mut Rng, _: &Network, state: &mut State, site: usize) -> bool {
+fn start_second(rng: &mut Rng, &Spot { site, .. }: &Spot, state: &mut State) -> bool {
     let queue = &mut state.out_queues[site];
     if queue.count < 2 {
         return false;
@@ -90,7 +97,7 @@ fn start_second(rng: &mut Rng, _: &Network, state: &mut State, site: usize) -> b
 }
 
 /// A queue has good entries beyond D.
-fn overfill(rng: &mut Rng, network: &Network, state: &mut State, site: usize) -> bool {
+fn overfill(rng: &mut Rng, &Spot { network, site, .. }: &Spot, state: &mut State) -> bool {
     let depth = network.depth as usize;
     let (out, inn) = (&mut state.out_queues[site], &mut state.in_queues[site]);
     if depth >= DEPTH || out.count == 0 || inn.count == 0 {
@@ -107,7 +114,7 @@ fn overfill(rng: &mut Rng, network: &Network, state: &mut State, site: usize) ->
 }
 
 /// An output 1 to 4 has keep-local.
-fn keep_local_remote(_: &mut Rng, _: &Network, state: &mut State, site: usize) -> bool {
+fn keep_local_remote(_: &mut Rng, &Spot { site, .. }: &Spot, state: &mut State) -> bool {
     let remote = &mut state.outputs[PORTS * site + 1..][..PORTS - 1];
     let Some(output) = remote.iter_mut().find(|o| o.terminator != Terminator::None) else { return false };
     output.terminator = Terminator::KeepLocal;
@@ -115,12 +122,12 @@ fn keep_local_remote(_: &mut Rng, _: &Network, state: &mut State, site: usize) -
 }
 
 /// A site beyond S holds what a site within holds.
-fn copy_beyond(rng: &mut Rng, network: &Network, state: &mut State, site: usize) -> bool {
+fn copy_beyond(rng: &mut Rng, &Spot { network, room, site }: &Spot, state: &mut State) -> bool {
     let sites = network.sites as usize;
-    if sites >= SITES || state.is_zero_site(site) {
+    if sites >= room || state.is_zero_site(site) {
         return false;
     }
-    let to = rng.pick(&[sites, sites, SITES - 1]);
+    let to = rng.pick(&[sites, sites, room - 1]);
     state.inputs.copy_within(PORTS * site..PORTS * (site + 1), PORTS * to);
     state.outputs.copy_within(PORTS * site..PORTS * (site + 1), PORTS * to);
     state.out_queues[to] = state.out_queues[site];

@@ -1,9 +1,12 @@
-//! The corpus: archives by name, made anew from the recipes here. A name says what its file is about.
+//! The corpus: archives by name, made anew from the recipes here. A name says what its file is about; one that begins
+//! with `v2-` is laid out as version 2.
 
 mod bounds;
 mod faults;
 mod loads;
 mod searched;
+mod wide_bounds;
+mod wide_loads;
 
 pub use searched::UNREACHED;
 
@@ -19,8 +22,15 @@ pub fn all() -> Vec<Named> {
     all.extend(faults::all());
     all.extend(loads::all());
     all.extend(searched::all());
+    all.extend(wide_bounds::all());
+    all.extend(wide_loads::all());
     all.sort();
     all
+}
+
+/// The run with its network in another version.
+fn in_version(version: u8, run: Run) -> Run {
+    Run { network: run.network.in_version(version), ..run }
 }
 
 /// Run R of document 01.

@@ -1,45 +1,67 @@
-//! Damaged archives: each of the refusals 1 to 8 in many ways, on the bytes of a valid run.
+//! Damaged archives: each of the reader's refusals in many ways, on the bytes of a valid run of either version.
 //!
 //! A fault changes bytes only; which refusal comes out with several faults is for the reader to say.
 
 use super::rng::Rng;
-use crate::archive::{length, HEAD};
+use crate::format::{number, Format, FEWEST, VERSION_AT};
+use crate::network::most_sites;
 
-/// A valid archive's bytes, and where its parts begin.
+/// The numbers that the reader can give.
+pub const NUMBERS: [usize; 9] = [1, 2, 17, 3, 4, 5, 6, 7, 8];
+
+/// What a valid archive's bytes say of its size, and its format.
 struct Parts {
+    version: u8,
+    format: Format,
     sites: usize,
     sends: usize,
-    routes_at: usize,
-    sends_at: usize,
 }
 
-fn parts(bytes: &[u8]) -> Parts {
-    let (sites, sends) = (bytes[3] as usize, bytes[12] as usize);
-    Parts { sites, sends, routes_at: HEAD + 4 * sites, sends_at: length(sites, 0) }
+impl Parts {
+    fn of(bytes: &[u8]) -> Parts {
+        let version = bytes[VERSION_AT];
+        let format = Format::of(version);
+        Parts { version, format, sites: bytes[format.sites] as usize, sends: bytes[format.sends] as usize }
+    }
+
+    fn channel_at(&self, rng: &mut Rng) -> usize {
+        self.format.channel_at(rng.below(4 * self.sites))
+    }
 }
 
-fn put_word(bytes: &mut [u8], at: usize, value: usize) {
-    bytes[at..at + 2].copy_from_slice(&(value as u16).to_be_bytes());
+/// Puts a big-endian number of so many bytes.
+fn put(bytes: &mut [u8], at: usize, width: usize, value: usize) {
+    bytes[at..at + width].copy_from_slice(&(value as u64).to_be_bytes()[8 - width..]);
 }
 
-/// Does one fault of this number, 1 to 8, to the archive `whole`, whose bytes may be damaged already. False
-/// if there is no place for it.
-fn fault(number: usize, rng: &mut Rng, whole: &[u8], bytes: &mut Vec<u8>) -> bool {
-    let at = parts(whole);
-    match number {
+/// Does one fault of this number to the archive `whole`, whose bytes may be damaged already. False if there is no
+/// place for it.
+fn fault(refusal: usize, rng: &mut Rng, whole: &[u8], bytes: &mut Vec<u8>) -> bool {
+    let at = Parts::of(whole);
+    match refusal {
         1 => wrong_length(rng, bytes),
-        2 => bytes[2] = rng.pick(&[0, 2, 3, 255]),
-        3 => {
-            let (place, value) = rng.pick(&[(3, 0), (3, 17), (3, 255), (4, 0), (5, 0), (5, 9), (5, 255)]);
-            bytes[place] = value;
-        }
-        4 => bytes[6..10].fill(0),
+        2 => bytes[VERSION_AT] = rng.pick(&[0, 3, 4, 255, 3 - at.version]),
+        17 => match at.format.edition {
+            Some(place) => bytes[place] = rng.pick(&[0, 2, 2, 3, 255]),
+            None => bytes[VERSION_AT] = 2,
+        },
+        3 => wrong_limit(rng, &at, bytes),
+        4 => put(bytes, at.format.seed, 4, 0),
         5 => wrong_size(rng, &at, bytes),
         6 => return bad_channel(rng, &at, whole, bytes),
         7 => bad_route(rng, &at, bytes),
         _ => return bad_send(rng, &at, bytes),
     }
     true
+}
+
+/// S, T or D outside its limits.
+fn wrong_limit(rng: &mut Rng, at: &Parts, bytes: &mut [u8]) {
+    let (Format { sites, tries, depth, .. }, most) = (at.format, most_sites(at.version) as u8);
+    let limits =
+        [(sites, 0), (sites, most + 1), (sites, 255), (tries, 0), (depth, 0), (depth, 9), (depth, 255)];
+    let (place, value) = rng.pick(&limits);
+    bytes[place] = value;
 }
 
 /// The length field unequal to the length, or too few bytes.
@@ -50,53 +72,67 @@ fn wrong_length(rng: &mut Rng, bytes: &mut Vec<u8>) {
         1 => bytes.truncate(length - 1),
         2 => bytes.push(rng.value() as u8),
         3 => bytes.extend(std::iter::repeat_n(7, rng.within(1, 300))),
-        4 => bytes.truncate(rng.below(HEAD)),
+        4 => bytes.truncate(rng.below(FEWEST)),
         5 => bytes[0] ^= 1 << rng.below(8),
         _ => bytes[1] ^= 1 << rng.below(8),
     }
-    if bytes.len() < HEAD && bytes.len() > 1 && rng.one_in(2) {
+    if bytes.len() < FEWEST && bytes.len() > 1 && rng.one_in(2) {
         let short = bytes.len();
-        put_word(bytes, 0, short);
+        put(bytes, 0, 2, short);
     }
 }
 
-/// The length field right, and the length not 13 + 4S + 2S² + 5N.
+/// The length field right, and the length not that of so many sites and sends.
 fn wrong_size(rng: &mut Rng, at: &Parts, bytes: &mut Vec<u8>) {
-    match rng.below(5) {
-        0 => bytes[12] = (at.sends + rng.within(1, 255)) as u8,
-        1 => bytes[3] = ((at.sites + rng.below(15)) % 16 + 1) as u8,
-        2 => bytes.truncate(rng.within(HEAD, bytes.len() - 1)),
+    let most = most_sites(at.version);
+    match rng.below(6) {
+        0 => bytes[at.format.sends] = (at.sends + rng.within(1, 255)) as u8,
+        1 => bytes[at.format.sites] = ((at.sites + rng.below(most - 1)) % most + 1) as u8,
+        2 => bytes.truncate(rng.within(FEWEST, bytes.len() - 1)),
         3 => bytes.push(0),
-        _ => bytes.truncate(HEAD),
+        4 => bytes.truncate(at.format.head),
+        _ => bytes.truncate(FEWEST),
     }
     let now = bytes.len();
-    put_word(bytes, 0, now);
+    put(bytes, 0, 2, now);
 }
 
 fn bad_channel(rng: &mut Rng, at: &Parts, whole: &[u8], bytes: &mut [u8]) -> bool {
-    let place = HEAD + rng.below(4 * at.sites);
-    let ends: Vec<u8> = whole[HEAD..at.routes_at].iter().copied().filter(|&end| end != 255).collect();
-    bytes[place] = match rng.below(4) {
-        0 => 4 * at.sites as u8,
-        1 => 254,
-        2 => rng.within(4 * at.sites, 254) as u8,
-        _ if ends.is_empty() => return false,
+    let (width, ends) = (at.format.channel_width, 4 * at.sites);
+    let highest = (1 << 8 * width) - 2;
+    let place = at.channel_at(rng);
+    let value = match rng.below(5) {
+        0 => ends,
+        1 => highest,
+        2 => rng.within(ends, highest),
+        3 => rng.pick(&[254, 255, 256, 511]).min(highest),
         _ => {
-            let end = rng.pick(&ends);
-            let other = HEAD + rng.below(4 * at.sites);
-            bytes[other] = end;
+            let channels = whole[at.format.head..at.format.route_at(at.sites, 0)].chunks_exact(width);
+            let fed: Vec<usize> =
+                channels.map(|end| number(end) as usize).filter(|&end| end < ends).collect();
+            if fed.is_empty() {
+                return false;
+            }
+            let end = rng.pick(&fed);
+            let other = at.channel_at(rng);
+            put(bytes, other, width, end);
             end
         }
     };
+    put(bytes, place, width, value);
     true
 }
 
 fn bad_route(rng: &mut Rng, at: &Parts, bytes: &mut [u8]) {
     let place = rng.below(at.sites * at.sites);
     let (from, to) = (place / at.sites, place % at.sites);
-    let byte = at.routes_at + 2 * place;
-    let old = u16::from_be_bytes([bytes[byte], bytes[byte + 1]]);
-    let missing = (1..=4u16).find(|&p| bytes[HEAD + 4 * from + p as usize - 1] == 255);
+    let byte = at.format.route_at(at.sites, place);
+    let old = number(&bytes[byte..byte + 2]) as u16;
+    let no_channel = |port: usize| {
+        let channel = at.format.channel_at(4 * from + port - 1);
+        bytes[channel..channel + at.format.channel_width].iter().all(|&byte| byte == 255)
+    };
+    let missing = (1..=4).find(|&port| no_channel(port)).map(|port| port as u16);
     let new = match rng.below(8) {
         _ if from == to => rng.pick(&[1, 0x1000, 0x1234, 0xffff]),
         0 => 0,
@@ -108,22 +144,29 @@ fn bad_route(rng: &mut Rng, at: &Parts, bytes: &mut [u8]) {
         6 => missing.unwrap_or(5) << 12,
         _ => old & 0xf000 | missing.unwrap_or(6) << 8,
     };
-    put_word(bytes, byte, new as usize);
+    put(bytes, byte, 2, new.into());
 }
 
 fn bad_send(rng: &mut Rng, at: &Parts, bytes: &mut [u8]) -> bool {
     if at.sends == 0 {
         return false;
     }
-    let byte = at.sends_at + 5 * rng.below(at.sends);
-    let draws = u16::from_be_bytes([bytes[10], bytes[11]]) as usize;
-    match rng.below(6) {
+    let format = &at.format;
+    let byte = format.send_at(at.sites, rng.below(at.sends));
+    let draws = number(&bytes[format.draws..][..2]) as usize;
+    let last = number(&bytes[format.send_at(at.sites, at.sends - 1)..][..2]) as usize;
+    let bits = 8 * format.set_width;
+    match rng.below(7) {
         0 => bytes[byte + 2] = at.sites as u8,
         1 => bytes[byte + 2] = rng.within(at.sites, 255) as u8,
-        2 => put_word(bytes, byte + 3, 0),
-        3 if at.sites < 16 => bytes[byte + 3] |= 1 << (rng.within(at.sites, 15).max(8) - 8),
-        4 if draws < 65_535 => put_word(bytes, byte, draws + 1),
-        _ => put_word(bytes, at.sends_at, draws),
+        2 => put(bytes, byte + 3, format.set_width, 0),
+        3 if at.sites < bits => {
+            let beyond = rng.within(at.sites, bits - 1);
+            bytes[byte + 3 + (bits - 1 - beyond) / 8] |= 1 << (beyond % 8);
+        }
+        4 if draws < 65_535 => put(bytes, byte, 2, draws + 1),
+        5 if last > 0 => put(bytes, format.draws, 2, last - 1),
+        _ => put(bytes, format.send_at(at.sites, 0), 2, draws),
     }
     true
 }
@@ -134,18 +177,18 @@ pub fn damaged(rng: &mut Rng, whole: &[u8]) -> Vec<u8> {
     if rng.one_in(200) {
         let long = rng.pick(&[65_535, 65_536, 65_537, 70_000]);
         bytes.resize(long, 0);
-        put_word(&mut bytes, 0, long);
+        put(&mut bytes, 0, 2, long);
         return bytes;
     }
     let count = rng.pick(&[1, 1, 1, 2, 2, 3]);
-    let mut numbers: Vec<usize> = (0..count).map(|_| rng.within(1, 8)).collect();
+    let mut refusals: Vec<usize> = (0..count).map(|_| rng.pick(&NUMBERS)).collect();
     // The faults that move bytes come last.
-    numbers.sort_unstable_by(|a, b| b.cmp(a));
-    numbers.dedup();
-    numbers.sort_by_key(|n| matches!(n, 1 | 5));
-    for number in numbers {
-        if bytes.len() >= HEAD {
-            fault(number, rng, whole, &mut bytes);
+    refusals.sort_unstable_by(|a, b| b.cmp(a));
+    refusals.dedup();
+    refusals.sort_by_key(|n| matches!(n, 1 | 5));
+    for refusal in refusals {
+        if bytes.len() >= FEWEST {
+            fault(refusal, rng, whole, &mut bytes);
         }
     }
     bytes

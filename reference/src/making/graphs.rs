@@ -1,7 +1,7 @@
-//! Networks by shape, with channels and without routes.
+//! Networks by shape, with channels and without routes; in version 1 if nothing else is said.
 
 use super::rng::Rng;
-use crate::network::{Network, NO_CHANNEL, PORTS};
+use crate::network::{Network, NO_CHANNEL, PORTS, SITES};
 
 impl Network {
     /// A network without channels and routes.
@@ -11,9 +11,14 @@ impl Network {
         network
     }
 
+    /// The same in another version.
+    pub fn in_version(self, version: u8) -> Network {
+        Network { version, ..self }
+    }
+
     /// A channel from an output to an input, both 1 to 4.
     pub fn join(&mut self, from: (usize, usize), to: (usize, usize)) {
-        self.channels[4 * from.0 + from.1 - 1] = (4 * to.0 + to.1 - 1) as u8;
+        self.channels[4 * from.0 + from.1 - 1] = (4 * to.0 + to.1 - 1) as u16;
     }
 
     pub fn set_route(&mut self, from: usize, to: usize, route: u16) {
@@ -74,7 +79,7 @@ pub fn star(sites: usize) -> Network {
 /// Outputs joined at random to inputs of any site, its own too; with two sites or more each has a channel.
 pub fn random(rng: &mut Rng, sites: usize, density: usize) -> Network {
     let mut network = Network::bare(sites, 1, 1);
-    let mut inputs: Vec<u8> = (0..4 * sites as u8).collect();
+    let mut inputs: Vec<u16> = (0..4 * sites as u16).collect();
     rng.shuffle(&mut inputs);
     for site in 0..sites {
         let sure = rng.below(4);
@@ -109,14 +114,36 @@ pub fn loops(ways: usize) -> Network {
 /// Some shape of 1 to 16 sites, small ones more often.
 pub fn any(rng: &mut Rng) -> Network {
     let sites = if rng.one_in(3) { rng.within(2, 16) } else { rng.within(2, 5) };
+    shaped(rng, sites, 4)
+}
+
+/// Some shape of 1 to 64 sites in version 2, small ones more often; the eight by eight torus among them.
+pub fn any_wide(rng: &mut Rng) -> Network {
+    let sites = match rng.below(12) {
+        0 => rng.within(2, SITES),
+        1 => rng.pick(&[16, 17, 63, SITES]),
+        2 | 3 => rng.within(2, 16),
+        _ => rng.within(2, 5),
+    };
+    let network = if rng.one_in(60) {
+        grid(8, 8, true)
+    } else {
+        let side = rng.pick(&[4, 4, 4, 8]);
+        shaped(rng, sites, side)
+    };
+    network.in_version(2)
+}
+
+/// One shape of those above: of so many sites, 2 or more, where the shape allows it, grids at most so wide and high.
+fn shaped(rng: &mut Rng, sites: usize, side: usize) -> Network {
     match rng.below(9) {
         0 => loops(rng.within(0, 4)),
         1 => ring(sites, rng.one_in(2)),
         2 => bundle(rng.within(1, 4)),
         3 => star(sites),
         4 | 5 => {
-            let wide = rng.within(1, 4);
-            grid(wide, rng.within(1, 4), rng.one_in(2))
+            let wide = rng.within(1, side);
+            grid(wide, rng.within(1, side), rng.one_in(2))
         }
         _ => {
             let sites = if rng.one_in(8) { 1 } else { sites };
@@ -124,4 +151,18 @@ pub fn any(rng: &mut Rng) -> Network {
             random(rng, sites, density)
         }
     }
+}
+
+/// A ring, a star or any channels, of exactly so many sites; with 64 also the eight by eight torus. In version 2.
+pub fn of_size(rng: &mut Rng, sites: usize) -> Network {
+    let network = match rng.below(4) {
+        0 if sites == SITES => grid(8, 8, true),
+        0 | 1 if sites > 1 => ring(sites, rng.one_in(2)),
+        2 => star(sites),
+        _ => {
+            let density = rng.pick(&[10, 40, 70, 100]);
+            random(rng, sites, density)
+        }
+    };
+    network.in_version(2)
 }

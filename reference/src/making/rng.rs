@@ -1,5 +1,7 @@
 //! The makers' random numbers: splitmix64. Not the draws of document 01.
 
+use crate::sets;
+
 pub struct Rng(u64);
 
 impl Rng {
@@ -40,9 +42,9 @@ impl Rng {
         }
     }
 
-    /// A set of sites below `sites`, not empty.
+    /// A set of sites below `sites`, 1 to 64; not empty.
     pub fn target_set(&mut self, sites: usize) -> u64 {
-        let all = (1 << sites) - 1;
+        let all = sets::all(sites);
         let some = match self.below(4) {
             0 => 1 << self.below(sites),
             1 => 1 << self.below(sites) | 1 << self.below(sites),

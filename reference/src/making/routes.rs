@@ -5,18 +5,18 @@ use crate::network::Network;
 
 const FAR: usize = usize::MAX;
 
-/// Hops to `target` from every site, by the channels.
-fn distances(network: &Network, target: usize) -> Vec<usize> {
-    let sites = network.sites as usize;
-    let mut hops = vec![FAR; sites];
+/// Hops to `target` from every site, by the ends of its channels.
+fn distances(ends: &[Vec<usize>], target: usize) -> Vec<usize> {
+    let mut hops = vec![FAR; ends.len()];
     hops[target] = 0;
-    for _ in 0..sites {
-        for site in 0..sites {
-            for port in network.joined(site) {
-                let next = hops[end(network, site, port)];
-                if next != FAR && next + 1 < hops[site] {
-                    hops[site] = next + 1;
-                }
+    let mut moved = true;
+    while moved {
+        moved = false;
+        for (site, ends) in ends.iter().enumerate() {
+            let nearest = ends.iter().map(|&end| hops[end]).min().unwrap_or(FAR);
+            if nearest < hops[site].saturating_sub(1) {
+                hops[site] = nearest + 1;
+                moved = true;
             }
         }
     }
@@ -40,8 +40,10 @@ pub fn route(ports: &[usize]) -> u16 {
 /// Fills all lists; `list` orders and cuts the ports with channels, nearest end first, of one pair.
 fn fill(network: &mut Network, mut list: impl FnMut(&mut Vec<usize>)) {
     let sites = network.sites as usize;
+    let ends_of = |site| network.joined(site).into_iter().map(|port| end(network, site, port)).collect();
+    let ends: Vec<Vec<usize>> = (0..sites).map(ends_of).collect();
     for to in 0..sites {
-        let hops = distances(network, to);
+        let hops = distances(&ends, to);
         for from in (0..sites).filter(|&from| from != to) {
             let mut ports = network.joined(from);
             ports.sort_by_key(|&p| hops[end(network, from, p)]);

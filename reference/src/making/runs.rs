@@ -7,9 +7,20 @@ use crate::owing::{self, Debt, DEBTS};
 use crate::player::Play;
 use crate::step::Answer;
 
-/// A network of any shape, with routes, T and D.
+/// A network of version 1, of any shape, with routes, T and D.
 pub fn any_network(rng: &mut Rng) -> Network {
-    let mut network = graphs::any(rng);
+    let network = graphs::any(rng);
+    furnished(rng, network)
+}
+
+/// The same in version 2, of up to 64 sites.
+pub fn wide_network(rng: &mut Rng) -> Network {
+    let network = graphs::any_wide(rng);
+    furnished(rng, network)
+}
+
+/// The network with routes, T and D.
+pub fn furnished(rng: &mut Rng, mut network: Network) -> Network {
     routes::any(&mut network, rng);
     network.tries = match rng.below(4) {
         0 => 1,
@@ -38,9 +49,29 @@ pub fn load(rng: &mut Rng, sites: usize, draws: u16, count: usize) -> Vec<Send> 
     sends
 }
 
-/// A valid run. `long` allows the longest ones.
+/// A valid run of version 1. `long` allows the longest ones.
 pub fn any_run(rng: &mut Rng, long: bool) -> Run {
     let network = any_network(rng);
+    run_on(rng, network, long)
+}
+
+/// The same in version 2.
+pub fn wide_run(rng: &mut Rng, long: bool) -> Run {
+    let network = wide_network(rng);
+    run_on(rng, network, long)
+}
+
+/// A valid run of either version.
+pub fn either_run(rng: &mut Rng, long: bool) -> Run {
+    if rng.one_in(2) {
+        any_run(rng, long)
+    } else {
+        wide_run(rng, long)
+    }
+}
+
+/// A run on the network.
+pub fn run_on(rng: &mut Rng, network: Network, long: bool) -> Run {
     let sites = network.sites as usize;
     let draws = match rng.below(if long { 20 } else { 19 }) {
         0 => rng.below(3),

@@ -3,40 +3,56 @@
 //! A changed field may also be good by chance; the model says what comes of it.
 
 use super::rng::Rng;
-use crate::network::{Network, NO_CHANNEL, PORTS, SITES};
+use crate::network::{Network, NO_CHANNEL, PORTS};
 use crate::single::Event;
 use crate::state::{Connection, Input, Output, Phase, Queue, State, Terminator, PHASES, TERMINATORS};
+use crate::text::Form;
 
-/// Spoils the network so that it may get 3, 6 or 7.
-pub fn spoil_network(rng: &mut Rng, network: &mut Network) {
+/// Spoils the network of a case of this form so that it may get 3, 6 or 7, in the second form also 2 or 17.
+pub fn spoil_network(rng: &mut Rng, form: Form, network: &mut Network) {
+    if form == Form::Second && rng.one_in(3) {
+        return spoil_version(rng, network);
+    }
     match rng.below(3) {
-        0 => spoil_limits(rng, network),
-        1 => spoil_channel(rng, network),
-        _ => spoil_route(rng, network),
+        0 => spoil_limits(rng, form, network),
+        1 => spoil_channel(rng, form, network),
+        _ => spoil_route(rng, form, network),
     }
 }
 
-fn spoil_limits(rng: &mut Rng, network: &mut Network) {
-    match rng.below(4) {
-        0 => network.sites = rng.pick(&[0, 17, 18, 128, 255]),
-        1 => network.tries = 0,
+/// Another version or another edition.
+fn spoil_version(rng: &mut Rng, network: &mut Network) {
+    match rng.below(3) {
+        0 => network.version = rng.pick(&[0, 3, 3, 255]),
+        1 => network.version = 3 - network.version.clamp(1, 2),
+        _ => network.edition = rng.pick(&[0, 9, 9, 99, 17, 255]),
+    }
+}
+
+fn spoil_limits(rng: &mut Rng, form: Form, network: &mut Network) {
+    match (rng.below(4), form) {
+        (0, Form::First) => network.sites = rng.pick(&[0, 17, 18, 128, 255]),
+        (0, Form::Second) => network.sites = rng.pick(&[0, 17, 64, 65, 65, 66, 255, 256 + 2, 1 << 32 | 2]),
+        (1, _) => network.tries = 0,
         _ => network.depth = rng.pick(&[0, 9, 10, 255]),
     }
 }
 
-fn spoil_channel(rng: &mut Rng, network: &mut Network) {
-    let ends = 4 * (network.sites as usize).clamp(1, SITES);
+fn spoil_channel(rng: &mut Rng, form: Form, network: &mut Network) {
+    let ends = 4 * (network.sites as usize).clamp(1, form.room());
     let (place, other) = (rng.below(ends), rng.below(ends));
-    network.channels[place] = match rng.below(4) {
-        0 => ends as u8,
-        1 => 254,
-        2 => rng.within(ends, 254) as u8,
+    network.channels[place] = match (rng.below(4), form) {
+        (0, _) => ends as u16,
+        (1, Form::First) => 254,
+        (2, Form::First) => rng.within(ends, 254) as u16,
+        (1, Form::Second) => rng.pick(&[254, 255, 255, 256, 65_534, NO_CHANNEL]),
+        (2, Form::Second) => rng.within(ends, 65_534) as u16,
         _ => network.channels[other],
     };
 }
 
-fn spoil_route(rng: &mut Rng, network: &mut Network) {
-    let sites = (network.sites as usize).clamp(1, SITES);
+fn spoil_route(rng: &mut Rng, form: Form, network: &mut Network) {
+    let sites = (network.sites as usize).clamp(1, form.room());
     let (from, to) = (rng.below(sites), rng.below(sites));
     let missing = (1..PORTS).find(|p| network.channels[4 * from + p - 1] == NO_CHANNEL).unwrap_or(5) as u16;
     let route = &mut network.routes[sites * from + to];
@@ -55,12 +71,18 @@ fn spoil_route(rng: &mut Rng, network: &mut Network) {
 }
 
 /// Fills room of the network beyond its sites with junk, which is not looked at.
-pub fn junk_beyond(rng: &mut Rng, network: &mut Network) {
-    let sites = (network.sites as usize).min(SITES);
+pub fn junk_beyond(rng: &mut Rng, form: Form, network: &mut Network) {
+    let room = form.room();
+    let sites = (network.sites as usize).min(room);
     let same = !rng.one_in(8);
-    let (byte, word) = (rng.value() as u8, rng.value() as u16);
-    network.channels[4 * sites..].fill_with(|| if same { byte } else { rng.value() as u8 });
-    network.routes[sites * sites..].fill_with(|| if same { word } else { rng.value() as u16 });
+    let any_end = |rng: &mut Rng| match (rng.value(), form) {
+        (value, Form::First) if value as u8 == 255 => NO_CHANNEL,
+        (value, Form::First) => u16::from(value as u8),
+        (value, Form::Second) => value as u16,
+    };
+    let (end, route) = (any_end(rng), rng.value() as u16);
+    network.channels[4 * sites..4 * room].fill_with(|| if same { end } else { any_end(rng) });
+    network.routes[sites * sites..room * room].fill_with(|| if same { route } else { rng.value() as u16 });
 }
 
 /// The limits that a changed field is set around.
@@ -72,10 +94,11 @@ struct Limits {
 }
 
 /// Changes one field of one place; one time in four at a site beyond S, if there is one.
-pub fn spoil_state(rng: &mut Rng, network: &Network, state: &mut State) {
-    let sites = (network.sites as usize).clamp(1, SITES);
-    let beyond = sites < SITES && rng.one_in(4);
-    let site = if beyond { rng.within(sites, SITES - 1) } else { rng.below(sites) };
+pub fn spoil_state(rng: &mut Rng, form: Form, network: &Network, state: &mut State) {
+    let room = form.room();
+    let sites = (network.sites as usize).clamp(1, room);
+    let beyond = sites < room && rng.one_in(4);
+    let site = if beyond { rng.within(sites, room - 1) } else { rng.below(sites) };
     let limits = Limits { sites, tries: network.tries, depth: network.depth, counter: state.counter };
     let place = PORTS * site + rng.below(PORTS);
     match rng.below(5) {
@@ -117,7 +140,7 @@ impl Limits {
     }
 
     fn set(&self, rng: &mut Rng, old: u64) -> u64 {
-        let beyond = 1 << self.sites;
+        let beyond = 1u64.checked_shl(self.sites as u32).unwrap_or(0);
         rng.pick(&[0, 0, beyond, old | beyond, old | 1 << 15, old | 1 << 16, old | 1 << 63, u64::MAX])
     }
 
@@ -170,15 +193,15 @@ impl Limits {
 }
 
 /// An event whose site, code or set may be at or beyond the limit.
-pub fn stray_event(rng: &mut Rng, sites: usize) -> Event {
-    let limit = sites as u64;
+pub fn stray_event(rng: &mut Rng, form: Form, sites: usize) -> Event {
+    let (limit, room) = (sites as u64, form.room());
     let last = limit.saturating_sub(1);
-    let far = rng.pick(&[limit + 1, 16, 255]);
+    let far = rng.pick(&[limit + 1, room as u64, 255]);
     let site = rng.pick(&[0, 0, last, last, limit, far]);
     if rng.one_in(2) {
         return Event::Run { site, code: rng.pick(&[0, 12, 13, 14, 255]) };
     }
-    let inside = rng.target_set(sites.clamp(1, SITES));
+    let inside = rng.target_set(sites.clamp(1, room));
     let beyond = 1 << sites.min(63);
     let set = rng.pick(&[inside, inside, 0, beyond, inside | beyond, inside | 1 << 16, 1 << 63, u64::MAX]);
     Event::Send { site, set }

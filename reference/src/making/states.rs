@@ -1,6 +1,7 @@
 //! Random states in range, reachable or not.
 
 use super::{rng::Rng, runs};
+use crate::archive::Run;
 use crate::network::{Network, PORTS};
 use crate::player::Play;
 use crate::state::{Connection, InEntry, Input, OutEntry, Output, Phase, State, Terminator};
@@ -16,6 +17,22 @@ struct Filling<'a> {
 
 /// A state in range for the valid network, nearly always one that no run reaches.
 pub fn any_state(rng: &mut Rng, network: &Network) -> State {
+    let all: Vec<usize> = (0..network.sites as usize).collect();
+    filled_state(rng, network, &all)
+}
+
+/// The same with the first and the last two sites and another two filled at most.
+pub fn sparse_state(rng: &mut Rng, network: &Network) -> State {
+    let sites = network.sites as usize;
+    let mut some = [0, 1, sites - 1, sites.saturating_sub(2), rng.below(sites), rng.below(sites)].to_vec();
+    some.sort_unstable();
+    some.dedup();
+    some.retain(|&site| site < sites);
+    filled_state(rng, network, &some)
+}
+
+/// A state in range with things at these sites.
+fn filled_state(rng: &mut Rng, network: &Network, sites: &[usize]) -> State {
     let mut state = State::empty();
     let random = rng.within(1, 255) as u8;
     state.counter = rng.pick(&[0, 1, 2, 3, 9, 253, 254, 254, 255, 255, random, random, random]);
@@ -24,7 +41,7 @@ pub fn any_state(rng: &mut Rng, network: &Network) -> State {
     }
     let fullness = rng.pick(&[10, 30, 50, 50, 70, 90, 100]);
     let mut filling = Filling { network, counter: state.counter, fullness, rng };
-    for site in 0..network.sites as usize {
+    for &site in sites {
         filling.outputs(&mut state.outputs[PORTS * site..][..PORTS]);
         let (inputs, outputs) = (&mut state.inputs[PORTS * site..], &mut state.outputs[PORTS * site..]);
         filling.inputs(&mut inputs[..PORTS], &mut outputs[..PORTS]);
@@ -35,7 +52,11 @@ pub fn any_state(rng: &mut Rng, network: &Network) -> State {
 
 /// A network, and a state that one of its runs reaches.
 pub fn reached(rng: &mut Rng) -> (Network, State) {
-    let run = runs::any_run(rng, false);
+    end_of(runs::any_run(rng, false))
+}
+
+/// The run's network, and the state at its end.
+pub fn end_of(run: Run) -> (Network, State) {
     let wiring = run.network.wiring().expect("a valid network");
     let mut play = Play::start(&run, &wiring, ());
     for _ in 0..run.draws {

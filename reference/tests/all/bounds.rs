@@ -1,6 +1,7 @@
-//! The bounds of document 01: lengths, sites, depth, tries, sends, room.
+//! The bounds of document 01, in version 1: lengths, sites, depth, tries, sends, room.
 
-use reference::archive::{length, read, write, Run, Send};
+use reference::archive::{read, write, Run, Send};
+use reference::format::Format;
 use reference::making::corpus::run_r;
 use reference::making::graphs::grid;
 use reference::making::routes::nearest;
@@ -17,6 +18,10 @@ fn with(place: usize, value: u8) -> Vec<u8> {
     let mut bytes = run_r();
     bytes[place] = value;
     bytes
+}
+
+fn length(sites: usize, sends: usize) -> usize {
+    Format::of(1).length(sites, sends)
 }
 
 fn small(sends: usize) -> Run {

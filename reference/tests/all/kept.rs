@@ -1,17 +1,19 @@
 //! What holds of every run and every step: pairs serviced or owed, range kept, answers, round trips.
 
-use reference::archive::{read, write};
+use reference::archive::{read, write, Run, LONGEST};
 use reference::draws::{event, Draws};
-use reference::making::{cases::Maker, corpus::UNREACHED};
-use reference::making::{rng::Rng, runs::any_network, runs::any_run, states::any_state};
-use reference::network::{Network, CODES};
+use reference::making::runs::{any_network, any_run, either_run, wide_network, wide_run};
+use reference::making::{cases::Maker, corpus::UNREACHED, rng::Rng, states::any_state};
+use reference::network::{Network, CODES, SITES, SITES_OF_1};
 use reference::owing;
 use reference::player::{play_run, Play, Service};
 use reference::range::in_range;
+use reference::refusal::Refusal;
 use reference::sets::members;
 use reference::single::{run, send};
 use reference::state::State;
 use reference::step::Answer;
+use reference::text::Form;
 use reference::watch::{Tally, RULES};
 use std::collections::HashMap;
 
@@ -32,8 +34,8 @@ fn settled(services: &[Service], state: &State) -> Pairs {
 #[test]
 fn every_accepted_pair_is_serviced_or_owed_once() {
     let mut rng = Rng::new(31);
-    for _ in 0..400 {
-        let stored = any_run(&mut rng, false);
+    for _ in 0..600 {
+        let stored = either_run(&mut rng, false);
         let wiring = stored.network.wiring().expect("valid");
         let mut services = Vec::new();
         let (counts, state) = play_run(&stored, &wiring, (), |service| services.push(service));
@@ -47,8 +49,8 @@ fn every_accepted_pair_is_serviced_or_owed_once() {
 #[test]
 fn every_step_of_a_run_keeps_the_count() {
     let mut rng = Rng::new(32);
-    for _ in 0..60 {
-        let stored = any_run(&mut rng, false);
+    for _ in 0..80 {
+        let stored = either_run(&mut rng, false);
         let wiring = stored.network.wiring().expect("valid");
         let mut play = Play::start(&stored, &wiring, ());
         for _ in 0..stored.draws {
@@ -62,8 +64,8 @@ fn every_step_of_a_run_keeps_the_count() {
 #[test]
 fn from_any_state_in_range_the_answer_is_0_exactly_if_nothing_changed() {
     let mut rng = Rng::new(33);
-    for _ in 0..600 {
-        let network = any_network(&mut rng);
+    for turn in 0..900 {
+        let network = if turn % 3 == 0 { wide_network(&mut rng) } else { any_network(&mut rng) };
         let wiring = network.wiring().expect("valid");
         let state = any_state(&mut rng, &network);
         assert!(in_range(&wiring, &state), "made in range");
@@ -81,7 +83,7 @@ fn from_any_state_in_range_the_answer_is_0_exactly_if_nothing_changed() {
 fn a_played_run_is_its_single_events_in_order() {
     let mut rng = Rng::new(34);
     for _ in 0..60 {
-        let stored = any_run(&mut rng, false);
+        let stored = either_run(&mut rng, false);
         let wiring = stored.network.wiring().expect("valid");
         let mut booked = Vec::new();
         let (counts, end) = play_run(&stored, &wiring, (), |service| booked.push(service));
@@ -106,36 +108,44 @@ fn a_played_run_is_its_single_events_in_order() {
 #[test]
 fn round_trips() {
     let mut rng = Rng::new(35);
-    for _ in 0..500 {
-        let stored = any_run(&mut rng, true);
-        let mut room = [7; 1_900];
+    let mut versions = [0; 3];
+    for _ in 0..800 {
+        let stored = either_run(&mut rng, true);
+        versions[stored.network.version as usize] += 1;
+        let mut room = [7; LONGEST + 9];
         let length = write(&stored, &mut room).expect("written");
         assert_eq!(read(&room[..length]).as_ref(), Ok(&stored));
         assert!(room[length..].iter().all(|&byte| byte == 7));
-        let mut again = [0; 1_900];
+        let mut again = [0; LONGEST];
         assert_eq!(write(&read(&room[..length]).expect("read"), &mut again), Ok(length));
         assert_eq!(again[..length], room[..length]);
+        assert_eq!(write(&stored, &mut again[..length - 1]), Err(Refusal::Room));
     }
+    assert!(versions[1] > 300 && versions[2] > 300);
 }
 
 #[test]
 fn made_networks_are_valid_and_of_every_size() {
     let mut rng = Rng::new(36);
-    let mut sizes = [0; 17];
-    for _ in 0..2_000 {
-        let network: Network = any_network(&mut rng);
-        assert!(network.wiring().is_ok());
-        sizes[network.sites as usize] += 1;
+    let mut sizes = [[0; SITES + 1]; 2];
+    let makers: [(usize, fn(&mut Rng) -> Network); 2] = [(2_000, any_network), (10_000, wide_network)];
+    for (at, (count, make)) in makers.into_iter().enumerate() {
+        for _ in 0..count {
+            let network = make(&mut rng);
+            assert!(network.wiring().is_ok());
+            assert_eq!(network.version as usize, at + 1);
+            sizes[at][network.sites as usize] += 1;
+        }
     }
-    assert!(sizes[1..].iter().all(|&count| count > 0), "{sizes:?}");
+    assert!(sizes[0][1..=SITES_OF_1].iter().all(|&count| count > 0), "{:?}", sizes[0]);
+    assert!(sizes[1][1..].iter().all(|&count| count > 0), "{:?}", sizes[1]);
 }
 
-#[test]
-fn made_runs_and_cases_reach_every_rule() {
-    let mut rng = Rng::new(37);
+/// The rules that so many made runs reach.
+fn reached(count: usize, mut made: impl FnMut() -> Run) -> Tally {
     let mut seen = Tally::default();
-    for _ in 0..3_000 {
-        let stored = any_run(&mut rng, false);
+    for _ in 0..count {
+        let stored = made();
         let wiring = stored.network.wiring().expect("valid");
         let mut play = Play::start(&stored, &wiring, Tally::default());
         for _ in 0..stored.draws {
@@ -144,13 +154,27 @@ fn made_runs_and_cases_reach_every_rule() {
         play.sends();
         seen.add(&play.watch);
     }
-    let mut maker = Maker::new(37);
-    for _ in 0..1_000 {
-        let kind = maker.any_kind();
-        maker.any_case(kind);
+    seen
+}
+
+#[test]
+fn made_runs_and_cases_reach_every_rule() {
+    let (mut rng, mut other) = (Rng::new(37), Rng::new(38));
+    let runs = [reached(3_000, || any_run(&mut rng, false)), reached(2_000, || wide_run(&mut other, false))];
+    for (form, turns) in [(Form::First, 1_000), (Form::Second, 800)] {
+        let mut maker = Maker::new(37, form);
+        for _ in 0..turns {
+            let kind = maker.any_kind();
+            maker.any_case(kind);
+        }
+        for (rule, words) in RULES {
+            assert!(maker.shown.count(*rule) > 0, "by cases of the {form:?} form: {words}");
+        }
     }
-    for (rule, words) in RULES {
-        assert_eq!(seen.count(*rule) == 0, UNREACHED.contains(rule), "by runs: {words}");
-        assert!(maker.shown.count(*rule) > 0, "by cases: {words}");
+    for (version, seen) in [1, 2].into_iter().zip(runs) {
+        for (rule, words) in RULES {
+            let unreached = UNREACHED.contains(rule);
+            assert_eq!(seen.count(*rule) == 0, unreached, "by runs of version {version}: {words}");
+        }
     }
 }

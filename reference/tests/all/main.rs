@@ -1,6 +1,7 @@
 //! The second model's own tests. Expected values are typed from document 01 and its readings.
 
 mod bounds;
+mod counters;
 mod examples;
 mod helpers;
 mod kept;
@@ -12,3 +13,5 @@ mod stored;
 mod texts;
 mod traces;
 mod typed;
+mod versions;
+mod words;

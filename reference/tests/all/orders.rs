@@ -1,18 +1,22 @@
-//! The order of the refusals: reader, writer, player and single events, each pair of neighbours.
+//! The order of the refusals in both versions: reader, writer, player and single events, each pair of neighbours.
 
 use crate::helpers::{one_site, two_sites};
 use reference::archive::{read, write, Run, Send};
+use reference::network::NO_CHANNEL;
 use reference::player::play;
 use reference::refusal::Refusal::{self, *};
 use reference::single::{run, send};
 use reference::state::{OutEntry, State};
 
-/// A run with one fault for each refusal of `faults` that it can hold (3, 4, 5, 6, 7, 8).
-fn faulty(faults: &[Refusal]) -> Run {
+/// A run of this version with one fault for each refusal of `faults` that it can hold (2, 17, 3, 4, 5, 6, 7, 8).
+fn faulty(version: u8, faults: &[Refusal]) -> Run {
     let send = Send { draw: 0, site: 0, set: 1 };
-    let mut run = Run { network: two_sites(), seed: 1, draws: 2, sends: vec![send; 3] };
+    let network = two_sites().in_version(version);
+    let mut run = Run { network, seed: 1, draws: 2, sends: vec![send; 3] };
     for fault in faults {
         match fault {
+            Version => run.network.version = 3,
+            Edition => run.network.edition = 2,
             Limits => run.network.tries = 0,
             Seed => run.seed = 0,
             Size => run.sends.resize(256, send),
@@ -25,52 +29,67 @@ fn faulty(faults: &[Refusal]) -> Run {
     run
 }
 
-/// The bytes of it, with the faults that only bytes can hold (1, 2, 5).
-fn faulty_bytes(faults: &[Refusal]) -> Vec<u8> {
-    let others: Vec<Refusal> = faults.iter().copied().filter(|f| *f != Size).collect();
-    let mut bytes = faulty(&others).bytes();
+/// The bytes of it, with the faults that are made in the bytes (1, 2, 5).
+fn faulty_bytes(version: u8, faults: &[Refusal]) -> Vec<u8> {
+    let others: Vec<Refusal> = faults.iter().copied().filter(|f| !matches!(f, Version | Size)).collect();
+    let mut bytes = faulty(version, &others).bytes();
     for fault in faults {
         match fault {
             Length => bytes[1] += 1,
             Version => bytes[2] = 7,
-            Size => bytes[12] += 1,
+            Size => bytes[if version == 1 { 12 } else { 13 }] += 1,
             _ => (),
         }
     }
     bytes
 }
 
-#[test]
-fn reader_and_player_1_to_8_then_14() {
-    let order = [Length, Version, Limits, Seed, Size, Channel, Route, Send];
-    assert!(read(&faulty_bytes(&[])).is_ok());
+/// The reader's order, then 14; in version 1 there is no edition byte.
+fn reader_and_player(version: u8, order: &[Refusal]) {
+    let bytes = |faults: &[Refusal]| faulty_bytes(version, faults);
+    assert!(read(&bytes(&[])).is_ok());
     for (at, first) in order.iter().enumerate() {
-        assert_eq!(read(&faulty_bytes(&[*first])), Err(*first));
-        assert_eq!(read(&faulty_bytes(&order[at..])), Err(*first));
+        assert_eq!(read(&bytes(&[*first])), Err(*first));
+        assert_eq!(read(&bytes(&order[at..])), Err(*first));
         for later in &order[at + 1..] {
-            assert_eq!(read(&faulty_bytes(&[*first, *later])), Err(*first), "{first:?} {later:?}");
+            assert_eq!(read(&bytes(&[*first, *later])), Err(*first), "{first:?} {later:?}");
         }
         let mut book = [5; 3];
-        assert_eq!(play(&faulty_bytes(&[*first]), &mut book), Err(*first));
+        assert_eq!(play(&bytes(&[*first]), &mut book), Err(*first));
         assert_eq!(book, [5; 3]);
     }
-    assert_eq!(play(&faulty_bytes(&[]), &mut [5; 3]), Err(Room));
+    assert_eq!(play(&bytes(&[]), &mut [5; 3]), Err(Room));
 }
 
 #[test]
-fn writer_3_to_8_then_14() {
-    let order = [Limits, Seed, Size, Channel, Route, Send];
-    for (at, first) in order.iter().enumerate() {
-        let mut room = [5; 10];
-        assert_eq!(write(&faulty(&[*first]), &mut room), Err(*first));
-        assert_eq!(write(&faulty(&order[at..]), &mut room), Err(*first));
-        assert_eq!(room, [5; 10]);
-    }
-    assert_eq!(write(&faulty(&[]), &mut [5; 10]), Err(Room));
+fn reader_and_player_of_version_1() {
+    reader_and_player(1, &[Length, Version, Limits, Seed, Size, Channel, Route, Send]);
 }
 
-/// Single events: 3, 6, 7, 13, 9, 10, 12, 11.
-const SINGLE: [Refusal; 8] = [Full, Spent, Set, Address, Range, Route, Channel, Limits];
+#[test]
+fn reader_and_player_of_version_2() {
+    reader_and_player(2, &[Length, Version, Edition, Limits, Seed, Size, Channel, Route, Send]);
+}
+
+#[test]
+fn writer_2_17_3_to_8_then_14() {
+    let order = [Version, Edition, Limits, Seed, Size, Channel, Route, Send];
+    for version in [1, 2] {
+        for (at, first) in order.iter().enumerate() {
+            let mut room = [5; 10];
+            assert_eq!(write(&faulty(version, &[*first]), &mut room), Err(*first));
+            assert_eq!(write(&faulty(version, &order[at..]), &mut room), Err(*first));
+            for later in &order[at + 1..] {
+                assert_eq!(write(&faulty(version, &[*first, *later]), &mut room), Err(*first));
+            }
+            assert_eq!(room, [5; 10]);
+        }
+        assert_eq!(write(&faulty(version, &[]), &mut [5; 10]), Err(Room));
+    }
+}
+
+/// Single events: 2, 17, 3, 6, 7, 13, 9, 10, 12, 11.
+const SINGLE: [Refusal; 10] = [Full, Spent, Set, Address, Range, Route, Channel, Limits, Edition, Version];
 
 /// The place in the reverse order: a fault's rank is above those that come after it.
 fn rank(fault: Refusal) -> usize {
@@ -79,21 +98,28 @@ fn rank(fault: Refusal) -> usize {
 
 #[test]
 fn single_send() {
-    for last in SINGLE {
-        // All faults that come before `last` in the order are left out.
-        let absent = |fault: Refusal| rank(fault) > rank(last);
-        assert_eq!(send_without(absent), Err(last));
+    for version in [1, 2] {
+        for last in SINGLE {
+            // All faults that come before `last` in the order are left out.
+            let absent = |fault: Refusal| rank(fault) > rank(last);
+            assert_eq!(send_without(version, absent), Err(last));
+        }
+        assert_eq!(send_without(version, |_| true), Ok(1));
     }
 }
 
-/// SEND with every fault but those that are absent.
-fn send_without(absent: impl Fn(Refusal) -> bool) -> Result<u8, Refusal> {
-    let mut network = two_sites();
+/// SEND in this version with every fault but those that are absent.
+fn send_without(version: u8, absent: impl Fn(Refusal) -> bool) -> Result<u8, Refusal> {
+    let mut network = two_sites().in_version(version);
     let mut state = State { counter: 1, ..State::empty() };
     network.depth = 1;
     let here = |fault: Refusal| !absent(fault);
+    if here(Version) {
+        network.version = 0;
+    }
+    network.edition = if here(Edition) { 2 } else { 1 };
     network.tries = if here(Limits) { 0 } else { 1 };
-    network.channels[7] = if here(Channel) { 8 } else { 255 };
+    network.channels[7] = if here(Channel) { 8 } else { NO_CHANNEL };
     network.routes[0] = here(Route) as u16;
     state.inputs[79].tries = here(Range) as u8;
     let site = if here(Address) { 2 } else { 0 };
@@ -126,6 +152,10 @@ fn single_run() {
     assert_eq!(run(&bad, &mut state, 2, 13), Err(Channel));
     bad.depth = 9;
     assert_eq!(run(&bad, &mut state, 2, 13), Err(Limits));
+    bad.edition = 0;
+    assert_eq!(run(&bad, &mut state, 2, 13), Err(Edition));
+    bad.version = 3;
+    assert_eq!(run(&bad, &mut state, 2, 13), Err(Version));
     assert_eq!(state, before);
 }
 

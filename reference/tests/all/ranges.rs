@@ -196,6 +196,12 @@ fn empty_places_and_sites_beyond() {
             ("site 15, out-queue count", |b| b.state.out_queues[15].count = 1),
             ("site 15, in-queue entry", |b| b.state.in_queues[15].entries[7].packet = 1),
             ("site 2, in-queue count", |b| b.state.in_queues[2].count = 1),
+            ("site 16, input tries", |b| b.input(16, 0).tries = 1),
+            ("site 16, output head", |b| b.output(16, 4).head = true),
+            ("site 40, output in use", |b| *b.output(40, 4) = *b.output(0, 4)),
+            ("site 63, input in use", |b| *b.input(63, 0) = *b.input(0, 3)),
+            ("site 63, out-queue entry", |b| b.state.out_queues[63].entries[7].set = 1),
+            ("site 63, in-queue count", |b| b.state.in_queues[63].count = 1),
         ],
     );
 }

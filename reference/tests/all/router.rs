@@ -103,7 +103,7 @@ fn tries_and_handing() {
 /// By the definition's words, slowly: what the split rule gives each output.
 fn split_by_words(network: &Network, site: usize, set: u64, empty: u8) -> Option<[u64; 5]> {
     let mut chosen = [0u64; 5];
-    for target in (0..16).filter(|&t| t != site && set >> t & 1 == 1) {
+    for target in (0..64).filter(|&t| t != site && set >> t & 1 == 1) {
         let route = network.routes[network.sites as usize * site + target];
         let list = [route >> 12, route >> 8 & 15, route >> 4 & 15, route & 15];
         let serves = |&&port: &&u16| port != 0 && (empty >> port & 1 == 1 || chosen[port as usize] != 0);
@@ -114,11 +114,17 @@ fn split_by_words(network: &Network, site: usize, set: u64, empty: u8) -> Option
 
 #[test]
 fn splits_on_a_torus_by_the_words() {
-    let mut net = grid(4, 4, true);
+    splits_by_the_words(grid(4, 4, true), 0xffff);
+    splits_by_the_words(grid(8, 8, true).in_version(2), u64::MAX);
+}
+
+/// Sets within `all`, all sites and outputs in use, against the words.
+fn splits_by_the_words(mut net: Network, all: u64) {
     nearest(&mut net, 4);
     let wiring = net.wiring().expect("a valid network");
     for turn in 0..2_000u64 {
-        let (site, set) = ((turn % 16) as usize, turn.wrapping_mul(0x9e37_79b9) >> 7 & 0xffff);
+        let mixed = turn.wrapping_mul(0x9e37_79b9_7f4a_7c15);
+        let (site, set) = ((turn % net.sites) as usize, (mixed ^ mixed >> 29) & all);
         let empty = (turn * 7 / 3) as u8 & 0b11110 | 1;
         if set.count_ones() < 2 {
             continue;

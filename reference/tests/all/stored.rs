@@ -2,7 +2,7 @@
 
 use crate::helpers::{one_site, two_sites};
 use reference::archive::{read, write, Run, Send};
-use reference::network::Network;
+use reference::network::{Network, NO_CHANNEL};
 use reference::player::play;
 use reference::print::report;
 use reference::refusal::Refusal;
@@ -38,7 +38,7 @@ fn r22_each_number_is_judged_over_the_whole_archive() {
     run.network.routes[0] = 1;
     run.network.channels[7] = 9;
     assert_eq!(read(&run.bytes()), Err(Refusal::Channel));
-    run.network.channels[7] = 255;
+    run.network.channels[7] = NO_CHANNEL;
     run.network.routes[0] = 0;
     run.network.routes[3] = 1;
     assert_eq!(read(&run.bytes()), Err(Refusal::Route));

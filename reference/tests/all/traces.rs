@@ -1,5 +1,7 @@
 //! The lines of `trace`, typed from document 01 and docs/TRACE.md.
 
+use reference::archive::{Run, Send};
+use reference::making::{graphs, routes};
 use reference::trace::trace;
 
 /// Run R, then the same with D and the sends changed.
@@ -38,4 +40,16 @@ fn a_refused_archive_has_no_trace() {
     let mut bytes = run_r(1, 2, &[]);
     bytes[9] = 0;
     assert_eq!(trace(&bytes, true).map_err(|refusal| refusal.number()), Err(4));
+}
+
+/// Version 2 with 64 sites and no draws: site 63 sends to sites 0, 16 and 63.
+#[test]
+fn sites_above_15() {
+    let mut network = graphs::ring(64, false).in_version(2);
+    routes::nearest(&mut network, 1);
+    let sends = vec![Send { draw: 0, site: 63, set: 1 << 63 | 1 << 16 | 1 }];
+    let bytes = Run { network, seed: 1, draws: 0, sends }.bytes();
+    let expected = "send 0 after the last draw: site 63 to {0,16,63}: packet 0\n\
+                    accepted 1 pairs 3 serviced 0 owed 3\n";
+    assert_eq!(trace(&bytes, true).as_deref(), Ok(expected));
 }

@@ -1,4 +1,4 @@
-//! Archives and outputs typed by hand from document 01 (corpus/typed) against the corpus and the model.
+//! Archives and outputs typed by hand from the documents (corpus/typed) against the corpus and the model.
 
 use reference::print::report;
 use std::fs;
@@ -31,5 +31,5 @@ fn typed_archives_play_as_typed() {
         assert!(stored == archive, "{name}: the corpus holds other bytes");
         seen += 1;
     }
-    assert_eq!(seen, 12, "typed archives");
+    assert_eq!(seen, 27, "typed archives");
 }

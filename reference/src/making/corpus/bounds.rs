@@ -1,11 +1,13 @@
-//! Run R, the bounds of document 01 and the extreme lengths.
+//! Run R, the bounds of document 01 and the extreme lengths, in version 1.
 
 use super::{named, run_r, two_sites, Named};
 use crate::archive::{Run, Send};
+use crate::format::Format;
 use crate::making::{graphs, routes};
-use crate::network::Network;
+use crate::network::{most_sites, Network};
+use crate::sets;
 
-fn edited(bytes: &[u8], edits: &[(usize, u8)]) -> Vec<u8> {
+pub(super) fn edited(bytes: &[u8], edits: &[(usize, u8)]) -> Vec<u8> {
     let mut bytes = bytes.to_vec();
     for &(place, value) in edits {
         bytes[place] = value;
@@ -14,7 +16,7 @@ fn edited(bytes: &[u8], edits: &[(usize, u8)]) -> Vec<u8> {
 }
 
 /// The bytes cut or filled with zeros to this length, and the length field set to `field`.
-fn long(bytes: &[u8], length: usize, field: usize) -> Vec<u8> {
+pub(super) fn long(bytes: &[u8], length: usize, field: usize) -> Vec<u8> {
     let mut bytes = bytes.to_vec();
     bytes.resize(length, 0);
     for (byte, part) in bytes.iter_mut().zip((field as u16).to_be_bytes()) {
@@ -30,16 +32,24 @@ fn grid_of_16() -> Network {
     network
 }
 
-/// A one-way ring by its bytes, for 17 sites too: T = 3, D = 2, no draws, site 15 sends to sites 0 to 15.
-fn ring(sites: usize) -> Vec<u8> {
-    let mut bytes = vec![0, 0, 1, sites as u8, 3, 2, 0, 0, 0, 7, 0, 0, 1];
+/// A one-way ring by its bytes, for one site too many too: T = 3, D = 2, no draws, the last of the sites that there
+/// can be sends to all of these.
+pub(super) fn ring(version: u8, sites: usize) -> Vec<u8> {
+    let format = Format::of(version);
+    let mut bytes = vec![0, 0, version];
+    bytes.extend(format.edition.map(|_| 1));
+    bytes.extend([sites as u8, 3, 2, 0, 0, 0, 7, 0, 0, 1]);
+    let mut put = |width: usize, value: u64| bytes.extend(&value.to_be_bytes()[8 - width..]);
     for site in 0..sites {
-        bytes.extend([4 * ((site + 1) % sites) as u8, 255, 255, 255]);
+        put(format.channel_width, 4 * ((site + 1) % sites) as u64);
+        (0..3).for_each(|_| put(format.channel_width, u64::MAX));
     }
     for place in 0..sites * sites {
-        bytes.extend([if place / sites == place % sites { 0 } else { 0x10 }, 0]);
+        put(2, if place / sites == place % sites { 0 } else { 0x1000 });
     }
-    bytes.extend([0, 0, 15, 255, 255]);
+    let senders = sites.min(most_sites(version));
+    put(3, senders as u64 - 1);
+    put(format.set_width, sets::all(senders));
     let whole = bytes.len();
     long(&bytes, whole, whole)
 }
@@ -61,7 +71,7 @@ fn by_hand() -> Vec<Named> {
 }
 
 /// One site, no channels, `count` sends of {0} before the first draw.
-fn one_site(depth: u64, draws: u16, count: usize) -> Run {
+pub(super) fn one_site(depth: u64, draws: u16, count: usize) -> Run {
     let send = Send { draw: 0, site: 0, set: 1 };
     Run { network: Network::bare(1, 1, depth), seed: 1, draws, sends: vec![send; count] }
 }
@@ -90,8 +100,8 @@ pub fn all() -> Vec<Named> {
     let last = Run { seed: u32::MAX, draws: 65_535, ..two_sites() };
     let mut all = vec![
         named("01-run-r", r.clone()),
-        named("bound-sites-16", ring(16)),
-        named("bound-sites-17", ring(17)),
+        named("bound-sites-16", ring(1, 16)),
+        named("bound-sites-17", ring(1, 17)),
         named("bound-sites-0", edited(&r, &[(3, 0)])),
         named("bound-depth-8", edited(&r, &[(5, 8)])),
         named("bound-depth-9", edited(&r, &[(5, 9)])),

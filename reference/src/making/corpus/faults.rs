@@ -1,82 +1,171 @@
-//! Each refusal in several ways, and two or more faults at once so that their order shows.
+//! Each refusal in several ways, and two or more faults at once so that their order shows, in both versions.
 
 use super::{named, two_sites, Named};
-use crate::archive::HEAD;
+use crate::format::{Format, VERSION_AT};
+use crate::network::NO_CHANNEL;
 
-/// Where the parts of the two-site archive begin.
-const ROUTES: usize = HEAD + 8;
-const SENDS: usize = ROUTES + 8;
+/// A change of the two-site archive: one field, good or bad.
+#[derive(Clone, Copy)]
+enum Edit {
+    /// The length field, so much higher.
+    Length(i32),
+    Version(u8),
+    Edition(u8),
+    Sites(u8),
+    Tries(u8),
+    Depth(u8),
+    Seed(u32),
+    /// The number of sends that the head says.
+    Sends(u8),
+    Channel(usize, u16),
+    Route(usize, u16),
+    /// A send's draw number, site or set.
+    Draw(usize, u16),
+    Site(usize, u8),
+    Set(usize, u64),
+}
+use Edit::*;
 
-/// Bytes to change: place and value.
-type Edits = &'static [(usize, u8)];
+type Edits = &'static [Edit];
 
-/// One clear fault for each of the refusals 1 to 8, in the two-site archive; they touch different bytes.
-const FAULTS: [Edits; 8] = [
-    &[(0, 1)],
-    &[(2, 2)],
-    &[(5, 9)],
-    &[(9, 0)],
-    &[(12, 4)],
-    &[(HEAD, 8)],
-    &[(ROUTES + 1, 1)],
-    &[(SENDS + 2, 2)],
+/// One clear fault for each of the refusals, in the reader's order; they touch different bytes.
+type Order<'a> = &'a [(u8, Edits)];
+
+const LATER: [(u8, Edits); 6] = [
+    (3, &[Depth(9)]),
+    (4, &[Seed(0)]),
+    (5, &[Sends(4)]),
+    (6, &[Channel(0, 8)]),
+    (7, &[Route(0, 1)]),
+    (8, &[Site(0, 2)]),
 ];
+const LENGTH: (u8, Edits) = (1, &[Length(256)]);
 
+/// Ways in both versions.
 const WAYS: &[(&str, Edits)] = &[
-    ("refuse-1-field-one-less", &[(1, 43)]),
-    ("refuse-2-version-0", &[(2, 0)]),
-    ("refuse-2-version-255", &[(2, 255)]),
-    ("refuse-3-all-three", &[(3, 0), (4, 0), (5, 0)]),
-    ("refuse-5-one-site-fewer", &[(3, 1)]),
-    ("refuse-5-one-site-more", &[(3, 3)]),
-    ("refuse-5-one-send-fewer", &[(12, 2)]),
-    ("refuse-5-one-send-more", &[(12, 4)]),
-    ("refuse-6-byte-4s", &[(HEAD + 1, 8)]),
-    ("refuse-6-byte-254", &[(HEAD + 7, 254)]),
-    ("refuse-6-fed-twice", &[(HEAD + 1, 0)]),
-    ("refuse-6-fed-twice-one-site", &[(HEAD + 1, 5), (HEAD + 2, 5)]),
-    ("refuse-7-no-channel-left", &[(HEAD, 255)]),
-    ("refuse-7-empty-list", &[(ROUTES + 2, 0)]),
-    ("refuse-7-zero-first", &[(ROUTES + 2, 1)]),
-    ("refuse-7-zero-between", &[(HEAD + 1, 1), (ROUTES + 2, 0x10), (ROUTES + 3, 0x20)]),
-    ("refuse-7-port-twice", &[(ROUTES + 2, 0x11)]),
-    ("refuse-7-port-twice-apart", &[(HEAD + 1, 1), (ROUTES + 2, 0x12), (ROUTES + 3, 0x10)]),
-    ("refuse-7-port-5", &[(ROUTES + 2, 0x50)]),
-    ("refuse-7-port-15-last", &[(ROUTES + 3, 0x0f)]),
-    ("refuse-7-port-5-second", &[(ROUTES + 2, 0x15)]),
-    ("refuse-7-port-without-channel", &[(ROUTES + 2, 0x12)]),
-    ("refuse-7-to-itself", &[(ROUTES, 0x10)]),
-    ("refuse-7-to-itself-last-digit", &[(ROUTES + 7, 1)]),
-    ("refuse-8-site-2", &[(SENDS + 2, 2)]),
-    ("refuse-8-site-255", &[(SENDS + 12, 255)]),
-    ("refuse-8-set-empty", &[(SENDS + 4, 0)]),
-    ("refuse-8-set-beyond-s", &[(SENDS + 4, 4)]),
-    ("refuse-8-set-bit-15", &[(SENDS + 3, 0x80)]),
-    ("refuse-8-draw-after-last", &[(SENDS + 11, 145)]),
-    ("refuse-8-draws-fall", &[(SENDS + 11, 143)]),
-    ("pass-list-of-two", &[(HEAD + 1, 5), (ROUTES + 2, 0x21)]),
-    ("pass-self-channel", &[(HEAD + 3, 3)]),
-    ("pass-send-at-last-draw", &[(SENDS, 1), (SENDS + 1, 143)]),
+    ("refuse-1-field-one-less", &[Length(-1)]),
+    ("refuse-2-version-0", &[Version(0)]),
+    ("refuse-2-version-255", &[Version(255)]),
+    ("refuse-3-all-three", &[Sites(0), Tries(0), Depth(0)]),
+    ("refuse-5-one-site-fewer", &[Sites(1)]),
+    ("refuse-5-one-site-more", &[Sites(3)]),
+    ("refuse-5-one-send-fewer", &[Sends(2)]),
+    ("refuse-5-one-send-more", &[Sends(4)]),
+    ("refuse-6-fed-twice", &[Channel(1, 0)]),
+    ("refuse-6-fed-twice-one-site", &[Channel(1, 5), Channel(2, 5)]),
+    ("refuse-7-no-channel-left", &[Channel(0, NO_CHANNEL)]),
+    ("refuse-7-empty-list", &[Route(1, 0)]),
+    ("refuse-7-zero-first", &[Route(1, 0x0100)]),
+    ("refuse-7-zero-between", &[Channel(1, 1), Route(1, 0x1020)]),
+    ("refuse-7-port-twice", &[Route(1, 0x1100)]),
+    ("refuse-7-port-twice-apart", &[Channel(1, 1), Route(1, 0x1210)]),
+    ("refuse-7-port-5", &[Route(1, 0x5000)]),
+    ("refuse-7-port-15-last", &[Route(1, 0x100f)]),
+    ("refuse-7-port-5-second", &[Route(1, 0x1500)]),
+    ("refuse-7-port-without-channel", &[Route(1, 0x1200)]),
+    ("refuse-7-to-itself", &[Route(0, 0x1000)]),
+    ("refuse-7-to-itself-last-digit", &[Route(3, 1)]),
+    ("refuse-8-site-2", &[Site(0, 2)]),
+    ("refuse-8-site-255", &[Site(2, 255)]),
+    ("refuse-8-set-empty", &[Set(0, 0)]),
+    ("refuse-8-set-beyond-s", &[Set(0, 4)]),
+    ("refuse-8-set-bit-15", &[Set(0, 1 << 15 | 3)]),
+    ("refuse-8-draw-after-last", &[Draw(2, 401)]),
+    ("refuse-8-draws-fall", &[Draw(2, 399)]),
+    ("pass-list-of-two", &[Channel(1, 5), Route(1, 0x2100)]),
+    ("pass-self-channel", &[Channel(3, 3)]),
+    ("pass-send-at-last-draw", &[Draw(0, 399)]),
 ];
 
-fn damaged(edits: impl IntoIterator<Item = Edits>) -> Vec<u8> {
-    let mut bytes = two_sites().bytes();
-    for &(place, value) in edits.into_iter().flatten() {
-        bytes[place] = value;
+/// Ways in version 1 alone.
+const WAYS_OF_1: &[(&str, Edits)] =
+    &[("refuse-6-byte-4s", &[Channel(1, 8)]), ("refuse-6-byte-254", &[Channel(7, 254)])];
+
+/// Ways in version 2 alone. 255 is the bytes 0 and 255, 65280 the bytes 255 and 0.
+const WAYS_OF_2: &[(&str, Edits)] = &[
+    ("refuse-2-version-3", &[Version(3)]),
+    ("refuse-2-version-0-edition-2", &[Version(0), Edition(2)]),
+    ("refuse-17-edition-255", &[Edition(255)]),
+    ("refuse-6-channel-4s", &[Channel(1, 8)]),
+    ("refuse-6-channel-255", &[Channel(1, 255)]),
+    ("refuse-6-channel-65280", &[Channel(7, 65_280)]),
+    ("refuse-6-channel-65534", &[Channel(7, 65_534)]),
+    ("refuse-8-set-bit-63", &[Set(2, 1 << 63 | 2)]),
+];
+
+/// The two-site archive of this version with these changes.
+fn damaged(version: u8, edits: impl IntoIterator<Item = Edits>) -> Vec<u8> {
+    let mut run = two_sites();
+    run.network.version = version;
+    let mut heads = Vec::new();
+    for edit in edits.into_iter().flatten() {
+        match *edit {
+            Edition(edition) => run.network.edition = edition,
+            Tries(tries) => run.network.tries = tries,
+            Depth(depth) => run.network.depth = depth.into(),
+            Seed(seed) => run.seed = seed,
+            Channel(place, end) => run.network.channels[place] = end,
+            Route(place, route) => run.network.routes[place] = route,
+            Draw(send, draw) => run.sends[send].draw = draw,
+            Site(send, site) => run.sends[send].site = site,
+            Set(send, set) => run.sends[send].set = set,
+            Length(_) | Version(_) | Sites(_) | Sends(_) => heads.push(*edit),
+        }
+    }
+    let mut bytes = run.bytes();
+    let format = Format::of(version);
+    for edit in heads {
+        match edit {
+            Length(more) => {
+                let field = (bytes.len() as i32 + more) as u16;
+                bytes[..2].copy_from_slice(&field.to_be_bytes());
+            }
+            Version(number) => bytes[VERSION_AT] = number,
+            Sites(sites) => bytes[format.sites] = sites,
+            Sends(sends) => bytes[format.sends] = sends,
+            _ => unreachable!("the other fields are set in the run"),
+        }
     }
     bytes
 }
 
-pub fn all() -> Vec<Named> {
-    let mut all = vec![named("pass-two-sites", two_sites().bytes())];
-    all.extend(WAYS.iter().map(|(name, edits)| named(name, damaged([*edits]))));
-    for first in 1..8 {
-        let pair = [FAULTS[first - 1], FAULTS[first]];
-        all.push(named(&format!("order-{first}-before-{}", first + 1), damaged(pair)));
+/// Each fault with the next one, and with all later ones.
+fn orders(version: u8, prefix: &str, order: Order) -> Vec<Named> {
+    let mut all = Vec::new();
+    for pair in order.windows(2) {
+        let name = format!("{prefix}order-{}-before-{}", pair[0].0, pair[1].0);
+        all.push(named(&name, damaged(version, pair.iter().map(|(_, edits)| *edits))));
     }
-    for first in 1..7 {
-        let later = FAULTS[first - 1..].iter().copied();
-        all.push(named(&format!("order-{first}-before-all-later"), damaged(later)));
+    for at in 0..order.len() - 2 {
+        let name = format!("{prefix}order-{}-before-all-later", order[at].0);
+        all.push(named(&name, damaged(version, order[at..].iter().map(|(_, edits)| *edits))));
     }
     all
+}
+
+pub fn all() -> Vec<Named> {
+    let ways = |version, prefix: &str, ways: &[(&str, Edits)]| -> Vec<Named> {
+        ways.iter().map(|(way, edits)| named(&format!("{prefix}{way}"), damaged(version, [*edits]))).collect()
+    };
+    // In the archives of version 1 the version byte of 2's fault is 2: it makes their S, 2, an edition byte.
+    let of_1 = [&[LENGTH, (2, &[Version(2)])], &LATER[..]].concat();
+    let of_2 = [&[LENGTH, (2, &[Version(3)]), (17, &[Edition(9)])], &LATER[..]].concat();
+    let mut all = vec![
+        named("pass-two-sites", damaged(1, [])),
+        named("v2-pass-two-sites", damaged(2, [])),
+        named("v2-order-2-before-all-later-version-0", damaged(2, zero_version(&of_2))),
+    ];
+    all.extend(ways(1, "", WAYS));
+    all.extend(ways(1, "", WAYS_OF_1));
+    all.extend(orders(1, "", &of_1));
+    all.extend(ways(2, "v2-", WAYS));
+    all.extend(ways(2, "v2-", WAYS_OF_2));
+    all.extend(orders(2, "v2-", &of_2));
+    all
+}
+
+/// The faults from 2 on, with the version byte 0.
+fn zero_version(order: Order) -> Vec<Edits> {
+    let later = order.iter().skip(2).map(|(_, edits)| *edits);
+    std::iter::once(&[Version(0)] as Edits).chain(later).collect()
 }
