@@ -1,5 +1,5 @@
 #!/bin/sh
-# Single events typed by hand from document 01 (tests/clauses; README.md there has the form): expands them into cases and
+# Single events typed by hand from the documents (tests/clauses; README.md there has the form): expands them into cases and
 # what has to come of them, replays the cases with the proved program target/bin/singles (run as scripts/program.sh says)
 # and with the second model, and compares what both print with what is typed, byte by byte.
 # Prints one line; names the cases that differ and fails at any difference, or where a file is missing. The texts stay in
@@ -11,7 +11,7 @@ export CARGO_TARGET_DIR="$root/target/reference"
 program="$root/target/bin/singles"
 data=tests/clauses
 texts=target/clauses
-files='names passes inputs queues beyond networks order runs'
+files='names passes inputs queues beyond networks order runs versions wide'
 
 fail() {
     echo "clauses: $1" >&2

@@ -125,8 +125,13 @@ for program in play batch inspect trace; do
     printf '#!/bin/sh\necho "0 1 1 0 0" >&3\n' >"$copy/target/bin/$program"
     chmod +x "$copy/target/bin/$program"
 done
-for tool in sh cat grep awk sed find head tail dirname readlink uname ps sleep mkdir rm touch mktemp tr wc cp env kill; do
+for tool in sh cat grep awk sed find head tail dirname readlink ps sleep mkdir rm touch mktemp tr wc cp env kill; do
     there=$(command -v "$tool") && ln -sf "$there" "$work/bare/$tool" 2>/dev/null
+done
+# the programs of the copy are scripts: they run as they are, whatever machine this is
+for folder in path bare; do
+    printf '#!/bin/sh\necho x86_64\n' >"$work/$folder/uname"
+    chmod +x "$work/$folder/uname"
 done
 cat >"$work/path/rt" <<'END'
 #!/bin/sh

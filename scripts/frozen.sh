@@ -1,8 +1,9 @@
 #!/bin/sh
 # frozen.sh: what a landing answered stays as it was. Holds every seal and every line of tests/frozen/ (README.md there
 # has their form): the archives of the corpus and their lines in crates/batch/stdout, the single events, and what the
-# other programs are given and print. Fails too if something of that kind is in no file there. Prints one line.
-# frozen.sh --add NAME: writes the lines that no file there has, as tests/frozen/NAME.txt, and its seal.
+# other programs are given and print. What a landing itself changed stands in its NAME.instead: the landings before it are
+# held with that put back. Fails too if something of that kind is in no file there. Prints one line.
+# frozen.sh --add NAME: writes the lines that no file there has, as tests/frozen/NAME.txt; seals it and NAME.instead.
 # Exit: 0 all as it was, or added; 1 something differs (named on standard error); 2 used in a wrong way.
 set -eu
 export LC_ALL=C
@@ -120,27 +121,47 @@ unfrozen() {
     ' part=1 "$1" part=2 "$2"
 }
 
+# The awk function was(path, line): a line of a text as it was before the exceptions in $temp/instead, newest first. What
+# is met goes to $temp/met: `is` of an exception, or `was` where the line that it replaces still stands.
+was='
+    BEGIN { while ((getline exception <(temp "/instead")) > 0) EXCEPTION[++exceptions] = exception }
+    function was(path, line,    i, field) {
+        for (i = 1; i <= exceptions; i++) {
+            split(EXCEPTION[i], field, "\t")
+            if (path != field[2] || (line "") != (field[3] "") && (line "") != (field[4] "")) continue
+            print field[1] "\t" ((line "") == (field[4] "") ? "is" : "was") >>(temp "/met")
+            line = field[3]
+        }
+        return line
+    }'
+
+# put_back PATH: standard input, lines of that text, as they were. (`end` shows a last line that lacks its newline.)
+put_back() {
+    { cat && echo end; } |
+        awk -v temp="$temp" -v path="$1" "$was"' NR > 1 { print was(path, line) } { line = $0 }'
+}
+
 # parts FILE: the lines that batch printed for each archive of the file, as $temp/parts/NAME: services, then the line
 # that begins with the name. The line of a name that batch was given and that is no archive ends a part too.
 parts() {
-    awk -v folder="$temp/parts/" '
+    awk -v temp="$temp" -v folder="$temp/parts/" -v outputs="$outputs" "$was"'
         part == 1 { if (sub(/^archive /, "")) archive[$0] = named[$0] = 1; next }
         part == 2 { named[$0] = 1; next }
         {
-            text = text $0 "\n"
+            text[++lines] = $0
             at = index($0, ": ")
             name = substr($0, 1, at - 1)
             if (!at || !(name in named)) next
             if (name in archive) {
-                printf "%s", text >>(folder name)
+                for (i = 1; i <= lines; i++) print was(outputs, text[i]) >>(folder name)
                 close(folder name)
             }
-            text = ""
+            lines = 0
         }
     ' part=1 "$1" part=2 crates/batch/stdin part=3 "$outputs"
 }
 
-# spelled FILE: bare lines with the digests of today, all made by one call; - where nothing is there
+# spelled FILE: bare lines with the digests of today, exceptions put back, made by one call; - where nothing is there
 spelled() {
     rm -rf "$temp/parts" "$temp/cuts"
     mkdir "$temp/parts" "$temp/cuts"
@@ -157,7 +178,7 @@ spelled() {
                 to=${path%% *}
                 path=${path#* }
                 [ -f "$path" ] || continue
-                tail -n "+$from" "$path" | head -n $((to - from + 1)) >"$temp/cuts/$cuts"
+                tail -n "+$from" "$path" | head -n $((to - from + 1)) | put_back "$path" >"$temp/cuts/$cuts"
                 printf '%s\n' "$temp/cuts/$cuts"
                 ;;
         esac
@@ -179,10 +200,8 @@ spelled() {
     ' part=1 "$temp/digests" part=2 "$1"
 }
 
-# compared TODAY FILE..: what differs between the frozen lines of the files and those of today, in the same order
+# compared TODAY FILE: what differs between the frozen lines of the file and those of today, in the same order
 compared() {
-    today=$1
-    shift
     awk -v outputs="$outputs" "$words"'
         function held(what, was, now) {
             if (now == "-") print "frozen: " what " missing (" landing ")"
@@ -199,12 +218,17 @@ compared() {
         now[1] == "lines" { held(behind(4, $0) ": lines " $2 " to " $3 " are", $4, now[4]) }
         now[1] == "whole" { held(behind(2, $0) " is", $2, now[2]) }
         now[1] == "odd" { print "frozen: " FILENAME ": line " FNR " has not the form of a line" }
-    ' part=1 "$today" part=2 "$@"
+    ' part=1 "$1" part=2 "$2"
+}
+
+# seal NAME: adds the file's seal.
+seal() {
+    echo "$1 $(($(wc -l <"$folder/$1"))) $(digest "$folder/$1" | cut -c 1-64)" >>"$folder/SEALS"
 }
 
 [ -z "$landing" ] || [ ! -e "$folder/$landing.txt" ] || fail 1 "$folder/$landing.txt is there, and is not changed"
 
-# The seals: each landing's file is there as it was, and no file is without a seal.
+# The seals: each landing's files are there as they were, and no file is without a seal.
 : >"$temp/seals"
 [ ! -f "$folder/SEALS" ] || cp "$folder/SEALS" "$temp/seals"
 while read -r name count sum || [ -n "$name" ]; do
@@ -217,31 +241,58 @@ while read -r name count sum || [ -n "$name" ]; do
         wrong "$file is not as it was sealed: a line was changed"
     fi
 done <"$temp/seals"
-set -- /dev/null
-for file in "$folder"/*.txt; do
-    [ -f "$file" ] || continue
-    set -- "$@" "$file"
-    grep -q "^${file##*/} " "$temp/seals" || wrong "$file has no seal in $folder/SEALS"
+cut -d ' ' -f 1 "$temp/seals" >"$temp/names"
+for file in "$folder"/*.txt "$folder"/*.instead; do
+    name=${file##*/}
+    [ -f "$file" ] && ! grep -qxF -e "$name" "$temp/names" || continue
+    echo "$name" >>"$temp/names"
+    [ "$name" = "$landing.instead" ] || wrong "$file has no seal in $folder/SEALS"
 done
 
-# The lines: what each names is there today with the same digests. Then what no line has.
-bare "$@" >"$temp/frozen"
-spelled "$temp/frozen" >"$temp/today"
-compared "$temp/today" "$@" >>"$temp/wrong"
+# The lines, from the newest landing back: what each names is there today with the same digests, but for the exceptions
+# of the landings behind it. Each exception is met once. Then what no line has.
+for list in instead met frozen; do
+    : >"$temp/$list"
+done
+for name in $(awk '{ name[NR] = $0 } END { for (i = NR; i > 0; i--) print name[i] }' "$temp/names"); do
+    file=$folder/$name
+    case $([ ! -f "$file" ] || echo "$name") in
+        *.instead) awk '{ print FILENAME ": line " FNR "\t" $0 }' "$file" >>"$temp/instead" ;;
+        *.txt)
+            bare "$file" >"$temp/bare"
+            spelled "$temp/bare" >"$temp/today"
+            compared "$temp/today" "$file" >>"$temp/wrong"
+            cat "$temp/bare" >>"$temp/frozen"
+            ;;
+    esac
+done
+awk -F '\t' '
+    part == 1 { met[$1, $2]++; next }
+    NF != 4 || $2 !~ /^(crates\/[a-z_]+\/stdout|tests\/clauses\/[a-z]+[.]txt)$/ || ($3 "") == ($4 "") {
+        print "frozen: " $1 " is not a text of answers, its line as it was and the line now, a tab between them"
+        next
+    }
+    ($1, "was") in met { print "frozen: " $1 ": " $2 " still has `" $3 "`"; next }
+    met[$1, "is"] != 1 {
+        print "frozen: " $1 ": " $2 " has `" $4 "` " met[$1, "is"] + 0 " times in what was frozen before, not once"
+    }
+' part=1 "$temp/met" part=2 "$temp/instead" >>"$temp/wrong"
 there >"$temp/there"
 unfrozen "$temp/frozen" "$temp/there" >"$temp/new"
 
 if [ -n "$landing" ]; then
     judge
     [ -s "$temp/new" ] || fail 1 "nothing to add: everything there has its line"
+    : >"$temp/instead"
     spelled "$temp/new" >"$temp/lines"
     bare "$temp/lines" | cmp -s - "$temp/new" ||
         fail 1 "$(sed -n 's/^\(.*\) - \(.*\)$/\2/p' "$temp/lines" | head -n 1) has no lines in $outputs"
     mkdir -p "$folder"
     cp "$temp/lines" "$folder/$landing.txt"
-    count=$(($(wc -l <"$temp/lines")))
-    echo "$landing.txt $count $(digest "$temp/lines" | cut -c 1-64)" >>"$folder/SEALS"
-    echo "frozen: $folder/$landing.txt, $count lines, and its seal"
+    for name in "$landing.instead" "$landing.txt"; do
+        [ ! -f "$folder/$name" ] || grep -q "^$name " "$temp/seals" || seal "$name"
+    done
+    echo "frozen: $folder/$landing.txt, $(($(wc -l <"$temp/lines"))) lines, and its seal"
     exit 0
 fi
 
@@ -249,11 +300,14 @@ sed -e 's/^archive /corpus\//' -e 's/^whole //' -e 's/^lines \([0-9]*\) \([0-9]*
     -e "s|.*|frozen: &: in no file of $folder/ (scripts/frozen.sh --add NAME adds it)|" "$temp/new" >>"$temp/wrong"
 judge
 awk "$words"'
-    part == 1 { landings++; next }
+    part == 1 { landings += $1 ~ /[.]txt$/; next }
+    part == 2 { changed++; next }
     $1 == "archive" { archives++; next }
     !seen[behind($1 == "lines" ? 3 : 1, $0)]++ { others++ }
     END {
         printf "frozen: %d landing%s, %d archives, ", landings, landings == 1 ? "" : "s", archives
-        printf "%d other inputs and outputs as they were\n", others
+        printf "%d other inputs and outputs as they were", others
+        if (changed) printf ", but for %d answer%s that a landing changed", changed, changed == 1 ? "" : "s"
+        print ""
     }
-' part=1 "$temp/seals" part=2 "$temp/frozen"
+' part=1 "$temp/seals" part=2 "$temp/instead" part=3 "$temp/frozen"

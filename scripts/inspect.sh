@@ -54,10 +54,14 @@ compared fresh *.bin
 cat >"$folder/kinds" <<'END'
 an archive of N bytes: N site, N sends, N draws
 an archive of N bytes: N sites, N sends, N draws
+an archive of N bytes, version N, edition N: N site, N sends, N draws
+an archive of N bytes, version N, edition N: N sites, N sends, N draws
 refused N: N bytes, fewer than the N of a head
+refused N: N bytes, fewer than the N of a head of version N
 refused N: N bytes, but bytes N and N say N
 refused N: more than N bytes, but bytes N and N say N
-refused N: byte N, the version, is N, not N
+refused N: byte N, the version, is N, not N or N
+refused N: byte N, the edition, is N, not N
 refused N: byte N, the number of sites, is N, not N to N
 refused N: byte N, the limit of tries, is N, not N to N
 refused N: byte N, the depth of the queues, is N, not N to N
@@ -66,6 +70,8 @@ refused N: N bytes, but N sites and N sends make N
 refused N: the channel of site N, port N, byte N, is N, and N site has inputs N to N
 refused N: the channel of site N, port N, byte N, is N, and N sites have inputs N to N
 refused N: the channel of site N, port N, byte N, leads to input N, as site N, port N does
+refused N: the channel of site N, port N, bytes N and N, is N, and N sites have inputs N to N
+refused N: the channel of site N, port N, bytes N and N, leads to input N, as site N, port N does
 refused N: the route from site N to itself, bytes N and N, is R, not R
 refused N: the route from site N to site N, bytes N and N, lists no port
 refused N: the route from site N to site N, bytes N and N, names port N, and ports are N to N
@@ -76,6 +82,8 @@ refused N: send N, byte N, is from site N, and there is site N alone
 refused N: send N, byte N, is from site N, and there are sites N to N
 refused N: send N, bytes N and N, has an empty set
 refused N: send N, bytes N and N, goes to site N, and there are sites N to N
+refused N: send N, bytes N to N, has an empty set
+refused N: send N, bytes N to N, goes to site N, and there are sites N to N
 refused N: send N, bytes N and N, has draw number N, and there are N draws
 refused N: send N, bytes N and N, has draw number N, below the N of the send before it
 END

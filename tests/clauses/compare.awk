@@ -4,20 +4,22 @@
 # Prints how many cases and events there are; if some differ, they are told on standard error, the first five of them
 # place by place, and the exit status is 1.
 
+FILENAME == ARGV[1] && FNR == 1 { total[1] = $1; total[2] = $2; next }
 FILENAME == ARGV[1] { EVENT[++events] = $0; next }
 FILENAME == ARGV[2] { TYPED[++lines] = $0; next }
 { PRINTED[++printed] = $0 }
 
 END {
-    if (events == 0 || lines != 18 * events)
-        tell("clauses: " events + 0 " events, " lines + 0 " lines: 18 for each event, and at least one, are expected")
+    if (events == 0 || events != total[1] + total[2] || lines != 18 * total[1] + 66 * total[2])
+        tell("clauses: " events + 0 " events, " lines + 0 " lines: 18 and 66 for each of " total[1] " and " total[2] \
+            " events, and at least one, are expected")
     for (e = 1; e <= events; e++) {
         split(EVENT[e], part, ": ")
         if (!(part[1] in CASES)) {
             CASES[part[1]] = 1
             cases++
         }
-        compare(e)
+        compare(e, e <= total[1] ? 18 : 66)
     }
     if (differing > 5)
         tell("clauses: and " differing - 5 " more")
@@ -32,10 +34,12 @@ function tell(words) {
     told = 1
 }
 
-# An event has 18 lines: the numbers, the counter, the 16 sites.
-function compare(e,    i, line) {
-    for (i = 1; i <= 18; i++) {
-        line = 18 * (e - 1) + i
+# An event has 18 lines, or 66 in the second form: the numbers, the counter, the sites. `done` are the lines before it.
+function compare(e, size,    i, line, first) {
+    first = done
+    done += size
+    for (i = 1; i <= size; i++) {
+        line = first + i
         if ((TYPED[line] "") == (PRINTED[line] ""))
             continue
         if (last != e && ++differing <= 5)
@@ -58,7 +62,7 @@ function compare(e,    i, line) {
 function compare_site(site, typed, text,    n, m, k, i, at, size, a, b, left, right, unit) {
     n = split(typed, left, " ")
     m = split(text, right, " ")
-    if ((n != 1 && n != 136) || (m != 1 && m != 136)) {
+    if ((typed "") != "0" && n != 136 || (text "") != "0" && m != 136) {
         differ("site " site, typed, text)
         return
     }

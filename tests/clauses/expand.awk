@@ -3,7 +3,14 @@
 # usage: awk -f places.awk -f expand.awk -v cases=FILE -v expected=FILE -v events=FILE names.txt OTHER.txt ..
 # A line that is not of the form is named on standard error, and then nothing is written.
 #
-# A network is an array of 323 numbers: S, T, D, 64 channels, 256 routes.
+# A network is an array of numbers: version, edition, S, T, D, then 64 channels and 256 routes in the first form, 256 and
+# 4096 in the second. The cases of the first form are written before those of the second.
+
+BEGIN {
+    split("64 256", CHANNELS, " ")
+    split("256 4096", ROUTES, " ")
+    split("version edition S T D", HEAD, " ")
+}
 
 FNR == 1 {
     finish()
@@ -40,12 +47,15 @@ END {
         fail("no case at all")
     if (bad)
         exit 1
-    print count > cases
-    for (k = 1; k <= count; k++) {
-        print CASE[k] > cases
-        print EXPECTED[k] > expected
-        print EVENT[k] > events
-    }
+    print total[1] + 0, total[2] + 0 > cases
+    print total[1] + 0, total[2] + 0 > events
+    for (form = 1; form <= 2; form++)
+        for (k = 1; k <= count; k++)
+            if (OF[k] == form) {
+                print CASE[k] > cases
+                print EXPECTED[k] > expected
+                print EVENT[k] > events
+            }
 }
 
 function end_file() {
@@ -91,20 +101,52 @@ function new_end(words,    right) {
     ended = 1
 }
 
-# network NAME | S T D = .. | channels = .. | routes = ..
-function new_network(name, n, field,    i, number) {
-    if (field[1] != "network " name || name == "" || (name, 0) in NETWORK)
+# network NAME | S T D = .. | channels = .. | routes = .., or of the second form, with `version V edition E` before S T D
+function new_network(name, n, field,    i, of, number) {
+    if (field[1] != "network " name || name == "" || name in FORM)
         fail("no name, or one that is there already: " field[1])
-    if (n != 4 || field[2] !~ /^S T D = / || field[3] !~ /^channels = / || field[4] !~ /^routes = /)
-        fail("a network is `S T D = ..`, `channels = ..` and `routes = ..`")
-    for (i = 2; i <= 4; i++)
+    of = n == 5 && field[2] ~ /^version [^ ]+ edition [^ ]+$/ ? 2 : 1
+    if (n != of + 3 || field[n - 2] !~ /^S T D = / || field[n - 1] !~ /^channels = / || field[n] !~ /^routes = /)
+        fail("a network is `S T D = ..`, `channels = ..` and `routes = ..`, before them `version V edition E` or nothing")
+    FORM[name] = of
+    for (i = n - 2; i <= n; i++)
         sub(/^[^=]*= /, "", field[i])
-    check(field[2], WORD " 255 " WORD)
-    split(field[2], number, " ")
-    for (i = 0; i < 3; i++)
+    number[2] = number[4] = 1
+    if (of == 2)
+        split(field[2], number, " ")
+    field[n - 2] = number[2] " " number[4] " " field[n - 2]
+    check(field[n - 2], "255 255 " WORD " 255 " WORD)
+    split(field[n - 2], number, " ")
+    for (i = 0; i < 5; i++)
         NETWORK[name, i] = number[i + 1]
-    fill(name, 3, 64, field[3])
-    fill(name, 67, 256, field[4])
+    if (of == 2 && fits(number[3], "64")) {
+        field[n - 1] = ring(number[3], field[n - 1])
+        field[n] = all(number[3], field[n])
+    }
+    fill(name, 5, CHANNELS[of], field[n - 1])
+    fill(name, 5 + CHANNELS[of], ROUTES[of], field[n])
+}
+
+# `ring`: port 1 of each site feeds port 1 of the next, and that of the last site the first; every other port has none.
+function ring(sites, words,    s, text) {
+    if (words !~ /^ring( |$)/)
+        return words
+    for (s = 1; s <= sites; s++)
+        text = text 4 * (s % sites) " 65535 65535 65535 "
+    return text substr(words, 6)
+}
+
+# `all 1000`: that list from each site to each other one.
+function all(sites, words,    from, to, row, text) {
+    if (words !~ /^all [0-9A-F][0-9A-F][0-9A-F][0-9A-F]( |$)/)
+        return words
+    for (from = 0; from < sites; from++) {
+        row = ""
+        for (to = 0; to < sites; to++)
+            row = row (from == to ? "0000" : substr(words, 5, 4)) " "
+        text = text row
+    }
+    return text substr(words, 10)
 }
 
 # The first numbers, and what the rest of the room holds: `4 255 0 rest 9`. All of the room needs no rest.
@@ -118,13 +160,13 @@ function fill(name, from, room, words,    n, i, word, rest) {
     if (n > room || (n < room) != (rest != ""))
         fail("not " room " numbers, and not fewer with a rest: " words)
     for (i = 0; i < room; i++)
-        NETWORK[name, from + i] = wire(from, i < n ? word[i + 1] : rest)
+        NETWORK[name, from + i] = wire(FORM[name], from, i < n ? word[i + 1] : rest)
 }
 
-# A channel byte, or from place 67 on a route, which is typed in four hex digits.
-function wire(from, word,    i, n) {
-    if (from < 67) {
-        check(word, "255")
+# A channel from place 5 on; behind the channels a route, which is typed in four hex digits.
+function wire(of, from, word,    i, n) {
+    if (from < 5 + CHANNELS[of]) {
+        check(word, of == 1 ? "255" : "65535")
         return word ""
     }
     if (word !~ /^[0-9A-F][0-9A-F][0-9A-F][0-9A-F]$/)
@@ -137,9 +179,10 @@ function wire(from, word,    i, n) {
 # state NAME | places, or state NAME from STATE | places
 function new_state(n, field,    i, head, words) {
     words = split(field[1], head, " ")
-    if (!(words == 2 || words == 4 && head[3] == "from") || (head[2], 0) in STATE)
+    if (!(words == 2 || words == 4 && head[3] == "from") || head[2] in STATE)
         fail("no name, or one that is there already: " field[1])
     network = ""
+    form = 2
     start_from(words == 4 ? head[4] : "")
     for (i = 2; i <= n; i++)
         change(field[i])
@@ -147,30 +190,36 @@ function new_state(n, field,    i, head, words) {
 }
 
 # The state that is changed next.
-function start_from(name,    k) {
-    if (name != "" && !((name, 0) in STATE))
+function start_from(name,    n, i, part) {
+    if (name != "" && !(name in STATE))
         fail("unknown state: " name)
-    for (k = 0; k <= COUNTER; k++)
-        now[k] = name != "" ? STATE[name, k] : k == COUNTER ? "0" : ZERO[k % 28]
+    split("", now)
+    n = name == "" ? 0 : split(STATE[name], part, "|")
+    for (i = 1; i < n; i += 2)
+        now[part[i]] = part[i + 1]
     split("", changed)
 }
 
 function keep(name,    k) {
-    for (k = 0; k <= COUNTER; k++)
-        STATE[name, k] = now[k]
+    STATE[name] = ""
+    for (k in now)
+        STATE[name] = STATE[name] k "|" now[k] "|"
 }
 
 # on NETWORK from STATE
-function new_base(words,    head) {
+function new_base(words,    head, k) {
     if (split(words, head, " ") < 4 || head[3] != "from")
         fail("not `on NETWORK from STATE`: " words)
     network = head[2]
     base = words
     sub(/^on [^ ]* from /, "", base)
-    if (!((network, 0) in NETWORK))
+    if (!(network in FORM))
         fail("unknown network: " network)
-    if (!((base, 0) in STATE))
-        fail("unknown state: " base)
+    form = FORM[network]
+    start_from(base)
+    for (k in now)
+        if (k + 0 < COUNTER && k + 0 >= 28 * (LAST[form] + 1))
+            fail("a state with more sites than the network's form has: " base)
 }
 
 # case NAME | places of the state and of the network | EVENT -> ANSWER | places after it | EVENT -> ..
@@ -181,8 +230,7 @@ function new_case(name, n, field,    i) {
         fail("no `on NETWORK from STATE` before this case")
     CASES[name] = 1
     typed++
-    for (i = 0; i < 323; i++)
-        net[i] = NETWORK[network, i]
+    split("", net)
     start_from(base)
     event = ""
     for (i = 2; i <= n; i++)
@@ -197,20 +245,18 @@ function new_case(name, n, field,    i) {
 }
 
 # RUN site code -> ANSWER or SEND site set -> ANSWER: from the case's own state, or with `then` from the one just left.
-function new_event(name, words,    n, word, next_one, k) {
+function new_event(name, words,    n, word, next_one) {
     next_one = sub(/^then /, "", words)
     if (event != "")
         end_event()
     else if (next_one)
         fail("no event before this one: then " words)
     else {
-        for (k = 0; k <= COUNTER; k++)
-            own[k] = now[k]
+        copy(now, own)
         wires = network_text()
     }
     if (!next_one)
-        for (k = 0; k <= COUNTER; k++)
-            now[k] = own[k]
+        copy(own, now)
     split("", changed)
     changes = 0
     n = split(words, word, " ")
@@ -220,15 +266,16 @@ function new_event(name, words,    n, word, next_one, k) {
     event = word[1] " " word[2] " " word[3]
     answer = words
     sub(/^.*-> /, "", answer)
-    count++
+    total[form]++
+    OF[++count] = form
     EVENT[count] = at ": " name ": " (next_one ? "then " : "") event
-    CASE[count] = wires "\n" state_text(now) "\n" (word[1] == "RUN" ? 1 : 2) " " word[2] " " word[3]
+    CASE[count] = wires "\n" state_text(form, now) "\n" (word[1] == "RUN" ? 1 : 2) " " word[2] " " word[3]
     numbers = answer_numbers(word[1])
 }
 
 # `refused N`; of SEND the packet; of RUN 0, 1, or 2 with packet and site. In numbers: refusal, answer, packet, site.
 function answer_numbers(kind) {
-    if (answer ~ /^refused (3|6|7|9|10|11|12|13)$/)
+    if (answer ~ /^refused (3|6|7|9|10|11|12|13)$/ || form == 2 && answer ~ /^refused (2|17)$/)
         return substr(answer, 9) " 0 0 0"
     if (answer ~ /^refused/)
         fail("no single event is refused so: " answer)
@@ -236,7 +283,7 @@ function answer_numbers(kind) {
         check(answer, "254")
         return "0 " answer " 0 0"
     }
-    check(answer, "2 254 15")
+    check(answer, "2 254 " LAST[form])
     if (answer !~ /^2 /)
         fail("no such answer: " answer)
     return "0 " answer
@@ -249,7 +296,7 @@ function end_event(    still) {
         fail(event " -> " answer " changes nothing, but has a place behind it")
     if (!still && changes == 0)
         fail(event " -> " answer " changes something, but has no place behind it")
-    EXPECTED[count] = numbers "\n" state_text(now)
+    EXPECTED[count] = numbers "\n" state_text(form, now)
 }
 
 # PLACE = NUMBERS, of the state, or before a case's first event of its network.
@@ -261,48 +308,70 @@ function change(words,    n, side, word, k) {
     changed[side[1]] = 1
     changes++
     n = split(side[1], word, " ")
-    if (word[1] ~ /^([STD]|channel|route)$/) {
+    if (word[1] ~ /^([STD]|version|edition|channel|route)$/) {
         rewire(words, n, word, side[2])
         return
     }
-    k = place(n, word)
+    k = place(form, n, word)
     if (k < 0)
         fail("no such place: " side[1])
     check_place(k, side[2])
-    if ((now[k] "") == (side[2] ""))
+    if ((held(now, k) "") == (side[2] ""))
         fail("is so already: " words)
-    now[k] = side[2] ""
+    put(now, k, side[2])
 }
 
-# S, T, D, channel SITE PORT, route FROM TO, of a case's network
-function rewire(words, n, word, value,    k) {
+# S, T, D, in the second form version and edition; channel SITE PORT, route FROM TO, of a case's network
+function rewire(words, n, word, value,    k, last) {
     if (event != "" || network == "")
         fail("a network changes before a case's first event, and only there: " words)
+    last = LAST[form]
     k = -1
     if (n == 1) {
-        k = index("STD", word[1]) - 1
-        check(value, k == 1 ? "255" : WORD)
-    } else if (n == 3 && word[1] == "channel" && fits(word[2], "15") && word[3] ~ /^[1-4]$/) {
-        k = 3 + 4 * word[2] + word[3] - 1
-        value = wire(3, value)
-    } else if (n == 3 && word[1] == "route" && fits(word[2], "15") && fits(word[3], "15") && fits(net[0], "17")) {
-        k = 67 + net[0] * word[2] + word[3]
-        value = wire(67, value)
+        for (k = 4; k >= 0 && HEAD[k + 1] != word[1]; k--) ;
+        if (k < 2 && form == 1)
+            fail("a network of the first form has no version or edition: " words)
+        check(value, k == 2 || k == 4 ? WORD : "255")
+    } else if (n == 3 && word[1] == "channel" && fits(word[2], last) && word[3] ~ /^[1-4]$/) {
+        k = 5 + 4 * word[2] + word[3] - 1
+        value = wire(form, 5, value)
+    } else if (n == 3 && word[1] == "route" && fits(word[2], last) && fits(word[3], last) && fits(number_at(2), last + 2)) {
+        k = 5 + CHANNELS[form] + number_at(2) * word[2] + word[3]
+        value = wire(form, k, value)
     }
-    if (k < 0 || k > 322)
+    if (k < 0 || k >= 5 + CHANNELS[form] + ROUTES[form])
         fail("no such place of a network: " words)
-    if ((net[k] "") == (value ""))
+    if ((number_at(k) "") == (value ""))
         fail("is so already: " words)
     net[k] = value ""
 }
 
-# The text of the case's network: S T D, the 64 channels, the 256 routes.
-function network_text(    i, text) {
-    text = net[0] " " net[1] " " net[2] "\n0 64"
-    for (i = 3; i < 67; i++)
-        text = text " " net[i]
-    text = text "\n0 256"
-    for (i = 67; i < 323; i++)
-        text = text " " net[i]
-    return text
+# A number of the case's network: `net` has those that the case changes.
+function number_at(k) {
+    return k in net ? net[k] : NETWORK[network, k]
+}
+
+# The text of the case's network: S T D, the channels, the routes; in the second form version and edition before them.
+function network_text() {
+    return (form == 1 ? "" : number_at(0) " " number_at(1) " ") number_at(2) " " number_at(3) " " number_at(4) \
+        "\n" list_text(5, CHANNELS[form]) "\n" list_text(5 + CHANNELS[form], ROUTES[form])
+}
+
+# `fill n ..`: all of the room in the first form; in the second without its end, which holds one number.
+function list_text(from, room,    i, n, same, row, text) {
+    n = room
+    same = "0"
+    if (form == 2) {
+        same = number_at(from + room - 1)
+        while (n > 0 && (number_at(from + n - 1) "") == (same ""))
+            n--
+    }
+    for (i = 0; i < n; i++) {
+        row = row " " number_at(from + i)
+        if (i % 64 == 63) {
+            text = text row
+            row = ""
+        }
+    }
+    return same " " n text row
 }

@@ -1,12 +1,15 @@
 # The places of a state, for expand.awk and compare.awk: their names, how many numbers each holds, the largest of each, and
 # their text. POSIX awk. Numbers are kept and compared as text: they have up to 64 bits.
 #
-# A state has 449 places: place 28 x site + k, where k is 0 to 4 for the net-inputs, 5 to 9 for the net-outputs, 10 for the
-# out-queue's count, 11 to 18 for its entries, 19 and 20 to 27 for the in-queue; the counter is the last.
+# A state has 1793 places: place 28 x site + k, where k is 0 to 4 for the net-inputs, 5 to 9 for the net-outputs, 10 for the
+# out-queue's count, 11 to 18 for its entries, 19 and 20 to 27 for the in-queue; the counter is the last. Only places that
+# are not zero are kept. In the first form a state has sites 0 to 15, in the second 0 to 63.
 
 BEGIN {
     WORD = "18446744073709551615"
-    COUNTER = 448
+    LAST[1] = "15"
+    LAST[2] = "63"
+    COUNTER = 1792
     for (k = 0; k < 28; k++) {
         if (k < 5)
             LARGEST[k] = "7 5 2 255 " WORD " 1 1 1 1 1 255"
@@ -33,11 +36,11 @@ function fail(words) {
 }
 
 # The place of a name of n words: counter, SITE input I, SITE output J, SITE out-queue, SITE out-queue M, SITE in-queue,
-# SITE in-queue M; -1 for others.
-function place(n, word,    k) {
+# SITE in-queue M; -1 for others, and for a site that the form has not.
+function place(form, n, word,    k) {
     if (n == 1 && word[1] == "counter")
         return COUNTER
-    if (n < 2 || n > 3 || !fits(word[1], "15") || !(word[2] in FIRST))
+    if (n < 2 || n > 3 || !fits(word[1], LAST[form]) || !(word[2] in FIRST))
         return -1
     k = FIRST[word[2]]
     if (n == 2)
@@ -84,18 +87,34 @@ function check_place(k, words,    n, received) {
         fail("connection or terminator where the state number has none, or none where it has one: " words)
 }
 
-# The text of a state: the counter, and the 16 sites, a line each.
-function state_text(state,    s, k, text, line, zero) {
-    text = state[COUNTER]
-    for (s = 0; s < 16; s++) {
-        line = "1"
-        zero = 1
-        for (k = 0; k < 28; k++) {
-            line = line " " state[28 * s + k]
-            if ((state[28 * s + k] "") != ZERO[k])
-                zero = 0
-        }
-        text = text "\n" (zero ? "0" : line)
+# The numbers of place k, and the place with other numbers.
+function held(state, k) {
+    return k in state ? state[k] : k == COUNTER ? "0" : ZERO[k % 28]
+}
+
+function put(state, k, words) {
+    if ((words "") == (k == COUNTER ? "0" : ZERO[k % 28]))
+        delete state[k]
+    else
+        state[k] = words ""
+}
+
+function copy(from, to,    k) {
+    split("", to)
+    for (k in from)
+        to[k] = from[k]
+}
+
+# The text of a state: the counter, and the form's sites, a line each.
+function state_text(form, state,    k, s, used, text) {
+    for (k in state)
+        used[int(k / 28)] = 1
+    text = held(state, COUNTER)
+    for (s = 0; s <= LAST[form] + 0; s++) {
+        text = text "\n" (s in used ? "1" : "0")
+        if (s in used)
+            for (k = 0; k < 28; k++)
+                text = text " " held(state, 28 * s + k)
     }
     return text
 }

@@ -5,7 +5,7 @@ use reference::player::{play, BOOK};
 
 /// An archive as the second model sees it, with room enough for everything.
 pub struct Judged {
-    /// 0, or 1 to 8.
+    /// 0, 1 to 8, or 17.
     pub refusal: u8,
     /// Accepted, pairs, serviced, owed, of an archive that is not refused.
     pub counts: Option<[u64; 4]>,

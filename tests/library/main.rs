@@ -1,6 +1,6 @@
 //! Tests of the C and Rust library against the second model: `library CORPUS COUNT SEED`.
 //!
-//! Every archive of the folder CORPUS and COUNT fresh ones of SEED, a third of them damaged, go through each function
+//! Every archive of the folder CORPUS and COUNT fresh ones of SEED, of both versions, a third of them damaged, go through each function
 //! of include/fennqualo.h, with lent slices of many lengths between guards, and through the Rust wrapper. Prints one
 //! line; panics at the first difference, naming the archive and the call.
 
@@ -11,14 +11,14 @@ mod wrapper;
 
 use reference::making::damage::damaged;
 use reference::making::rng::Rng;
-use reference::making::runs::any_run;
+use reference::making::runs::{any_run, either_run, wide_run};
 use std::path::Path;
 
 /// What was compared, and the wrapper's player, which plays them all.
 #[derive(Default)]
 pub struct Tally {
     archives: usize,
-    refused: [usize; 15],
+    refused: [usize; 18],
     calls: usize,
     services: u64,
     longest: usize,
@@ -37,7 +37,7 @@ impl Tally {
     }
 
     fn print(&self) {
-        for number in 1..=8 {
+        for number in (1..=8).chain([17]) {
             assert!(
                 self.refused[number] > 0,
                 "no archive is refused with {number}: the comparison has a gap"
@@ -77,20 +77,21 @@ fn main() {
         tally.archive(&name, &bytes, &mut rng);
     }
     for at in 0..count {
-        let mut bytes = any_run(&mut rng, true).bytes();
+        let mut bytes = either_run(&mut rng, true).bytes();
         if rng.one_in(3) {
             bytes = damaged(&mut rng, &bytes);
         }
         tally.archive(&format!("archive {at} of seed {seed}"), &bytes, &mut rng);
     }
-    // Every length of one short archive, from 0 on.
-    let whole = any_run(&mut rng, false).bytes();
-    for length in 0..whole.len() {
-        tally.archive(
-            &format!("{length} bytes of an archive of {}", whole.len()),
-            &whole[..length],
-            &mut rng,
-        );
+    // Every length of one short archive of each version, from 0 on.
+    for whole in [any_run(&mut rng, false).bytes(), wide_run(&mut rng, false).bytes()] {
+        for length in 0..whole.len() {
+            tally.archive(
+                &format!("{length} bytes of an archive of {}", whole.len()),
+                &whole[..length],
+                &mut rng,
+            );
+        }
     }
     tally.print();
 }

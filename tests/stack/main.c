@@ -18,10 +18,10 @@
 #define COPY_LIMIT 4096
 #define READ_LIMIT 4096
 
-/* The reader's answer, format::Decoded: refusal 1, padding 7, network 600, seed, draws and count 16, sends 255 x 16. */
-#define ANSWER_BYTES (1 + 7 + 600 + 16 + 255 * 16)
+/* The reader's answer, format::Decoded: refusal 1, padding 7, network 8,728, seed, draws and count 16, sends 255 x 16. */
+#define ANSWER_BYTES (1 + 7 + 8728 + 16 + 255 * 16)
 /* What of it stack_read cannot do without: channels, routes and sends. */
-#define PICKED_BYTES (64 + 2 * 256 + 255 * 16)
+#define PICKED_BYTES (2 * 256 + 2 * 4096 + 255 * 16)
 
 #define ROOM 65600 /* more than the longest file has */
 #define FILL 0xEE  /* what is in lent room before a call */
@@ -30,7 +30,7 @@
 static const char *file = "no file";
 static char how[64];                      /* how the file was damaged, or nothing */
 static size_t archives, damaged, longest; /* files, damaged ones, the length of the longest that was accepted */
-static size_t refusals[9];                /* how many were refused with each number; at 0 those accepted */
+static size_t refusals[18];               /* how many were refused with each number; at 0 those accepted */
 static uint64_t value;                    /* of the random damage */
 
 void fail(const char *what)
@@ -58,28 +58,37 @@ static uint64_t word_at(const uint8_t *bytes, size_t at)
     return bytes[at] * 256u + bytes[at + 1];
 }
 
+/* Channel c of an archive of version 1, and of version 2, by its bytes; 65535 for none. */
+static uint64_t channel_at(const uint8_t *bytes, size_t c)
+{
+    if (bytes[2] == 2) {
+        return word_at(bytes, 14 + 2 * c);
+    }
+    return bytes[13 + c] == 255 ? 65535 : bytes[13 + c];
+}
+
 /*
- * What stack_read answers for an archive: 16 and the number that crates/stack makes of a channel, a route and a send, by
+ * What stack_read answers for an archive: 32 and the number that crates/stack makes of a channel, a route and a send, by
  * the archive's own bytes (docs/FORMAT.md). Places beyond S sites or N sends are 0.
  */
 static uint64_t picked(const uint8_t *bytes, size_t k)
 {
-    size_t sites = bytes[3], sends = bytes[12];
-    size_t routes = 13 + 4 * sites, send = routes + 2 * sites * sites + 5 * (k % 255);
+    size_t wide = bytes[2] == 2, sites = bytes[3 + wide], sends = bytes[12 + wide], width = wide ? 11 : 5;
+    size_t routes = wide ? 14 + 8 * sites : 13 + 4 * sites, send = routes + 2 * sites * sites + width * (k % 255);
     uint64_t number = 0;
 
     if (k % 255 < sends) {
-        number = (16 * word_at(bytes, send + 3) + bytes[send + 2]) * 65536 + word_at(bytes, send);
+        number = (64 * bytes[send + width - 1] + bytes[send + 2] % 64) * 65536 + word_at(bytes, send);
     }
     number *= 65536;
-    if (k % 256 < sites * sites) {
-        number += word_at(bytes, routes + 2 * (k % 256));
+    if (k % 4096 < sites * sites) {
+        number += word_at(bytes, routes + 2 * (k % 4096));
     }
-    number *= 256;
-    if (k % 64 < 4 * sites) {
-        number += bytes[13 + k % 64];
+    number *= 65536;
+    if (k % 256 < 4 * sites) {
+        number += channel_at(bytes, k % 256);
     }
-    return 16 + number;
+    return 32 + number;
 }
 
 static void judge_read(size_t k, size_t refusal)
@@ -127,8 +136,8 @@ static size_t judge(const uint8_t *bytes, size_t length, size_t k)
     job.bytes = bytes;
     job.length = length;
     refusal = measured(CHECK);
-    if (refusal > 8) {
-        fail("not 0 to 8");
+    if (refusal > 8 && refusal != 17) {
+        fail("not 0 to 8, nor 17");
     }
     refusals[refusal]++;
     judge_read(k, refusal);
@@ -208,7 +217,7 @@ static void judge_file(const char *folder, const char *name)
     }
     longest = length > longest ? length : longest;
     judge_copy(length - 1, FENNQUALO_ROOM);
-    for (k = 1; k < 256; k++) {
+    for (k = 1; k < 4096; k += k < 256 ? 1 : 61) {
         judge_read(k, 0);
     }
     damage(bytes, length);
@@ -249,6 +258,7 @@ static int is_sound(void)
     for (number = 0; number < 9; number++) {
         sound &= holds(refusals[number] > 0, "one of the answers 0 to 8 is given to no archive: the test has a gap");
     }
+    sound &= holds(refusals[17] > 0, "the answer 17 is given to no archive: the test has a gap");
     sound &= holds(longest == FENNQUALO_ARCHIVE_MOST, "the longest archive is not among those accepted");
     sound &= holds(most[EMPTY] <= 16, "the measure is wrong: an empty call takes more than an address or two");
     sound &= holds(most[KNOWN] >= KNOWN_BYTES && most[KNOWN] < KNOWN_BYTES + 200, "the measure is wrong: a known call");
