@@ -1,6 +1,6 @@
 /*
- * Fennqualo's library for C: plays, checks and copies archives (docs/FORMAT.md has their form, docs/MODEL.md what they
- * mean). Link libfennqualo.a; it needs memcpy and memset and nothing else, keeps nothing between calls, and may be
+ * Fennqualo's library for C: plays, checks and copies archives of version 1, with up to 16 sites, and of version 2, with up
+ * to 64 (docs/FORMAT.md has their form, docs/MODEL.md what they mean). Link libfennqualo.a; it needs memcpy and memset and nothing else, keeps nothing between calls, and may be
  * called from many threads at once. It is compiled for x86-64 Linux. How much stack a call takes is said with it, below.
  *
  * Slices. A slice is a pointer and the number of elements behind it. The caller sees to it that
@@ -13,16 +13,17 @@
  * slice is as it was. Otherwise the elements behind what is written stay as they were.
  *
  *    1  fewer than 13 bytes, or the length field is not the number of bytes
- *    2  the version is not 1
- *    3  sites, limit of tries or depth of queues outside their limits
+ *    2  the version is neither 1 nor 2
+ *   17  the edition is unknown: it is not 1
+ *    3  sites, limit of tries or depth of queues outside their limits, the sites of the version
  *    4  the seed is 0
- *    5  the length does not fit the numbers of sites and sends
- *    6  a channel byte that names no input, or an input fed twice
+ *    5  the length is not that of the version with so many sites and sends
+ *    6  a channel that names no input, or an input fed twice
  *    7  a route not as described
  *    8  a send's site, set or draw number impossible, or draw numbers falling
  *   14  a lent slice is too short
  *
- * The lowest number that holds is given.
+ * The first that holds is given, in this order.
  */
 #ifndef FENNQUALO_H
 #define FENNQUALO_H
@@ -34,11 +35,11 @@
 extern "C" {
 #endif
 
-/* The longest archive, in bytes. */
-#define FENNQUALO_ARCHIVE_MOST 1864
+/* The longest archive, in bytes: version 2, 64 sites, 255 sends. */
+#define FENNQUALO_ARCHIVE_MOST 11523
 
-/* A book of so many bytes is never too short: 255 sends to 16 sites each, 4 bytes a service. */
-#define FENNQUALO_BOOK_MOST 16320
+/* A book of so many bytes is never too short: 255 sends to 64 sites each, 4 bytes a service. */
+#define FENNQUALO_BOOK_MOST 65280
 
 /* The bytes of one service in a book: draw (2 bytes, the higher first), packet, site. */
 #define FENNQUALO_SERVICE 4
@@ -65,7 +66,7 @@ extern "C" {
 /*
  * Plays an archive. The services go to the front of the book, in order; the four counts to the front of counts. It takes
  * FENNQUALO_PLAY_STACK bytes of stack.
- * Refusals: 1 to 8; 14 if the book is shorter than 4 bytes for each target of each stored send (FENNQUALO_BOOK_MOST is
+ * Refusals: 1 to 8 and 17; 14 if the book is shorter than 4 bytes for each target of each stored send (FENNQUALO_BOOK_MOST is
  * always enough), or if counts has fewer than FENNQUALO_COUNTS places.
  */
 uint8_t fennqualo_play(const uint8_t *archive, size_t archive_length, uint8_t *book, size_t book_length,
@@ -73,14 +74,14 @@ uint8_t fennqualo_play(const uint8_t *archive, size_t archive_length, uint8_t *b
 
 /*
  * Checks an archive, in FENNQUALO_CHECK_STACK bytes of stack: all is read where it lies, nothing is unpacked.
- * Refusals: 1 to 8; 0 means that fennqualo_play, with room enough, plays it.
+ * Refusals: 1 to 8 and 17; 0 means that fennqualo_play, with room enough, plays it.
  */
 uint8_t fennqualo_check(const uint8_t *archive, size_t archive_length);
 
 /*
  * Checks an archive and copies it to the front of out: the same archive_length bytes, which are those that the writer
  * gives for its run. It takes FENNQUALO_COPY_STACK bytes of stack.
- * Refusals: 1 to 8; 14 if out is shorter than the archive (FENNQUALO_ARCHIVE_MOST is always enough).
+ * Refusals: 1 to 8 and 17; 14 if out is shorter than the archive (FENNQUALO_ARCHIVE_MOST is always enough).
  */
 uint8_t fennqualo_copy(const uint8_t *archive, size_t archive_length, uint8_t *out, size_t out_length);
 

@@ -21,21 +21,29 @@ fn torus(wide: usize, high: usize) -> Network {
     network
 }
 
-/// The 4x4 torus: the longest archive, 1,864 bytes.
+/// The 4x4 torus: the longest archive of version 1, 1,864 bytes.
 pub fn big() -> Vec<u8> {
     loaded(torus(4, 4), (3, 4))
 }
 
-/// The three runs that the player is timed on.
+/// The 8x8 torus in version 2: the longest archive, 11,523 bytes.
+pub fn wide() -> Vec<u8> {
+    loaded(torus(8, 8).in_version(2), (3, 4))
+}
+
+/// The runs that the player is timed on, of version 1 and of version 2.
 pub fn runs() -> Vec<(&'static str, Vec<u8>)> {
     vec![
         ("4x4 torus, T = 3, D = 4", big()),
         ("4x4 torus, T = D = 1", loaded(torus(4, 4), (1, 1))),
         ("one site, T = 3, D = 4", loaded(graphs::loops(0), (3, 4))),
+        ("4x4 torus, version 2, T = 3, D = 4", loaded(torus(4, 4).in_version(2), (3, 4))),
+        ("8x8 torus, version 2, T = 3, D = 4", wide()),
+        ("8x8 torus, version 2, T = D = 1", loaded(torus(8, 8).in_version(2), (1, 1))),
     ]
 }
 
-/// Archives of 24 (run R), 498 and 1,864 bytes.
+/// Archives of 24 (run R), 498 and 1,864 bytes of version 1, and of 11,523 bytes of version 2.
 pub fn sizes() -> Vec<Vec<u8>> {
     let sends = vec![Send { draw: 0, site: 0, set: 1 }];
     let r = Run { network: Network::bare(1, 3, 1), seed: 1, draws: 2, sends };
@@ -44,5 +52,5 @@ pub fn sizes() -> Vec<Vec<u8>> {
     let mut network = torus(4, 2);
     (network.tries, network.depth) = (3, 4);
     let half = Run { network, seed: 20_261, draws: 65_535, sends };
-    vec![r.bytes(), half.bytes(), big()]
+    vec![r.bytes(), half.bytes(), big(), wide()]
 }

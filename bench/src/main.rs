@@ -54,7 +54,7 @@ fn reader_and_writer(rounds: usize) {
         row(&format!("{} | read", bytes.len()), medians(rounds, TIMES as f64, a, b));
         let length = bytes.len();
         let mut spoiled = bytes.clone();
-        spoiled[length - 3] = 255;
+        spoiled[length - second::site_from_end(&bytes)] = 255;
         let refusals = [second::check(&mut spoiled, TIMES), product::check(&mut spoiled, TIMES)];
         assert_eq!(refusals, [8 * TIMES; 2], "the refusals of {length} bytes");
         let a = || timed(|| assert_eq!(second::check(&mut theirs, TIMES), 0)).0;
@@ -69,21 +69,24 @@ fn reader_and_writer(rounds: usize) {
     println!();
 }
 
-/// Public SEND and RUN with all their checks, at 16 sites. What comes before the timed events is timed by itself and
-/// taken off.
+/// Public SEND and RUN with all their checks. What comes before the timed events is timed by itself and taken off.
 fn single_events(rounds: usize) {
-    println!("| public event, 16 sites | second model, ns | product, ns | ratio |");
-    println!("|---|---:|---:|---:|");
-    let bytes = archives::big();
+    println!("| sites | public event | second model, ns | product, ns | ratio |");
+    println!("|---:|---|---:|---:|---:|");
+    for (sites, sends, bytes) in [(16, 64, archives::big()), (64, 255, archives::wide())] {
+        events(rounds, sites, sends, &bytes);
+    }
+}
+
+fn events(rounds: usize, sites: usize, sends: usize, bytes: &[u8]) {
     let mixed = [(0, 0), (TIMES, 0)];
-    row("RUN, the events of the first 1,000 draws", runs(rounds, &bytes, 0, mixed));
+    row(&format!("{sites} | RUN, the events of the first 1,000 draws"), runs(rounds, bytes, 0, mixed));
     let same = [(300, 0), (300, TIMES)];
-    row("RUN (0, 12), 1,000 times after 300 draws", runs(rounds, &bytes, 12, same));
-    let sends = 64;
-    assert_eq!(second::sends(&bytes, sends), product::sends(&bytes, sends), "the state after the sends");
-    let a = || timed(|| second::sends(&bytes, sends)).0 - timed(|| second::sends(&bytes, 0)).0;
-    let b = || timed(|| product::sends(&bytes, sends)).0 - timed(|| product::sends(&bytes, 0)).0;
-    row("SEND (s, {0}), the 64 that fit", medians(rounds, sends as f64, a, b));
+    row(&format!("{sites} | RUN (0, 12), 1,000 times after 300 draws"), runs(rounds, bytes, 12, same));
+    assert_eq!(second::sends(bytes, sends), product::sends(bytes, sends), "the state after the sends");
+    let a = || timed(|| second::sends(bytes, sends)).0 - timed(|| second::sends(bytes, 0)).0;
+    let b = || timed(|| product::sends(bytes, sends)).0 - timed(|| product::sends(bytes, 0)).0;
+    row(&format!("{sites} | SEND (s, {{0}}), the {sends} that fit"), medians(rounds, sends as f64, a, b));
 }
 
 /// The times of 1,000 RUNs at site 0: of what the second pair of draws and repeats has over the first.
@@ -101,7 +104,7 @@ fn runs(rounds: usize, bytes: &[u8], code: usize, pairs: [(usize, usize); 2]) ->
 fn copies(rounds: usize) {
     println!("\n| a copy of | bytes | ns |");
     println!("|---|---:|---:|");
-    for (name, size) in [("a Site", 472), ("a Network", 600), ("a Run", 4_696), ("a State", 7_560)] {
+    for (name, size) in [("a Site", 472), ("a Network", 8_728), ("a Run", 12_824), ("a State", 30_216)] {
         let (from, mut to) = (vec![1u8; size], vec![0u8; size]);
         let mut copy = || {
             for _ in 0..TIMES {

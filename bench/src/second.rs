@@ -2,7 +2,7 @@
 
 use reference::archive;
 use reference::draws::{event, Draws};
-use reference::network::Network;
+use reference::network::{Network, SITES};
 use reference::single;
 use reference::state::State;
 use std::hint::black_box;
@@ -12,10 +12,28 @@ pub fn play(bytes: &[u8], book: &mut [u8]) -> usize {
     reference::player::play(black_box(bytes), book).map_or(0, |counts| counts.serviced as usize)
 }
 
+/// Where the last byte of the seed stands, and from the end on the site of the last send.
+fn last_of_seed(bytes: &[u8]) -> usize {
+    if bytes[2] == 1 {
+        9
+    } else {
+        10
+    }
+}
+
+pub fn site_from_end(bytes: &[u8]) -> usize {
+    if bytes[2] == 1 {
+        3
+    } else {
+        9
+    }
+}
+
 /// Reads the archive so many times, each time with another seed.
 pub fn read(bytes: &mut [u8], times: usize) {
+    let last = last_of_seed(bytes);
     for k in 1..=times {
-        bytes[9] = (k % 255 + 1) as u8;
+        bytes[last] = (k % 255 + 1) as u8;
         let _ = black_box(archive::read(black_box(bytes)));
     }
 }
@@ -24,8 +42,9 @@ pub fn read(bytes: &mut [u8], times: usize) {
 /// looked at.
 pub fn check(bytes: &mut [u8], times: usize) -> usize {
     let mut sum = 0;
+    let last = last_of_seed(bytes);
     for k in 1..=times {
-        bytes[9] = (k % 255 + 1) as u8;
+        bytes[last] = (k % 255 + 1) as u8;
         let refusal = black_box(archive::read(black_box(bytes)).err());
         sum = sum % 65_536 + refusal.map_or(0, |refusal| usize::from(refusal.number()));
     }
@@ -70,11 +89,12 @@ pub fn sends(bytes: &[u8], times: usize) -> usize {
     let run = archive::read(bytes).expect("a valid archive");
     let mut state = State::empty();
     for k in 0..times {
-        let _ = black_box(single::send(black_box(&run.network), &mut state, (k % 16) as u64, 1));
+        let site = k as u64 % run.network.sites;
+        let _ = black_box(single::send(black_box(&run.network), &mut state, site, 1));
     }
     picked(&state, times)
 }
 
 fn picked(state: &State, k: usize) -> usize {
-    usize::from(state.counter) + state.out_queues[k % 16].count as usize % 16
+    usize::from(state.counter) + state.out_queues[k % SITES].count as usize % 16
 }

@@ -1,4 +1,5 @@
-//! Fennqualo for Rust: archives played, checked and copied by the proved library, with Rust's own types.
+//! Fennqualo for Rust: archives, of version 1 and of version 2, played, checked and copied by the proved library, with
+//! Rust's own types.
 //!
 //! A [`Player`] owns the book that it lends to the library, and the functions here make every other buffer themselves,
 //! so no slice is too short, none overlaps another, and none is seen while the library writes it.
@@ -39,8 +40,8 @@ mod library {
     }
 }
 
-/// Room for the book of every archive: 255 sends to 16 sites each, 4 bytes a service.
-const BOOK: usize = 4 * 255 * 16;
+/// Room for the book of every archive: 255 sends to 64 sites each, 4 bytes a service.
+const BOOK: usize = 4 * 255 * 64;
 
 /// What is counted over a run.
 #[derive(Clone, Copy, PartialEq, Eq, Debug)]

@@ -16,23 +16,25 @@ pub enum Refusal {
     Route = 7,
     Send = 8,
     Room = 14,
+    Edition = 17,
 }
 
 /// Each refusal in words.
-const WORDS: [(Refusal, &str); 9] = [
+const WORDS: [(Refusal, &str); 10] = [
     (Refusal::Length, "fewer than 13 bytes, or the length field is not the number of bytes"),
-    (Refusal::Version, "the version is not 1"),
+    (Refusal::Version, "the version is neither 1 nor 2"),
+    (Refusal::Edition, "the edition is unknown: it is not 1"),
     (Refusal::Limits, "sites, limit of tries or depth of queues outside their limits"),
     (Refusal::Seed, "the seed is 0"),
-    (Refusal::Size, "the length does not fit the numbers of sites and sends"),
-    (Refusal::Channel, "a channel byte that names no input, or an input fed twice"),
+    (Refusal::Size, "the length is not that of the version with so many sites and sends"),
+    (Refusal::Channel, "a channel that names no input, or an input fed twice"),
     (Refusal::Route, "a route not as described"),
     (Refusal::Send, "a send's site, set or draw number impossible, or draw numbers falling"),
     (Refusal::Room, "a lent slice is too short"),
 ];
 
 impl Refusal {
-    /// Its number: 1 to 8, or 14.
+    /// Its number: 1 to 8, 14 or 17.
     pub fn number(self) -> u8 {
         self as u8
     }
