@@ -1,7 +1,8 @@
 /*
  * Fennqualo's library for C: plays, checks and copies archives of version 1, with up to 16 sites, and of version 2, with up
- * to 64 (docs/FORMAT.md has their form, docs/MODEL.md what they mean). Link libfennqualo.a; it needs memcpy and memset and nothing else, keeps nothing between calls, and may be
- * called from many threads at once. It is compiled for x86-64 Linux. How much stack a call takes is said with it, below.
+ * to 64 (docs/FORMAT.md has their form, docs/MODEL.md what they mean). Link libfennqualo.a; it needs memcpy and memset and
+ * nothing else, keeps nothing between calls, and may be called from many threads at once. It is compiled for x86-64 Linux.
+ * How much stack a call takes is said with it, below.
  *
  * Slices. A slice is a pointer and the number of elements behind it. The caller sees to it that
  *   - the elements are there, and a uint64_t slice is aligned as any uint64_t array is;
@@ -55,13 +56,13 @@ extern "C" {
 #define FENNQUALO_ROOM 14
 
 /*
- * The stack that a call takes, in bytes, from its return address down: the most that was measured on x86-64 (204, 236
- * and 17,544 bytes, over the corpus and archives cut and damaged from it), rounded up. It is measured, not proved; memcpy
- * and memset are the caller's own, and those of glibc are counted in.
+ * The stack that a call takes, in bytes, from its return address down: the most that was measured on x86-64 (213, 245
+ * and 54,536 bytes, over the corpus and archives cut and damaged from it, 64 sites among them), rounded up. It is measured,
+ * not proved; memcpy and memset are the caller's own, and those of glibc are counted in.
  */
-#define FENNQUALO_CHECK_STACK 256
-#define FENNQUALO_COPY_STACK 256
-#define FENNQUALO_PLAY_STACK 18432
+#define FENNQUALO_CHECK_STACK 320
+#define FENNQUALO_COPY_STACK 320
+#define FENNQUALO_PLAY_STACK 57344
 
 /*
  * Plays an archive. The services go to the front of the book, in order; the four counts to the front of counts. It takes

@@ -91,74 +91,74 @@ pub input-known : (v b S : ℕ) (r : Bool) → v ≡ b → r ≡ ltb b (portCoun
 input-known v b S r e er h = omega (arith, e, ltb-true b (portCount * S) (sym er ∙ h))
 
 -- the channel at place c of the channels cs, and the model's test of it among e places
-abbrev pub byteAt : List ℕ → ℕ → ℕ
-byteAt cs c = getD cs c 0
+abbrev pub placeAt : List ℕ → ℕ → ℕ
+placeAt cs c = getD cs c 0
 
 abbrev pub channelIn : List ℕ → ℕ → ℕ → Bool
 channelIn cs e c =
-    eqb (byteAt cs c) noChannel || ltb (byteAt cs c) e && all (λ d. not (eqb (byteAt cs d) (byteAt cs c))) c
+    eqb (placeAt cs c) noChannel || ltb (placeAt cs c) e && all (λ d. not (eqb (placeAt cs d) (placeAt cs c))) c
 
 -- fed has a mark at each input that a channel before c feeds
 abbrev pub Fed : List ℕ → List Bool → ℕ → Type 0
-Fed cs fed c = (x : ℕ) → x < portCount * sitesMost → all (λ d. not (eqb (byteAt cs d) x)) c ≡ not (getD fed x false)
+Fed cs fed c = (x : ℕ) → x < portCount * sitesMost → all (λ d. not (eqb (placeAt cs d) x)) c ≡ not (getD fed x false)
 
 pub fed-none : (cs : List ℕ) → Fed cs (replicate (portCount * sitesMost) false) 0
-fed-none cs x h = all-none (λ d. not (eqb (byteAt cs d) x)) ∙ ap not (sym (same-at (portCount * sitesMost) x false))
+fed-none cs x h = all-none (λ d. not (eqb (placeAt cs d) x)) ∙ ap not (sym (same-at (portCount * sitesMost) x false))
 
 -- none
-pub fed-skip : (cs : List ℕ) (fed : List Bool) (c : ℕ) → Fed cs fed c → byteAt cs c ≡ noChannel → Fed cs fed (c + 1)
+pub fed-skip : (cs : List ℕ) (fed : List Bool) (c : ℕ) → Fed cs fed c → placeAt cs c ≡ noChannel → Fed cs fed (c + 1)
 fed-skip cs fed c f e x h =
-    let q : not (eqb (byteAt cs c) x) ≡ true = ap not (ne-eqb (byteAt cs c) x (λ z. omega arith)) in
-    sym (all-next (λ d. not (eqb (byteAt cs d) x)) c _ true refl (sym q)) ∙ and-true _ ∙ f x h
+    let q : not (eqb (placeAt cs c) x) ≡ true = ap not (ne-eqb (placeAt cs c) x (λ z. omega arith)) in
+    sym (all-next (λ d. not (eqb (placeAt cs d) x)) c _ true refl (sym q)) ∙ and-true _ ∙ f x h
 
 -- a channel to an input, which is marked
 pub fed-set : (cs : List ℕ) (fed : List Bool) (c : ℕ) → Fed cs fed c → length fed ≡ portCount * sitesMost
-    → byteAt cs c < portCount * sitesMost → Fed cs (set fed (byteAt cs c) true) (c + 1)
-fed-set cs fed c f l b x h = go (eqb (byteAt cs c) x) refl
+    → placeAt cs c < portCount * sitesMost → Fed cs (set fed (placeAt cs c) true) (c + 1)
+fed-set cs fed c f l b x h = go (eqb (placeAt cs c) x) refl
   where
-    go : (t : Bool) → eqb (byteAt cs c) x ≡ t
-        → all (λ d. not (eqb (byteAt cs d) x)) (c + 1) ≡ not (getD (set fed (byteAt cs c) true) x false)
+    go : (t : Bool) → eqb (placeAt cs c) x ≡ t
+        → all (λ d. not (eqb (placeAt cs d) x)) (c + 1) ≡ not (getD (set fed (placeAt cs c) true) x false)
     go true q =
-        all-fails (λ d. not (eqb (byteAt cs d) x)) c (c + 1) (omega arith) (ap not q)
+        all-fails (λ d. not (eqb (placeAt cs d) x)) c (c + 1) (omega arith) (ap not q)
         ∙ ap not
         (sym
-        (ap (λ (y : ℕ). getD (set fed (byteAt cs c) true) y false) (sym (eqb-true (byteAt cs c) x q))
-        ∙ getD-set-same fed (byteAt cs c) true false (omega arith)))
+        (ap (λ (y : ℕ). getD (set fed (placeAt cs c) true) y false) (sym (eqb-true (placeAt cs c) x q))
+        ∙ getD-set-same fed (placeAt cs c) true false (omega arith)))
     go false q =
-        sym (all-next (λ d. not (eqb (byteAt cs d) x)) c _ true refl (sym (ap not q)))
+        sym (all-next (λ d. not (eqb (placeAt cs d) x)) c _ true refl (sym (ap not q)))
         ∙ and-true _
         ∙ f x h
-        ∙ ap not (sym (getD-set-other fed (byteAt cs c) x true false (λ e. eqb-false (byteAt cs c) x q (sym e))))
+        ∙ ap not (sym (getD-set-other fed (placeAt cs c) x true false (λ e. eqb-false (placeAt cs c) x q (sym e))))
 
 -- ---- a turn of the loop over the channels; v is the channel at c
 
-module _ (cs : List ℕ) (fed : List Bool) (e c v : ℕ) (ev : v ≡ byteAt cs c) where
-  pub no-channel : all (channelIn cs e) c ≡ true → byteAt cs c ≡ noChannel → all (channelIn cs e) (c + 1) ≡ true
-  no-channel h q = all-more (channelIn cs e) c h (rw (eq-eqb (byteAt cs c) noChannel q) refl)
+module _ (cs : List ℕ) (fed : List Bool) (e c v : ℕ) (ev : v ≡ placeAt cs c) where
+  pub no-channel : all (channelIn cs e) c ≡ true → placeAt cs c ≡ noChannel → all (channelIn cs e) (c + 1) ≡ true
+  no-channel h q = all-more (channelIn cs e) c h (rw (eq-eqb (placeAt cs c) noChannel q) refl)
 
-  pub too-high : c < e → (byteAt cs c ≡ noChannel → ⊥) → e ≤ v → false ≡ all (channelIn cs e) e
+  pub too-high : c < e → (placeAt cs c ≡ noChannel → ⊥) → e ≤ v → false ≡ all (channelIn cs e) e
   too-high h q l =
       sym (all-fails (channelIn cs e) c e h (rw (
-        ne-eqb (byteAt cs c) noChannel q,
-        le-ltb (byteAt cs c) e
+        ne-eqb (placeAt cs c) noChannel q,
+        le-ltb (placeAt cs c) e
             (omega arith),
       ) refl))
 
-  module _ (f : Fed cs fed c) (n : length fed ≡ portCount * sitesMost) (h : c < e) (q : byteAt cs c ≡ noChannel
+  module _ (f : Fed cs fed c) (n : length fed ≡ portCount * sitesMost) (h : c < e) (q : placeAt cs c ≡ noChannel
       → ⊥) (l : v < e) (m : e ≤ portCount * sitesMost) where
-    said : all (λ d. not (eqb (byteAt cs d) (byteAt cs c))) c ≡ not (getD fed v false)
-    said = f (byteAt cs c) (omega arith) ∙ ap (λ (x : ℕ). not (getD fed x false)) (sym ev)
+    said : all (λ d. not (eqb (placeAt cs d) (placeAt cs c))) c ≡ not (getD fed v false)
+    said = f (placeAt cs c) (omega arith) ∙ ap (λ (x : ℕ). not (getD fed x false)) (sym ev)
 
     pub fed-twice : getD fed v false ≡ true → false ≡ all (channelIn cs e) e
     fed-twice t =
         sym
         (all-fails (channelIn cs e) c e h
-        (rw (ne-eqb (byteAt cs c) noChannel q, lt-ltb (byteAt cs c) e (omega arith)) (said ∙ ap not t)))
+        (rw (ne-eqb (placeAt cs c) noChannel q, lt-ltb (placeAt cs c) e (omega arith)) (said ∙ ap not t)))
 
     pub fed-once : getD fed v false ≡ false → all (channelIn cs e) c ≡ true → all (channelIn cs e) (c + 1) ≡ true
     fed-once t k =
         all-more (channelIn cs e) c k
-        (rw (ne-eqb (byteAt cs c) noChannel q, lt-ltb (byteAt cs c) e (omega arith)) (said ∙ ap not t))
+        (rw (ne-eqb (placeAt cs c) noChannel q, lt-ltb (placeAt cs c) e (omega arith)) (said ∙ ap not t))
 
     pub fed-now : Fed cs (set fed v true) (c + 1)
     fed-now = rw ev (fed-set cs fed c f n (omega arith))

@@ -1,25 +1,30 @@
 -- Demand 3 of a played archive, over the player's own answer and over the lent bytes of its book: bytes that the player does not
 -- refuse. Assumes that the byte of the number of sends is one, which the bytes' type says.
-use Prim.Native.Nat.{ℕ, suc, _+_, _*_, _<_}
+use Prim.Native.Nat.{ℕ, suc, _+_, _*_, _≤_, _<_}
 use mathlib.Core.Path.{_≡_, refl, sym, ap, ap₂, _∙_}
 use mathlib.Core.Bool.{cond}
 use mathlib.Core.List.{List, [], _∷_, _++_}
 use native.Mathlib.Omega.{arith}
+use borrow.Author.Tests.{le-ltb, eqb-true}
 use lib.Dec.{eqb}
-use lib.ListN.{getD, length}
+use lib.ListN.{getD, length, length-replicate}
 use Rattle.base.specs.Answers.{atFront}
+use Rattle.base.specs.Bools.{either-way}
+use Rattle.base.specs.Over.{length-over}
+use Rattle.base.specs.Sizes.{sitesMost, sendsMost}
 use Rattle.base.specs.Sums.{sum, upto, upto-ext}
 use Rattle.sets.specs.Sets.{bit}
 use Rattle.types.specs.declared.Run.{Run}
-use Rattle.model.specs.Types.{noState}
+use Rattle.model.specs.Types.{noState, sendD}
 use Rattle.model.specs.Events.{acceptedSet}
 use Rattle.model.specs.Owing.{owed}
-use Rattle.model.specs.Runs.{Service, bookBytes, inBook, inEntries, events, storedRefusal, script, playedRun}
+use Rattle.model.specs.Runs.{Service, bookBytes, bookRoom, inBook, inEntries, events, noSends, storedRefusal, script, playedRun}
 use Rattle.theorems.proofs.Played.{played-once}
 use Rattle.theorems.proofs.PlayerCounts.{counts}
-use Rattle.format.specs.Format.{countOf, runOf}
+use Rattle.format.specs.Format.{sendOf, sendWidth, sendsPlace, versionOf, sitesOf, countOf, runOf}
 use Rattle.format.specs.Refusals.{readRefusal, decode}
 use Rattle.machine.specs.Play.{playRefusal, playAnswer, playBook}
+use Rattle.machine.proofs.PlayerRoom.{sizes-most, room-is}
 use Rattle.machine.proofs.PlayerAnswers.{archive-passes, read-refusal, read-run, read-count, read-stored}
 
 module _ (b : List ℕ) (room : ℕ) (byte : countOf b < 256) (z : playRefusal b room ≡ 0) where
@@ -42,6 +47,25 @@ module _ (b : List ℕ) (room : ℕ) (byte : countOf b < 256) (z : playRefusal b
   pub archive-counts : playAnswer b room .counts .serviced + playAnswer b room .counts .owed ≡ playAnswer b room .counts .pairs
   unfolding playAnswer
   archive-counts = rw z (counts (runOf b) is-stored)
+
+-- ---- a room of 4 x 255 x 64 bytes is enough for the book of every archive
+
+book-most : (b : List ℕ) → countOf b < 256 → bookRoom (runOf b) ≤ 4 * (sendsMost * sitesMost)
+unfolding runOf
+book-most b h =
+    let v = versionOf b in
+    let long : length (runOf b .sends) ≡ sendsMost =
+    length-over (λ k. sendOf v b (sendsPlace v (sitesOf b) + sendWidth v * k)) (countOf b) noSends ∙ length-replicate sendsMost sendD in
+    let few : runOf b .count ≤ sendsMost = omega (arith, h) in
+    omega (arith, few, sizes-most (runOf b .sends) (runOf b .count), room-is (runOf b) (omega (arith, few, long)))
+
+-- with so much room, 14 is never answered
+pub room-enough : (b : List ℕ) (room : ℕ) → countOf b < 256 → 4 * (sendsMost * sitesMost) ≤ room
+    → playRefusal b room ≡ readRefusal b
+unfolding playRefusal
+room-enough b room h k =
+    rw (le-ltb room (bookRoom (runOf b)) (omega (arith, k, book-most b h)))
+    (either-way (eqb (readRefusal b) 0) (λ e. rw e (sym (eqb-true (readRefusal b) 0 e))) (λ e. rw e refl))
 
 -- ---- the lent bytes
 

@@ -20,7 +20,7 @@ abbrev pub channel : Network → ℕ → ℕ → ℕ
 channel n s zero = noChannel
 channel n s (suc j) = channelAt n (portCount * s + j)
 
--- whether such a byte stands for a channel, and whether port j of site s has one
+-- whether there is a channel, and whether port j of site s has one
 abbrev pub isChannel : ℕ → Bool
 isChannel b = not (eqb b noChannel)
 

@@ -126,8 +126,8 @@ readyFlags l xs s =
     ∷ []
 
 -- the channels of site s end within the sites
-abbrev pub BytesWithin : List ℕ → ℕ → Type 0
-BytesWithin l s = (j : ℕ) → j < portCount → isChannel (getD l (portCount * s + j) 0) ≡ true → getD l (portCount * s + j) 0 < endCount
+abbrev pub ChannelsWithin : List ℕ → ℕ → Type 0
+ChannelsWithin l s = (j : ℕ) → j < portCount → isChannel (getD l (portCount * s + j) 0) ≡ true → getD l (portCount * s + j) 0 < endCount
 
 -- what the router's answer makes of net-input i of site x
 abbrev pub sought : List ℕ → ℕ → ℕ → Site → ℕ → ℕ → Turn Input (List Output)

@@ -44,7 +44,7 @@ fn is_heard(words: &[u64], channel: u16) -> bool
 fn is_ready(channels: &[u16], words: &[u64], s: usize, j: usize) -> bool
     requires { ⌜
         (s < sitesMost) × (j < portCount) × (length (now channels) ≡ endCount) × (length (now words) ≡ wordCount) ×
-        spec.BytesWithin (now channels) s
+        spec.ChannelsWithin (now channels) s
         ⌝ }
     ensures { λ r. ⌜ r ≡ spec.readyAt (now (channels .entry)) (sitesOf (now (words .entry))) s j ⌝ }
 {
@@ -56,7 +56,7 @@ fn is_ready(channels: &[u16], words: &[u64], s: usize, j: usize) -> bool
 
 // Which outputs of site s are ready.
 fn readies(channels: &[u16], words: &[u64], s: usize) -> [bool; base::OUTPUTS]
-    requires { ⌜ (s < sitesMost) × (length (now channels) ≡ endCount) × (length (now words) ≡ wordCount) × spec.BytesWithin (now channels) s ⌝ }
+    requires { ⌜ (s < sitesMost) × (length (now channels) ≡ endCount) × (length (now words) ≡ wordCount) × spec.ChannelsWithin (now channels) s ⌝ }
     ensures { λ r. ⌜ r ≡ spec.readyFlags (now (channels .entry)) (sitesOf (now (words .entry))) s ⌝ }
 {
     let own = is_taken(words, s, 0);
@@ -126,7 +126,7 @@ fn ready_in_place(words: &mut [u64], s: usize, i: usize, ready: [bool; base::OUT
 // Net-input i in another state than seek.
 fn other_in_place(channels: &[u16], words: &mut [u64], s: usize, i: usize) -> Ran
     requires { ⌜
-        (s < sitesMost) × (i < inputCount) × (length (now channels) ≡ endCount) × (length (now words) ≡ wordCount) × spec.BytesWithin
+        (s < sitesMost) × (i < inputCount) × (length (now channels) ≡ endCount) × (length (now words) ≡ wordCount) × spec.ChannelsWithin
         (now channels) s × (stateNumber (inAt (siteIn (now words) s) i .phase) ≡ 1 → ⊥)
         ⌝ }
     ensures { λ r. ⌜ spec.DidInput (now (channels .entry)) (now (words .entry)) (now (words .exit)) s r i ⌝ }
@@ -175,7 +175,7 @@ pub(crate) fn input_in_place(
     s: usize,
     i: usize,
 ) -> Ran
-    requires { ⌜ (i < inputCount) × (length (now channels) ≡ endCount) ⌝ ∗ ⌜ spec.BytesWithin (now channels) s ⌝ ∗
+    requires { ⌜ (i < inputCount) × (length (now channels) ≡ endCount) ⌝ ∗ ⌜ spec.ChannelsWithin (now channels) s ⌝ ∗
         ⌜ spec.Seekable (now routes) sites (now words) s i ⌝ }
     ensures { λ r. ⌜
         spec.DidAsked (now (channels .entry)) (now (routes .entry)) sites tries (now (words .entry))

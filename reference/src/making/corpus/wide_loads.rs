@@ -40,6 +40,7 @@ pub fn all() -> Vec<Named> {
         ("load-star-64", loaded(nearest(graphs::star(64), 2), (3, 4), 65_535, 120, 44)),
         ("load-mesh-8x5", loaded(nearest(graphs::grid(8, 5, false), 3), (1, 3), 40_000, 120, 45)),
         ("load-torus-8x8", spread()),
+        ("load-torus-8x8-short", loaded(nearest(graphs::grid(8, 8, true), 4), (2, 3), 3_000, 60, 49)),
         ("load-torus-8x8-neighbours", neighbours()),
         ("load-torus-8x8-at-once", loaded(torus, (1, 8), 65_535, 255, 48)),
     ]);
