@@ -11,6 +11,7 @@ export LC_ALL=C
 root=$(CDPATH= cd -- "$(dirname -- "$0")/.." && pwd) || exit 2
 cd "$root" || exit 2
 . "$root/scripts/program.sh"
+. "$root/scripts/draws.sh"
 program=$(from_root "${FENNQUALO_TRACE:-target/bin/trace}")
 export CARGO_TARGET_DIR="$root/target/reference"
 second=$CARGO_TARGET_DIR/release/trace
@@ -25,11 +26,6 @@ can_run "$program" || end 2 "$why"
 (cd "$root/reference" && cargo build --release --offline --quiet) || end 2 "the second model is not built"
 rm -rf "$folder"
 mkdir -p "$folder" || exit 2
-
-# draws FILE: the number of draws that the bytes name, whatever they are
-draws() {
-    od -An -v -tu1 -N14 "$1" | tr '\n' ' ' | awk '{ p = $3 == 1 ? 11 : 12; n = 256 * $p + $(p + 1) } END { print n + 0 }'
-}
 
 # the lines of each archive, the plain trace of the corpus kept under its name
 lines=0
@@ -56,6 +52,7 @@ done
 # traced is left out of both
 while IFS= read -r name || [ -n "$name" ]; do
     [ -f "$folder/${name##*/}.txt" ] || continue
+    echo "$name" >>"$folder/names"
     awk -v name="$name" '
         $1 == "draw" && $5 == "operator:" && $8 == "serviced" {
             sub(":", "", $2); sub(",", "", $11); print $2, $7, $11
@@ -63,16 +60,7 @@ while IFS= read -r name || [ -n "$name" ]; do
         { last = $0 }
         END { print name ": " last }' "$folder/${name##*/}.txt"
 done <"$root/crates/batch/stdin" >"$folder/book"
-awk -v folder="$folder/" '
-    / cannot be read$/ || /^files / { next }
-    { text = text $0 "\n" }
-    match($0, /[.]bin: /) {
-        name = substr($0, 1, RSTART + 3)
-        sub(/.*\//, "", name)
-        if ((getline line < (folder name ".txt")) >= 0) printf "%s", text
-        close(folder name ".txt")
-        text = ""
-    }' "$root/crates/batch/stdout" >"$folder/book-expected"
+lines_of "$folder/names" "$root/crates/batch/stdout" >"$folder/book-expected"
 cmp -s "$folder/book-expected" "$folder/book" || end 1 "the traces' book is not crates/batch/stdout: target/trace/book"
 
 # said STATUS TEXT WORDS..: behind a front's words the program gives this status on descriptor 3 and, if there is a text, a
