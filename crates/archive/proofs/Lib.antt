@@ -1,4 +1,4 @@
--- The laws of the format, and the theorems about reader and writer.
+-- The laws of the format, and the theorems about reader, writer and moves.
 pub mod Numbers
 pub mod Holds
 pub mod Values
@@ -10,3 +10,5 @@ pub mod Room
 pub mod ReadLaws
 pub mod Put
 pub mod Answers
+pub mod MoveLaws
+pub mod Moved

@@ -47,7 +47,7 @@ module _ (n : Network) (first : n .version ≡ 1) (h : sizesOk n ≡ true) where
       leb-true (n .sites) firstSites (rw (eq-eqb (n .version) 1 first) at (d .1))
 
 -- so that its channels fit their bytes
-channels-narrow : (n : Network) → sizesOk n ≡ true → channelsOk n ≡ true
+pub channels-narrow : (n : Network) → sizesOk n ≡ true → channelsOk n ≡ true
     → AllNarrow (n .version) (n .channels) (portCount * n .sites)
 channels-narrow n h k c l first =
     ⊎-elim (λ e. inl (eqb-true (channelAt n c) noChannel e))

@@ -158,20 +158,25 @@ pub front-put : (n : Network) (seed draws N size p q : ℕ) (out a b c d : List 
     → d ≡ put c q (routeBytes (n .routes) (n .sites * n .sites)) → d ≡ putFront n seed draws N size out
 front-put n seed draws N size p q out a b c d ep eq ea eb ec ed = rw (ed, ec, eb, ea, ep, eq) refl
 
-module _ (r : Run) (out a b c d e : List ℕ) (n : ℕ) (en : n ≡ lengthOf r) where
+module _ (r : Run) (out : List ℕ) where
   abbrev v : ℕ
   v = r .network .version
 
   abbrev S : ℕ
   S = r .network .sites
 
-  pub put-parts : a ≡ put out 0 (startWith v (r .network .edition) n)
-      → b ≡ put a (sitesPlace v) (fieldsOf r) → c ≡ put b (headLength v) (cs r) → d ≡ put c (routesPlace v S) (rs r)
-      → e ≡ put d (sendsPlace v S) (es r) → e ≡ put out 0 (encode r)
-  unfolding encode headBytes
-  put-parts ea eb ec ed ee =
+  pub put-head : (a b : List ℕ) (n : ℕ) → n ≡ lengthOf r → a ≡ put out 0 (startWith v (r .network .edition) n)
+      → b ≡ put a (sitesPlace v) (fieldsOf r) → b ≡ put out 0 (headBytes r)
+  unfolding headBytes
+  put-head a b n en ea eb =
       let fa : a ≡ put out 0 (startOf r) = rw en at ea in
-      let fb = eb ∙ put-append out a 0 (sitesPlace v) (startOf r) (fieldsOf r) (omega arith) fa (starts r) in
-      let fc = ec ∙ put-append out b 0 (headLength v) (headBytes r) (cs r) (omega arith) fb (heads r) in
+      eb ∙ put-append out a 0 (sitesPlace v) (startOf r) (fieldsOf r) (omega arith) fa (starts r)
+
+  -- behind the head
+  pub put-parts : (b c d e : List ℕ) → b ≡ put out 0 (headBytes r) → c ≡ put b (headLength v) (cs r)
+      → d ≡ put c (routesPlace v S) (rs r) → e ≡ put d (sendsPlace v S) (es r) → e ≡ put out 0 (encode r)
+  unfolding encode
+  put-parts b c d e eb ec ed ee =
+      let fc = ec ∙ put-append out b 0 (headLength v) (headBytes r) (cs r) (omega arith) eb (heads r) in
       let fd = ed ∙ put-append out c 0 (routesPlace v S) (headBytes r ++ cs r) (rs r) (omega arith) fc (joins r) in
       ee ∙ put-append out d 0 (sendsPlace v S) (headBytes r ++ cs r ++ rs r) (es r) (omega arith) fd (leads r)

@@ -87,7 +87,7 @@ unfolding trimmed trimmedNetwork over
 none-trimmed = refl
 
 module _ (b : List ℕ) where
-  run-trimmed : trimmed (runOf b) ≡ runOf b
+  pub run-trimmed : trimmed (runOf b) ≡ runOf b
   unfolding trimmed trimmedNetwork runOf
   run-trimmed =
       let v = versionOf b in

@@ -163,12 +163,18 @@ module _ (l : List ℕ) (r : Run) (held : Held l r) (z : Stored r) (h : Fits r) 
 own : (r : Run) → Held (encode r) r
 own r = held-at r (encode r) (holds-own (encode r))
 
+-- the run of what was written, and what the reader says of it
+module _ (r : Run) (p : storedRefusal r ≡ 0) (h : Fits r) where
+  pub written-run : runOf (encode r) ≡ trimmed r
+  written-run = again (encode r) r (own r) (stored-passes r p) h
+
+  pub written-passes : readRefusal (encode r) ≡ 0
+  written-passes = accepted (encode r) r (own r) (stored-passes r p) h (length-encode r)
+
 -- what the writer accepts, the reader gives back
 pub read-write : (r : Run) → storedRefusal r ≡ 0 → Fits r → decode (encode r) ≡ record { refusal = 0; run = trimmed r }
 unfolding decode
-read-write r p h =
-    let z = stored-passes r p in
-    rw (accepted (encode r) r (own r) z h (length-encode r), again (encode r) r (own r) z h) refl
+read-write r p h = rw (written-passes r p h, written-run r p h) refl
 
 -- ---- what was read is a valid run whose numbers fit
 
@@ -195,7 +201,7 @@ module _ (b : List ℕ) (w : Bytes b) where
       filled (λ (x : StoredSend). f x < m) _ n noSends sendD (λ k. h (p + sendWidth v * k))
       (λ k. subst (λ (x : StoredSend). f x < m) (sym (same-at sendsMost k sendD)) e)
 
-  read-fits : Fits (runOf b)
+  pub read-fits : Fits (runOf b)
   unfolding runOf
   read-fits =
       let v = versionOf b in
@@ -218,7 +224,7 @@ module _ (b : List ℕ) (w : Bytes b) where
             (λ q. set-fits b w v (q + 3));
       }
 
-  read-stored : readRefusal b ≡ 0 → storedRefusal (runOf b) ≡ 0
+  pub read-stored : readRefusal b ≡ 0 → storedRefusal (runOf b) ≡ 0
   unfolding runOf
   read-stored e = stored-read b e (omega (arith, w (countPlace (versionOf b))))
 
@@ -228,7 +234,7 @@ pub exactly : (b : List ℕ) → Bytes b
     × ((r : Run) → storedRefusal r ≡ 0 → Fits r → encode r ≡ b → readRefusal b ≡ 0)
 exactly b w = (
   λ e. (runOf b, read-stored b w e, read-fits b w, write-read b w e),
-  λ r p h e. ap readRefusal (sym e) ∙ accepted (encode r) r (own r) (stored-passes r p) h (length-encode r),
+  λ r p h e. ap readRefusal (sym e) ∙ written-passes r p h,
 )
 
 -- in version 1 "at most 1,864", in version 2 at most 11,523

@@ -44,7 +44,7 @@ fn read_routes(b: &[u8], p: usize, n: usize) -> [u16; base::SITES * base::SITES]
 }
 
 // The four bytes from place p on.
-fn quad_at(b: &[u8], p: usize) -> u32
+pub(crate) fn quad_at(b: &[u8], p: usize) -> u32
     requires { ⌜ p + 4 ≤ length (now b) ⌝ }
     ensures { λ r. ⌜ r ≡ quad (now (b .entry)) p ⌝ }
 {
@@ -63,7 +63,7 @@ fn set_at(b: &[u8], version: u8, p: usize) -> u64
     base::oct(quad_at(b, p), quad_at(b, p + 4))
 }
 
-fn send_at(b: &[u8], version: u8, p: usize) -> StoredSend
+pub(crate) fn send_at(b: &[u8], version: u8, p: usize) -> StoredSend
     requires { ⌜ p + sendWidth version ≤ length (now b) ⌝ }
     ensures { λ r. ⌜ r ≡ sendOf version (now (b .entry)) p ⌝ }
 {

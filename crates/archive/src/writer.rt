@@ -42,7 +42,7 @@ fn put_byte(out: &mut [u8], p: usize, x: u8)
     out[p] = x;
 }
 
-fn put_word(out: &mut [u8], p: usize, x: u64)
+pub(crate) fn put_word(out: &mut [u8], p: usize, x: u64)
     requires { ⌜ p + 2 ≤ length (now out) ⌝ }
     ensures { λ _. ⌜ now (out .exit) ≡ put (now (out .entry)) p (wordBytes x) ⌝ }
 {
@@ -61,7 +61,7 @@ fn put_quad(out: &mut [u8], p: usize, x: u64)
 }
 
 // The length, the version and in version 2 the edition.
-fn put_start(out: &mut [u8], version: u8, edition: u8, size: usize)
+pub(crate) fn put_start(out: &mut [u8], version: u8, edition: u8, size: usize)
     requires { ⌜ sitesPlace version ≤ length (now out) ⌝ }
     ensures { λ _. ⌜ now (out .exit) ≡ put (now (out .entry)) 0 (startWith version edition size) ⌝ }
 {
@@ -74,7 +74,7 @@ fn put_start(out: &mut [u8], version: u8, edition: u8, size: usize)
     out[3] = edition;
 }
 
-fn put_fields(
+pub(crate) fn put_fields(
     out: &mut [u8],
     p: usize,
     sites: usize,
@@ -100,7 +100,7 @@ fn put_fields(
 }
 
 // In version 1 the low byte: that of none, 65535, is 255.
-fn put_channel(out: &mut [u8], p: usize, version: u8, channel: u16)
+pub(crate) fn put_channel(out: &mut [u8], p: usize, version: u8, channel: u16)
     requires { ⌜ (p + channelWidth version ≤ length (now out)) × Narrow version channel ⌝ }
     ensures { λ _. ⌜ now (out .exit) ≡ put (now (out .entry)) p (channelPart version channel) ⌝ }
 {
@@ -152,7 +152,7 @@ fn put_set(out: &mut [u8], p: usize, version: u8, set: u64)
     put_quad(out, p + 4, set);
 }
 
-fn put_send(out: &mut [u8], p: usize, version: u8, send: StoredSend)
+pub(crate) fn put_send(out: &mut [u8], p: usize, version: u8, send: StoredSend)
     requires { ⌜ p + sendWidth version ≤ length (now out) ⌝ }
     ensures { λ _. ⌜ now (out .exit) ≡ put (now (out .entry)) p (sendBytes version send) ⌝ }
 {
@@ -243,7 +243,7 @@ pub fn write(run: Run, out: &mut [u8]) -> Written
     }
 }
 
-fn turned_down(refusal: u8) -> Written
+pub(crate) fn turned_down(refusal: u8) -> Written
     ensures { λ r. ⌜ r ≡ record { refusal = refusal; length = 0 } ⌝ }
 {
     Written {

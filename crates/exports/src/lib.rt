@@ -1,4 +1,4 @@
-// The functions that C and Rust call: an archive played, checked, copied. Each is thin over a proved function, takes
+// The functions that C and Rust call: an archive played, checked, copied, moved to the other version. Each is thin over a proved function, takes
 // slices of any length and any bytes, and answers 0 or the number of document 01's refusal; a refusal leaves every lent
 // element as it was. calls/specs/Calls.antt says what they answer, include/fennqualo.h tells it to C.
 // What no proof can see: a caller in C hands over slices that are there, that do not overlap, and that nobody else
@@ -7,6 +7,7 @@ ghost use mathlib.Core.Path.{_≡_};
 ghost use Prim.Native.Nat.{_≤_};
 ghost use lib.ListN.{length};
 ghost use Rattle.format.specs.Refusals.{readRefusal};
+ghost use Rattle.format.specs.Moves.{moveRefusal, moved};
 ghost use Rattle.base.specs.Answers.{atFront};
 ghost use Rattle.calls.specs.Calls.{countPlaces, fourCounts};
 ghost use Rattle.calls.specs.Calls.{callRefusal, bookAfter, countsAfter, copyRefusal, copyAfter};
@@ -88,4 +89,30 @@ pub extern "C" fn fennqualo_copy(bytes: &[u8], out: &mut [u8]) -> u8
     }
     put_bytes(bytes, out);
     0
+}
+
+// Moves an archive of version 1 over to version 2, to the front of the room; the moved file begins with its length.
+// Refusals 1, 2 where the version is not 1, 3 to 8, then 14 for a room too short.
+#[no_mangle]
+pub extern "C" fn fennqualo_over(bytes: &[u8], out: &mut [u8]) -> u8
+    ensures { λ r. ⌜
+        (r ≡ moveRefusal 1 2 (now (bytes .entry)) (length (now (out .entry))))
+        × (now (out .exit) ≡ moved 1 2 (now (bytes .entry)) (now (out .entry)))
+        ⌝ }
+{
+    let written = archive::move_over(bytes, out);
+    written.refusal
+}
+
+// Moves an archive of version 2 back to version 1 in the same way: 1, 2 where the version is not 2, 17, 3 to 8, 15 where it
+// has more than 16 sites or an edition other than 1, then 14.
+#[no_mangle]
+pub extern "C" fn fennqualo_back(bytes: &[u8], out: &mut [u8]) -> u8
+    ensures { λ r. ⌜
+        (r ≡ moveRefusal 2 1 (now (bytes .entry)) (length (now (out .entry))))
+        × (now (out .exit) ≡ moved 2 1 (now (bytes .entry)) (now (out .entry)))
+        ⌝ }
+{
+    let written = archive::move_back(bytes, out);
+    written.refusal
 }

@@ -2,6 +2,7 @@
 pub mod Lifts
 pub mod OwingSums
 pub mod PlayedArchive
+pub mod PlayedMoved
 pub mod PlayerAnswers
 pub mod PlayerRoom
 pub mod PlayerTurns

@@ -130,3 +130,16 @@ trimmedNetwork n =
       channels = over (channelAt n) (portCount * n .sites) noChannels;
       routes = over (λ m. getD (n .routes) m 0) (n .sites * n .sites) noRoutes;
     }
+
+-- L5: the same network, to be stored in version v
+unfoldable pub networkUnder : ℕ → Network → Network
+networkUnder v n =
+    record {
+      sites = n .sites;
+      depth = n .depth;
+      tries = n .tries;
+      version = v;
+      edition = n .edition;
+      channels = n .channels;
+      routes = n .routes;
+    }

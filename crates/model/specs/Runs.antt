@@ -14,7 +14,7 @@ use Rattle.model.specs.Types.{State, Network, StoredSend, Run as StoredR
 use Rattle.model.specs.Types.{AfterRun, Counts}
 use Rattle.model.specs.Types.{noState, sendD, sendAt}
 use Rattle.types.specs.Numbers.{answerOf, ranPacket, ranSite}
-use Rattle.model.specs.Network.{kindThen, sizesOk, joinsThen, trimmedNetwork}
+use Rattle.model.specs.Network.{kindThen, sizesOk, joinsThen, trimmedNetwork, networkUnder}
 use Rattle.model.specs.Events.{Event, Send, Run, sendFault, runs, sends, ran, sent}
 use Rattle.model.specs.Owing.{owedPairs}
 
@@ -56,6 +56,17 @@ trimmed R =
       draws = R .draws;
       count = R .count;
       sends = over (sendAt R) (R .count) noSends;
+    }
+
+-- L5: the same run, to be stored in version v
+unfoldable pub under : ℕ → StoredRun → StoredRun
+under v R =
+    record {
+      network = networkUnder v (R .network);
+      seed = R .seed;
+      draws = R .draws;
+      count = R .count;
+      sends = R .sends;
     }
 
 -- "A send marked d is applied before draw d (counted from 0), in stored order": the sends marked d

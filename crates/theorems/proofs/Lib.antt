@@ -31,4 +31,6 @@ pub mod Pairs
 pub mod Played
 pub mod PlayerCounts
 pub mod RoomLaws
+pub mod Alike
 pub mod Trimmed
+pub mod Versions

@@ -1,5 +1,5 @@
--- Two networks of the same sizes whose channels and routes agree within S sites: the tests of both say the same, and RUN
--- decides and writes the same. Assumes for RUN a site of the network, and sets within its sites.
+-- Two networks of the same sizes and edition, stored in any versions, whose channels and routes agree within S sites: the
+-- tests of both say the same, and RUN decides and writes the same. Assumes for RUN a site of the network, and sets within its sites.
 use Prim.Native.Nat.{ℕ, zero, suc, _+_, _-_, _*_, _^_, _≤_, _<_}
 use mathlib.Core.Path.{_≡_, refl, sym, ap, ap₂, _∙_, fun-ext}
 use mathlib.Core.List.{List}
@@ -74,20 +74,25 @@ act-on n s x far code =
     cond-ok OnPort (eqb code 12) _ _
     (λ e. own-on (setBoth x i) (timeout (x .incoming) (x .outputs) (inAt x i))) (λ e. tt)))))
 
--- ---- a network with other channels that agree on the places below 4S
+-- ---- a network of another version, with other channels and routes
 
-module _ (n : Network) (cs rs : List ℕ) (hc : (m : ℕ) → m < portCount * n .sites → getD cs m 0 ≡ channelAt n m) where
-  abbrev pub other : Network
-  other =
-      record {
-        sites = n .sites;
-        depth = n .depth;
-        tries = n .tries;
-        version = n .version;
-        edition = n .edition;
-        channels = cs;
-        routes = rs;
-      }
+abbrev pub otherThan : Network → ℕ → List ℕ → List ℕ → Network
+otherThan n v cs rs =
+    record {
+      sites = n .sites;
+      depth = n .depth;
+      tries = n .tries;
+      version = v;
+      edition = n .edition;
+      channels = cs;
+      routes = rs;
+    }
+
+-- ---- its channels agree on the places below 4S
+
+module _ (n : Network) (v : ℕ) (cs rs : List ℕ) (hc : (m : ℕ) → m < portCount * n .sites → getD cs m 0 ≡ channelAt n m) where
+  abbrev other : Network
+  other = otherThan n v cs rs
 
   channel-at : (s j : ℕ) → s < n .sites → j < portCount → channel other s (suc j) ≡ channel n s (suc j)
   channel-at s j hs hj = hc (portCount * s + j) (omega arith)
@@ -113,7 +118,7 @@ module _ (n : Network) (cs rs : List ℕ) (hc : (m : ℕ) → m < portCount * n 
       (λ m k. port-same s (choice l m) h) in
       rw a refl
 
-  -- ---- and other routes that agree on the places below S x S
+  -- ---- and its routes on the places below S x S
 
   module _ (hr : (m : ℕ) → m < n .sites * n .sites → getD rs m 0 ≡ getD (n .routes) m 0) where
     route-at : (s t : ℕ) → s < n .sites → t < n .sites → routeOf other s t ≡ routeOf n s t

@@ -8,8 +8,8 @@ use mathlib.Core.Bool.{true}
 use native.Mathlib.Decide.{decLt}
 use native.Mathlib.Nat.{mul-le-mul, le-of-suc-le-suc, not-suc-le-zero}
 use native.Mathlib.Omega.{arith}
-use borrow.Author.Tests.{leb-true, eqb-true}
-use lib.Dec.{eqb, ltb, leb}
+use borrow.Author.Tests.{leb-true}
+use lib.Dec.{ltb, leb}
 use lib.ListN.{getD, take, length, List·getD-eq-default}
 use Rattle.base.specs.Sizes.{sitesMost, portCount, sendsMost}
 use Rattle.base.specs.Bools.{both, either-way}
@@ -17,40 +17,37 @@ use Rattle.base.specs.All.{all-at, all-same}
 use Rattle.base.specs.Over.{over, over-below}
 use Rattle.sets.specs.Sets.{targets}
 use Rattle.sets.proofs.Laws.{targets-at}
-use Rattle.theorems.specs.Names.{State, Network, StoredSend, Run as StoredRun, AfterRun, AfterSend}
+use Rattle.theorems.specs.Names.{State, Network, StoredSend, Run as StoredRun}
 use Rattle.model.specs.Types.{sendD, sendAt}
 use Rattle.model.specs.Network.{channelAt, kindThen, sizesOk, joinsThen, networkRefusal}
 use Rattle.model.specs.Network.{noChannels, noRoutes, trimmedNetwork}
-use Rattle.model.specs.Range.{inRange}
-use Rattle.model.specs.Steps.{Stepped}
-use Rattle.model.specs.Events.{Event, Send, Run, runRefusal, sendRefusal, runs, ran, sent}
+use Rattle.model.specs.Events.{ran, sent}
 use Rattle.model.specs.Runs.{sendOk, sendsOk, bodyRefusal, storedRefusal, noSends, trimmed}
-use Rattle.model.specs.Runs.{Timed, marked, sendsAt, scriptTo, script}
-use Rattle.model.specs.Runs.{Played, unplayed, sendPlayed, runPlayed, advanceSingly, playedSingly, playedRun}
-use Rattle.theorems.proofs.Networks.{sizes-at, valid-ok}
+use Rattle.model.specs.Runs.{marked, sendsAt, scriptTo, script, unplayed, playedSingly, playedRun}
+use Rattle.theorems.proofs.Networks.{sizes-at}
 use Rattle.theorems.proofs.SoundRuns.{sound}
-use Rattle.theorems.proofs.Refusals.{run-passes}
-use Rattle.theorems.proofs.Demand3.{seek-set}
-use Rattle.theorems.proofs.RoomLaws.{joins-same, run-same}
+use Rattle.theorems.proofs.RoomLaws.{joins-same}
+use Rattle.theorems.proofs.Alike.{alike-ran, alike-sent, alike-singly}
 use Rattle.theorems.proofs.Played.{played-singly}
 
 -- ---- a network
 
-module _ (n : Network) (few : n .sites ≤ sitesMost) where
-  pub channels-kept : (m : ℕ) → m < portCount * n .sites → getD (trimmedNetwork n .channels) m 0 ≡ channelAt n m
+module _ (n : Network) where
+  pub channels-kept : n .sites ≤ sitesMost → (m : ℕ) → m < portCount * n .sites → getD (trimmedNetwork n .channels) m 0 ≡ channelAt n m
   unfolding trimmedNetwork
-  channels-kept m l = over-below (channelAt n) (portCount * n .sites) noChannels m 0 l (omega arith)
+  channels-kept few m l = over-below (channelAt n) (portCount * n .sites) noChannels m 0 l (omega arith)
 
-  pub routes-kept : (m : ℕ) → m < n .sites * n .sites → getD (trimmedNetwork n .routes) m 0 ≡ getD (n .routes) m 0
+  pub routes-kept : n .sites ≤ sitesMost → (m : ℕ) → m < n .sites * n .sites → getD (trimmedNetwork n .routes) m 0 ≡ getD (n .routes) m 0
   unfolding trimmedNetwork
-  routes-kept m l =
+  routes-kept few m l =
       let square : n .sites * n .sites ≤ sitesMost * sitesMost = mul-le-mul few few in
       over-below (λ m. getD (n .routes) m 0) (n .sites * n .sites) noRoutes m 0 l (omega arith)
 
-  trimmed-joins : (next : ℕ) → joinsThen (trimmedNetwork n) next ≡ joinsThen n next
+  trimmed-joins : n .sites ≤ sitesMost → (next : ℕ) → joinsThen (trimmedNetwork n) next ≡ joinsThen n next
   unfolding trimmedNetwork
-  trimmed-joins next =
-      joins-same n (trimmedNetwork n .channels) (trimmedNetwork n .routes) channels-kept routes-kept next
+  trimmed-joins few next =
+      joins-same n (n .version) (trimmedNetwork n .channels) (trimmedNetwork n .routes) (channels-kept few)
+      (routes-kept few) next
 
 pub trimmed-refusal : (n : Network) → networkRefusal (trimmedNetwork n) ≡ networkRefusal n
 unfolding networkRefusal trimmedNetwork
@@ -59,37 +56,14 @@ trimmed-refusal n =
 
 -- ---- RUN and SEND
 
-run-refusal : (n : Network) (st : State) (s code : ℕ) → runRefusal (trimmedNetwork n) st s code ≡ runRefusal n st s code
-unfolding runRefusal inRange trimmedNetwork
-run-refusal n st s code = rw (trimmed-refusal n) refl
+module _ (n : Network) where
+  pub trimmed-ran : (st : State) (s code : ℕ) → ran (trimmedNetwork n) st s code ≡ ran n st s code
+  unfolding trimmedNetwork
+  trimmed-ran = alike-ran n _ _ _ (channels-kept n) (routes-kept n) (trimmed-refusal n)
 
-send-refusal : (n : Network) (st : State) (s X : ℕ) → sendRefusal (trimmedNetwork n) st s X ≡ sendRefusal n st s X
-unfolding sendRefusal inRange trimmedNetwork
-send-refusal n st s X = rw (trimmed-refusal n) refl
-
-runs-same : (n : Network) (st : State) (s code : ℕ) → runRefusal n st s code ≡ 0
-    → runs (trimmedNetwork n) st s code ≡ runs n st s code
-unfolding trimmedNetwork
-runs-same n st s code h =
-    let w = run-passes n st s code h in
-    let few = valid-ok n (w .network) .few in
-    let n′ = trimmedNetwork n in
-    let left : Stepped → AfterRun =
-    λ r. record { answer = r .answer; state = record { sites = r .sites; counter = st .counter } } in
-    ap left
-    (run-same n (n′ .channels) (n′ .routes) (channels-kept n few) (routes-kept n few) s (w .site) (st .sites) few
-    (seek-set n st s few (w .range) (w .site)) code)
-
-pub trimmed-ran : (n : Network) (st : State) (s code : ℕ) → ran (trimmedNetwork n) st s code ≡ ran n st s code
-unfolding ran
-trimmed-ran n st s code =
-    rw (run-refusal n st s code)
-    (either-way (eqb (runRefusal n st s code) 0)
-    (λ e. rw e (runs-same n st s code (eqb-true (runRefusal n st s code) 0 e))) (λ e. rw e refl))
-
-pub trimmed-sent : (n : Network) (st : State) (s X : ℕ) → sent (trimmedNetwork n) st s X ≡ sent n st s X
-unfolding sent
-trimmed-sent n st s X = rw (send-refusal n st s X) refl
+  pub trimmed-sent : (st : State) (s X : ℕ) → sent (trimmedNetwork n) st s X ≡ sent n st s X
+  unfolding trimmedNetwork
+  trimmed-sent = alike-sent n _ _ _ (channels-kept n) (routes-kept n) (trimmed-refusal n)
 
 -- ---- a stored run
 
@@ -164,22 +138,11 @@ module _ (r : StoredRun) (h : storedRefusal r ≡ 0) where
   unfolding script trimmed
   trimmed-script = rw (script-to (r .draws), sends-at (r .draws)) refl
 
-module _ (n : Network) where
-  step-same : (g : Played) (d : ℕ) (e : Event) → advanceSingly (trimmedNetwork n) g d e ≡ advanceSingly n g d e
-  step-same g d (Send s X) = ap (λ (w : AfterSend). sendPlayed g X w (w .answer)) (trimmed-sent n (g .state) s X)
-  step-same g d (Run s code) = ap (runPlayed g d) (trimmed-ran n (g .state) s code)
-
-  singly-same : (g : Played) (es : List Timed) → playedSingly (trimmedNetwork n) g es ≡ playedSingly n g es
-  unfolding playedSingly
-  singly-same g [] = refl
-  singly-same g (e ∷ es) =
-      ap (λ (w : Played). playedSingly (trimmedNetwork n) w es) (step-same g (e .draw) (e .event))
-      ∙ singly-same (advanceSingly n g (e .draw) (e .event)) es
-
 pub trimmed-played : (r : StoredRun) → storedRefusal r ≡ 0 → playedRun (trimmed r) ≡ playedRun r
-unfolding trimmed
+unfolding trimmed trimmedNetwork
 trimmed-played r h =
+    let n = r .network in
     played-singly (trimmed r) (trimmed-stored r ∙ h)
-    ∙ ap (playedSingly (trimmedNetwork (r .network)) unplayed) (trimmed-script r h)
-    ∙ singly-same (r .network) unplayed (script r)
+    ∙ ap (playedSingly (trimmedNetwork n) unplayed) (trimmed-script r h)
+    ∙ alike-singly n _ _ _ (channels-kept n) (routes-kept n) (trimmed-refusal n) unplayed (script r)
     ∙ sym (played-singly r h)

@@ -15,7 +15,7 @@ use Rattle.checks.specs.Sends.{drawBefore, sendAfter, sendIn}
 use Rattle.checks.proofs.SendsLaws.{draw-next}
 use Rattle.archive.proofs.Holds.{part-ends}
 use Rattle.archive.proofs.Parts.{length-send}
-use Rattle.archive.proofs.Put.{sends-none, sends-turn, length-put, put-parts}
+use Rattle.archive.proofs.Put.{sends-none, sends-turn, length-put, put-head, put-parts}
 use Rattle.archive.proofs.Answers.{few-sends, front-refused, sends-tested, run-tested, sends-failed, write-no}
 use Rattle.archive.proofs.Answers.{write-short, write-yes}
 use Rattle.archive.proofs.writer.write.Statement.{statement}
@@ -278,7 +278,7 @@ returns-4 c =
     let e : l2 .m ≡ r .count = omega arith in
     let sent = rw e at (l2 .inv .2) in
     write-yes r _ _ _ ok (omega (arith, if3, size)) size
-    (put-parts r _ _ _ _ _ _ _ size refl refl refl (put-front .ensures) sent)
+    (put-parts r _ _ _ _ _ (put-head r _ _ _ _ size refl refl) refl (put-front .ensures) sent)
 
 pub write-spec : {M : Type 1} → statement M
 write-spec =
