@@ -4,7 +4,7 @@ use mathlib.Core.Path.{_≡_, refl, sym, ap, _∙_}
 use mathlib.Core.Logic.{_⊎_, ⊎-elim}
 use mathlib.Core.Bool.{cond}
 use mathlib.Core.List.{List, [], _∷_, _++_}
-use Prim.Native.Nat.{ℕ, suc, _+_, _*_, _/_, _%_, _≤_, _<_}
+use Prim.Native.Nat.{ℕ, suc, _+_, _*_, _%_, _≤_, _<_}
 use native.Mathlib.Numerals.{add-one}
 use native.Mathlib.Omega.{arith}
 use borrow.Author.Tests.{eq-eqb, ne-eqb}
@@ -45,49 +45,10 @@ put-four out p x y z w h =
     let e3 : p + 3 ≡ suc (suc (suc p)) = omega arith in
     rw (e1, e2, e3) (put-sets out p (x ∷ y ∷ z ∷ w ∷ []) h)
 
-pub put-ten : (out : List ℕ) (p a b c d e f g h i j : ℕ) → p + 10 ≤ length out
-    → set (set (set (set (set (set (set (set (set (set out p a) (p + 1) b) (p + 2) c) (p + 3) d) (p + 4) e) (p + 5) f)
-    (p + 6) g) (p + 7) h) (p + 8) i) (p + 9) j
-    ≡ put out p (a ∷ b ∷ c ∷ d ∷ e ∷ f ∷ g ∷ h ∷ i ∷ j ∷ [])
-put-ten out p a b c d e f g h i j l =
-    let e1 : p + 1 ≡ suc p = omega arith in
-    let e2 : p + 2 ≡ suc (suc p) = omega arith in
-    let e3 : p + 3 ≡ suc (suc (suc p)) = omega arith in
-    let e4 : p + 4 ≡ suc (suc (suc (suc p))) = omega arith in
-    let e5 : p + 5 ≡ suc (suc (suc (suc (suc p)))) = omega arith in
-    let e6 : p + 6 ≡ suc (suc (suc (suc (suc (suc p))))) = omega arith in
-    let e7 : p + 7 ≡ suc (suc (suc (suc (suc (suc (suc p)))))) = omega arith in
-    let e8 : p + 8 ≡ suc (suc (suc (suc (suc (suc (suc (suc p))))))) = omega arith in
-    let e9 : p + 9 ≡ suc (suc (suc (suc (suc (suc (suc (suc (suc p)))))))) = omega arith in
-    rw (e1, e2, e3, e4, e5, e6, e7, e8, e9) (put-sets out p (a ∷ b ∷ c ∷ d ∷ e ∷ f ∷ g ∷ h ∷ i ∷ j ∷ []) l)
-
 pub length-put : (out : List ℕ) (p : ℕ) (xs : List ℕ) → p + length xs ≤ length out → length (put out p xs) ≡ length out
 length-put out p xs h = ap length (sym (put-sets out p xs h)) ∙ length-sets out p xs
 
--- one byte behind bytes that were put there
-pub put-byte : (out a : List ℕ) (p q : ℕ) (xs : List ℕ) (x : ℕ) → a ≡ put out p xs → q ≡ p + length xs
-    → q + 1 ≤ length out → set a q x ≡ put out p (xs ++ (x ∷ []))
-put-byte out a p q xs x e h l =
-    let n : length a ≡ length out = ap length e ∙ length-put out p xs (omega arith) in
-    put-sets a q (x ∷ []) (omega arith) ∙ put-append out a p q xs (x ∷ []) (omega arith) e h
-
--- ---- the start and a channel, as their version has them
-
-module _ (out : List ℕ) (v edition size : ℕ) (l : sitesPlace v ≤ length out) where
-  abbrev stored : List ℕ
-  stored = set (set (set out 0 (size / 256 % 256)) 1 (size % 256)) 2 v
-
-  pub start-first : v ≡ 1 → stored ≡ put out 0 (startWith v edition size)
-  start-first e =
-      let one = eq-eqb v 1 e in
-      let m : 3 ≤ length out = rw one at l in
-      rw one (put-sets out 0 (size / 256 % 256 ∷ size % 256 ∷ v ∷ []) m)
-
-  pub start-later : (v ≡ 1 → ⊥) → set stored 3 edition ≡ put out 0 (startWith v edition size)
-  start-later e =
-      let other = ne-eqb v 1 e in
-      let m : 4 ≤ length out = rw other at l in
-      rw other (put-sets out 0 (size / 256 % 256 ∷ size % 256 ∷ v ∷ edition ∷ []) m)
+-- ---- a channel, as its version has it
 
 -- the low byte of none is 255
 low-byte : (x : ℕ) → (x ≡ noChannel) ⊎ (x < 255) → x % 256 ≡ cond (eqb x noChannel) 255 x

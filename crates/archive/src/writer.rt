@@ -65,13 +65,12 @@ pub(crate) fn put_start(out: &mut [u8], version: u8, edition: u8, size: usize)
     requires { ⌜ sitesPlace version ≤ length (now out) ⌝ }
     ensures { λ _. ⌜ now (out .exit) ≡ put (now (out .entry)) 0 (startWith version edition size) ⌝ }
 {
-    out[0] = (size / 256 % 256) as u8;
-    out[1] = (size % 256) as u8;
-    out[2] = version;
+    put_word(out, 0, size as u64);
+    put_byte(out, 2, version);
     if version == 1 {
         return;
     }
-    out[3] = edition;
+    put_byte(out, 3, edition);
 }
 
 pub(crate) fn put_fields(
@@ -87,16 +86,12 @@ pub(crate) fn put_fields(
     requires { ⌜ (p + 10 ≤ length (now out)) × (sites < 256) × (depth < 256) × (count < 256) ⌝ }
     ensures { λ _. ⌜ now (out .exit) ≡ put (now (out .entry)) p (fieldsWith sites tries depth seed draws count) ⌝ }
 {
-    out[p] = sites as u8;
-    out[p + 1] = tries;
-    out[p + 2] = depth as u8;
-    out[p + 3] = (seed / 16777216 % 256) as u8;
-    out[p + 4] = (seed / 65536 % 256) as u8;
-    out[p + 5] = (seed / 256 % 256) as u8;
-    out[p + 6] = (seed % 256) as u8;
-    out[p + 7] = (draws / 256 % 256) as u8;
-    out[p + 8] = (draws % 256) as u8;
-    out[p + 9] = count as u8;
+    put_byte(out, p, sites as u8);
+    put_byte(out, p + 1, tries);
+    put_byte(out, p + 2, depth as u8);
+    put_quad(out, p + 3, seed as u64);
+    put_word(out, p + 7, draws as u64);
+    put_byte(out, p + 9, count as u8);
 }
 
 // In version 1 the low byte: that of none, 65535, is 255.

@@ -1,134 +1,91 @@
--- `writer::put_fields` meets its contract: ten stores. Assumes nothing.
+-- `writer::put_fields` meets its contract: six parts, one behind the other. Assumes nothing.
+use mathlib.Core.Path.{refl, _∙_}
 use native.Mathlib.Omega.{arith}
-use lib.ListN.{length-set}
-use Rattle.archive.proofs.Put.{put-ten}
+use Rattle.base.specs.Put.{put-append}
 use borrow.Author.Needs.{needs}
 use Rattle.archive.proofs.writer.put_fields.Statement.{statement}
 use Rattle.archive.proofs.writer.put_fields.Tie as tie
 use Rattle.archive.proofs.writer.put_fields.Reads as reads
 use Rattle.archive.proofs.writer.put_fields.Lts as lts
+use Rattle.archive.proofs.writer.put_byte.Reads as put-byte-reads
+use Rattle.archive.proofs.writer.put_quad.Reads as put-quad-reads
+use Rattle.archive.proofs.writer.put_word.Reads as put-word-reads
 
-cast-out : tie.Need-cast-out
-cast-out c = search needs
+cast-put-byte : tie.Need-cast-put-byte
+cast-put-byte c = search needs
 
-slice-write-out : tie.Need-slice-write-out
-slice-write-out c = search needs
+put-byte-requires : tie.Need-put-byte-requires
+put-byte-requires c κs = search needs
 
-add-out : tie.Need-add-out
-add-out c = search needs
+add-put-byte : tie.Need-add-put-byte
+add-put-byte c = search needs
 
-slice-write-out-2 : tie.Need-slice-write-out-2
-slice-write-out-2 c = simp length-set (omega arith)
+put-byte-requires-2 : tie.Need-put-byte-requires-2
+put-byte-requires-2 c κs = search needs
 
-cast-out-2 : tie.Need-cast-out-2
-cast-out-2 c = search needs
+add-put-byte-2 : tie.Need-add-put-byte-2
+add-put-byte-2 c = search needs
 
-add-out-2 : tie.Need-add-out-2
-add-out-2 c = search needs
+cast-put-byte-2 : tie.Need-cast-put-byte-2
+cast-put-byte-2 c = search needs
 
-slice-write-out-3 : tie.Need-slice-write-out-3
-slice-write-out-3 c = simp length-set (omega arith)
+put-byte-requires-3 : tie.Need-put-byte-requires-3
+put-byte-requires-3 c κs = search needs
 
-cast-out-3 : tie.Need-cast-out-3
-cast-out-3 c = search needs
+add-put-quad : tie.Need-add-put-quad
+add-put-quad c = search needs
 
-add-out-3 : tie.Need-add-out-3
-add-out-3 c = search needs
+put-quad-requires : tie.Need-put-quad-requires
+put-quad-requires c κs = search needs
 
-slice-write-out-4 : tie.Need-slice-write-out-4
-slice-write-out-4 c = simp length-set (omega arith)
+add-put-word : tie.Need-add-put-word
+add-put-word c = search needs
 
-cast-out-4 : tie.Need-cast-out-4
-cast-out-4 c = search needs
+put-word-requires : tie.Need-put-word-requires
+put-word-requires c κs = search needs
 
-add-out-4 : tie.Need-add-out-4
-add-out-4 c = search needs
+add-put-byte-3 : tie.Need-add-put-byte-3
+add-put-byte-3 c = search needs
 
-slice-write-out-5 : tie.Need-slice-write-out-5
-slice-write-out-5 c = simp length-set (omega arith)
+cast-put-byte-3 : tie.Need-cast-put-byte-3
+cast-put-byte-3 c = search needs
 
-cast-out-5 : tie.Need-cast-out-5
-cast-out-5 c = search needs
-
-add-out-5 : tie.Need-add-out-5
-add-out-5 c = search needs
-
-slice-write-out-6 : tie.Need-slice-write-out-6
-slice-write-out-6 c = simp length-set (omega arith)
-
-cast-out-6 : tie.Need-cast-out-6
-cast-out-6 c = search needs
-
-add-out-6 : tie.Need-add-out-6
-add-out-6 c = search needs
-
-slice-write-out-7 : tie.Need-slice-write-out-7
-slice-write-out-7 c = simp length-set (omega arith)
-
-cast-out-7 : tie.Need-cast-out-7
-cast-out-7 c = search needs
-
-add-out-7 : tie.Need-add-out-7
-add-out-7 c = search needs
-
-slice-write-out-8 : tie.Need-slice-write-out-8
-slice-write-out-8 c = simp length-set (omega arith)
-
-cast-out-8 : tie.Need-cast-out-8
-cast-out-8 c = search needs
-
-add-out-8 : tie.Need-add-out-8
-add-out-8 c = search needs
-
-slice-write-out-9 : tie.Need-slice-write-out-9
-slice-write-out-9 c = simp length-set (omega arith)
-
-cast-out-9 : tie.Need-cast-out-9
-cast-out-9 c = search needs
-
-add-out-9 : tie.Need-add-out-9
-add-out-9 c = search needs
-
-slice-write-out-10 : tie.Need-slice-write-out-10
-slice-write-out-10 c = simp length-set (omega arith)
+put-byte-requires-4 : tie.Need-put-byte-requires-4
+put-byte-requires-4 c κs = search needs
 
 same-length : tie.Need-same-length
-same-length c = simp length-set (omega arith)
+same-length c = search needs
 
 returns : tie.Need-returns
-returns c = put-ten _ _ _ _ _ _ _ _ _ _ _ _ (c .pre .0)
+returns c =
+    let past = c .before .before .before .before .before .before in
+    let past2 = past .before .before .before .before .before .before in
+    let past3 = past2 .before .before .before .before .before .before in
+    let sites = past3 .before .before .before .before .put-byte .ensures in
+    let tries = past3 .put-byte2 .ensures ∙ put-append _ _ _ _ _ _ (omega arith) sites refl in
+    let depth = past2 .before .before .put-byte3 .ensures ∙ put-append _ _ _ _ _ _ (omega arith) tries refl in
+    let quad = past .before .before .before .before .put-quad .ensures in
+    let seed = quad ∙ put-append _ _ _ _ _ _ (omega arith) depth refl in
+    let draws = past .put-word .ensures ∙ put-append _ _ _ _ _ _ (omega arith) seed refl in
+    c .before .before .put-byte4 .ensures ∙ put-append _ _ _ _ _ _ (omega arith) draws refl
 
 pub put-fields-spec : {M : Type 1} → statement M
 put-fields-spec =
     tie.close
     (tie.spec
-    cast-out
-    slice-write-out
-    add-out
-    slice-write-out-2
-    cast-out-2
-    add-out-2
-    slice-write-out-3
-    cast-out-3
-    add-out-3
-    slice-write-out-4
-    cast-out-4
-    add-out-4
-    slice-write-out-5
-    cast-out-5
-    add-out-5
-    slice-write-out-6
-    cast-out-6
-    add-out-6
-    slice-write-out-7
-    cast-out-7
-    add-out-7
-    slice-write-out-8
-    cast-out-8
-    add-out-8
-    slice-write-out-9
-    cast-out-9
-    add-out-9
-    slice-write-out-10
+    cast-put-byte
+    put-byte-requires
+    add-put-byte
+    put-byte-requires-2
+    add-put-byte-2
+    cast-put-byte-2
+    put-byte-requires-3
+    add-put-quad
+    put-quad-requires
+    add-put-word
+    put-word-requires
+    add-put-byte-3
+    cast-put-byte-3
+    put-byte-requires-4
     same-length
     returns)

@@ -1,63 +1,57 @@
--- `writer::put_start` meets its contract: three stores, four in version 2. Assumes nothing.
-use lib.ListN.{length-set}
+-- `writer::put_start` meets its contract: two parts, three in version 2. Assumes nothing.
+use mathlib.Core.Path.{refl, _∙_}
 use native.Mathlib.Omega.{arith}
-use borrow.Author.Tests.{ne-eqb}
-use Rattle.archive.proofs.Put.{start-first, start-later}
+use borrow.Author.Tests.{eq-eqb, ne-eqb}
+use Rattle.base.specs.Put.{put-append}
 use borrow.Author.Needs.{needs}
 use Rattle.archive.proofs.writer.put_start.Statement.{statement}
 use Rattle.archive.proofs.writer.put_start.Tie as tie
 use Rattle.archive.proofs.writer.put_start.Reads as reads
 use Rattle.archive.proofs.writer.put_start.Lts as lts
+use Rattle.archive.proofs.writer.put_byte.Reads as put-byte-reads
+use Rattle.archive.proofs.writer.put_word.Reads as put-word-reads
 
-cast-out : tie.Need-cast-out
-cast-out c = search needs
+put-word-requires : tie.Need-put-word-requires
+put-word-requires c κs = search needs
 
-slice-write-out : tie.Need-slice-write-out
-slice-write-out c = search needs
-
-cast-out-2 : tie.Need-cast-out-2
-cast-out-2 c = search needs
-
-slice-write-out-2 : tie.Need-slice-write-out-2
-slice-write-out-2 c = simp length-set (omega (arith, c .pre))
-
-slice-write-out-3 : tie.Need-slice-write-out-3
-slice-write-out-3 c = simp length-set (omega (arith, c .pre))
+put-byte-requires : tie.Need-put-byte-requires
+put-byte-requires c κs = search needs
 
 same-length : tie.Need-same-length
 same-length c = search needs
 
 returns : tie.Need-returns
 returns c =
-    let args = c .before .args in
-    let pre = c .before .pre in
-    let if1 = c .if1 in
-    start-first _ (args .version) (args .edition) (args .size) (pre) (if1 .taken)
+    let past = c .before .before .before .before .before .before in
+    let size = past .before .put-word .ensures in
+    let version = c .before .before .before .put-byte .ensures in
+    rw (eq-eqb _ _ (c .if1 .taken)) (version ∙ put-append _ _ _ _ _ _ (omega arith) size refl)
 
-slice-write-out-4 : tie.Need-slice-write-out-4
-slice-write-out-4 c = simp length-set (omega (arith, rw (ne-eqb _ _ (c .if1 .left)) at (c .before .pre)))
+put-byte-requires-2 : tie.Need-put-byte-requires-2
+put-byte-requires-2 c κs =
+    let past = c .before .before .before .before .before .before in
+    omega (arith, rw (ne-eqb _ _ (c .before .if1 .left)) at (past .before .before .before .before .before .pre))
 
 same-length-2 : tie.Need-same-length-2
 same-length-2 c = search needs
 
 returns-2 : tie.Need-returns-2
 returns-2 c =
-    let args = c .before .args in
-    let pre = c .before .pre in
-    let if1 = c .if1 in
-    start-later _ (args .version) (args .edition) (args .size) (pre) (if1 .left)
+    let past = c .before .before .before .before .before .before in
+    let size = past .before .before .before .before .before .put-word .ensures in
+    let version = past .before .put-byte .ensures ∙ put-append _ _ _ _ _ _ (omega arith) size refl in
+    let edition = c .before .before .put-byte2 .ensures in
+    rw (ne-eqb _ _ (c .before .before .before .before .if1 .left))
+    (edition ∙ put-append _ _ _ _ _ _ (omega arith) version refl)
 
 pub put-start-spec : {M : Type 1} → statement M
 put-start-spec =
     tie.close
     (tie.spec
-    cast-out
-    slice-write-out
-    cast-out-2
-    slice-write-out-2
-    slice-write-out-3
+    put-word-requires
+    put-byte-requires
     same-length
     returns
-    slice-write-out-4
+    put-byte-requires-2
     same-length-2
     returns-2)
