@@ -1,7 +1,7 @@
 -- The test by bytes that no channel before channel m is the same is the model's, in both versions. It counts only where
 -- channel m is an input of the network, so below 256: then equal channels are equal bytes, whatever the others are.
 -- Assumes nothing.
-use mathlib.Core.Path.{_≡_, refl, sym, ap, ap₂, _∙_}
+use mathlib.Core.Path.{_≡_, refl, sym, ap, _∙_}
 use mathlib.Core.Bool.{Bool, true, false, cond, not, _&&_, _||_}
 use mathlib.Core.List.{List}
 use Prim.Native.Nat.{ℕ, _+_, _*_, _<_}
@@ -55,53 +55,66 @@ pairs-alike h l high low k = go (eqb h high) (eqb l low) refl refl
         let a = eqb-false h high es in
         ap not (ne-eqb (pairChannel h l) (pairChannel high low) (λ e. a (omega arith)))
 
--- ---- over the version: t is whether it is 1
-
-abbrev placeBy : Bool → ℕ → ℕ
-placeBy t i = 13 + cond t 0 1 + cond t 1 2 * i
-
-abbrev channelBy : Bool → List ℕ → ℕ → ℕ
-channelBy t b i =
-    cond t (byteChannel (at b (placeBy t i))) (pairChannel (at b (placeBy t i)) (at b (placeBy t i + 1)))
+-- ---- in each version
 
 module _ (b : List ℕ) where
-  byte-by : (i : ℕ) → channelBy true b i ≡ byteChannel (at b (13 + i))
-  byte-by i = ap (λ (p : ℕ). byteChannel (at b p)) (omega arith)
+  byte-held : (m : ℕ) → channelIn 1 b (channelPlace 1 m) < 256
+      → all (λ i. not (eqb (channelIn 1 b (channelPlace 1 i)) (channelIn 1 b (channelPlace 1 m)))) m
+      ≡ all (byteDiffers b (at b (channelPlace 1 m))) m
+  byte-held m h =
+      all-same (λ i. not (eqb (channelIn 1 b (channelPlace 1 i)) (channelIn 1 b (channelPlace 1 m))))
+      (byteDiffers b (at b (channelPlace 1 m))) m
+      (λ i l. bytes-alike (at b (channelPlace 1 i)) (at b (channelPlace 1 m)) h)
 
-  pair-by : (i : ℕ) → channelBy false b i ≡ pairChannel (at b (14 + 2 * i)) (at b (15 + 2 * i))
-  pair-by i = ap₂ (λ (p q : ℕ). pairChannel (at b p) (at b q)) (omega arith) (omega arith)
+  pair-held : (m : ℕ) → channelIn 2 b (channelPlace 2 m) < 256
+      → all (λ i. not (eqb (channelIn 2 b (channelPlace 2 i)) (channelIn 2 b (channelPlace 2 m)))) m
+      ≡ all (pairDiffers b (at b (channelPlace 2 m)) (at b (channelPlace 2 m + 1))) m
+  pair-held m h =
+      all-same (λ i. not (eqb (channelIn 2 b (channelPlace 2 i)) (channelIn 2 b (channelPlace 2 m))))
+      (pairDiffers b (at b (channelPlace 2 m)) (at b (channelPlace 2 m + 1))) m
+      (λ i l.
+      pairs-alike (at b (channelPlace 2 i)) (at b (channelPlace 2 i + 1)) (at b (channelPlace 2 m))
+      (at b (channelPlace 2 m + 1)) h)
 
-  first-by : (t : Bool) (m : ℕ) → channelBy t b m < 256
-      → all (λ i. not (eqb (channelBy t b i) (channelBy t b m))) m
-      ≡ cond t (all (byteDiffers b (at b (13 + m))) m)
-      (all (pairDiffers b (at b (14 + 2 * m)) (at b (15 + 2 * m))) m)
-  first-by true m h =
-      all-same (λ i. not (eqb (channelBy true b i) (channelBy true b m))) (byteDiffers b (at b (13 + m))) m
-      (λ i l.
-      ap₂ (λ (x y : ℕ). not (eqb x y)) (byte-by i) (byte-by m)
-      ∙ bytes-alike (at b (13 + i)) (at b (13 + m)) (omega (arith, byte-by m)))
-  first-by false m h =
-      all-same (λ i. not (eqb (channelBy false b i) (channelBy false b m)))
-      (pairDiffers b (at b (14 + 2 * m)) (at b (15 + 2 * m))) m
-      (λ i l.
-      ap₂ (λ (x y : ℕ). not (eqb x y)) (pair-by i) (pair-by m)
-      ∙ pairs-alike (at b (14 + 2 * i)) (at b (15 + 2 * i)) (at b (14 + 2 * m)) (at b (15 + 2 * m))
-      (omega (arith, pair-by m)))
+  -- t is whether the version is 1
+  held-by : (v m : ℕ) (t : Bool) → eqb v 1 ≡ t → channelIn v b (channelPlace v m) < 256
+      → all (λ i. not (eqb (channelIn v b (channelPlace v i)) (channelIn v b (channelPlace v m)))) m ≡ isFirst v b m
+  unfolding isFirst
+  held-by v m true e h = rw e (byte-held m (rw e at h))
+  held-by v m false e h = rw e (pair-held m (rw e at h))
 
   first-held : (v m : ℕ) → channelIn v b (channelPlace v m) < 256
       → all (λ i. not (eqb (channelIn v b (channelPlace v i)) (channelIn v b (channelPlace v m)))) m ≡ isFirst v b m
-  unfolding isFirst
-  first-held v m h = first-by (eqb v 1) m h
+  first-held v m h = held-by v m (eqb v 1) refl h
+
+-- ---- the same at the places as the code has them
+
+byte-place : (i : ℕ) → 13 + i ≡ channelPlace 1 i
+byte-place i = omega arith
+
+low-place : (i : ℕ) → 15 + 2 * i ≡ channelPlace 2 i + 1
+low-place i = omega arith
+
+-- what a turn of each loop adds
+pub byte-turn : (b : List ℕ) (byte i : ℕ) → not (eqb (at b (13 + i)) byte) ≡ byteDiffers b byte i
+byte-turn b byte i = ap (λ (p : ℕ). not (eqb (at b p) byte)) (byte-place i)
+
+pub pair-turn : (b : List ℕ) (high low i : ℕ)
+    → not (eqb (at b (14 + 2 * i)) high) || not (eqb (at b (15 + 2 * i)) low) ≡ pairDiffers b high low i
+pair-turn b high low i =
+    ap (λ (p : ℕ). not (eqb (at b (14 + 2 * i)) high) || not (eqb (at b p) low)) (low-place i)
 
 -- what the loop of each version answered, r
 module _ (v : ℕ) (b : List ℕ) (m : ℕ) (r : Bool) where
   pub bytes-first : v ≡ 1 → r ≡ all (byteDiffers b (at b (13 + m))) m → r ≡ isFirst v b m
   unfolding isFirst
-  bytes-first e er = rw (eq-eqb v 1 e) er
+  bytes-first e er = rw (eq-eqb v 1 e) (er ∙ ap (λ (p : ℕ). all (byteDiffers b (at b p)) m) (byte-place m))
 
   pub pairs-first : (v ≡ 1 → ⊥) → r ≡ all (pairDiffers b (at b (14 + 2 * m)) (at b (15 + 2 * m))) m → r ≡ isFirst v b m
   unfolding isFirst
-  pairs-first e er = rw (ne-eqb v 1 e) er
+  pairs-first e er =
+      rw (ne-eqb v 1 e)
+      (er ∙ ap (λ (p : ℕ). all (pairDiffers b (at b (channelPlace 2 m)) (at b p)) m) (low-place m))
 
 -- ---- the model's test of channel m, with what was said of it: an input of the network, no channel before is the same
 

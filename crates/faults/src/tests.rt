@@ -23,7 +23,7 @@ fn channel_at(b: &[u8], version: u8, m: usize) -> u16
 
 // Version 1: no byte before channel m's is this one. All of them are looked at, some at a time.
 fn byte_is_first(b: &[u8], m: usize, byte: u8) -> bool
-    requires { ⌜ 13 + m ≤ length (now b) ⌝ }
+    requires { ⌜ channelPlace 1 m ≤ length (now b) ⌝ }
     ensures { λ r. ⌜ r ≡ all (byteDiffers (now (b .entry)) byte) m ⌝ }
 {
     let mut is_new = true;
@@ -37,7 +37,7 @@ fn byte_is_first(b: &[u8], m: usize, byte: u8) -> bool
 
 // Version 2: no two bytes before channel m's are these.
 fn pair_is_first(b: &[u8], m: usize, high: u8, low: u8) -> bool
-    requires { ⌜ 14 + 2 * m ≤ length (now b) ⌝ }
+    requires { ⌜ channelPlace 2 m ≤ length (now b) ⌝ }
     ensures { λ r. ⌜ r ≡ all (pairDiffers (now (b .entry)) high low) m ⌝ }
 {
     let mut is_new = true;

@@ -1,9 +1,10 @@
 -- `tests::byte_is_first` meets its contract: the byte of every channel before is compared. Assumes nothing.
-use mathlib.Core.Path.{_≡_, refl, sym}
+use mathlib.Core.Path.{_≡_, sym}
 use Prim.Native.Nat.{_-_, _≤_}
 use native.Mathlib.Omega.{arith}
 use Rattle.base.specs.All.{all, all-none, all-next, all-end}
 use Rattle.faults.specs.Channels.{byteDiffers}
+use Rattle.faults.proofs.Fed.{byte-turn}
 use Rattle.faults.proofs.tests.byte_is_first.Statement.{statement}
 use Rattle.faults.proofs.tests.byte_is_first.Tie as tie
 use Rattle.faults.proofs.tests.byte_is_first.Reads as reads
@@ -33,7 +34,8 @@ loop-less c = omega arith
 loop-again : tie.Need-loop-again Inv-loop μ-loop
 loop-again c =
     let loop = c .before .before .loop in
-    (omega arith, all-next _ (loop .i) _ _ (loop .inv .1) refl)
+    let args = c .before .before .before .args in
+    (omega arith, all-next _ (loop .i) _ _ (loop .inv .1) (byte-turn (args .b .now) (args .byte) (loop .i)))
 
 returns : tie.Need-returns Inv-loop μ-loop
 returns c =
