@@ -88,49 +88,52 @@ pub(crate) fn show_written(label: &[u8], w: archive::Written) {
     io::write_all(STDOUT_FILENO, b"\n");
 }
 
-// Run R with one byte changed, as the reader judges it.
-fn show_changed(label: &[u8], i: usize, v: u8) {
-    if i < 24 {
-        let mut b = R;
+// The bytes with one of them changed, as the reader judges them; then as they were.
+pub(crate) fn show_changed(label: &[u8], b: &mut [u8], i: usize, v: u8) {
+    if i < b.len() {
+        let was = b[i];
         b[i] = v;
-        show(label, archive::check(&b) as u64);
+        show(label, archive::check(b) as u64);
+        b[i] = was;
     }
 }
 
 fn lengths() {
-    let b = R;
+    let mut b = R;
     show(b"24 bytes", archive::check(&b) as u64);
     show(b"23 bytes", archive::check(&b[..23]) as u64);
     show(b"12 bytes", archive::check(&b[..12]) as u64);
     show(b"no bytes", archive::check(&b[..0]) as u64);
     let long = io::large_buffer();
     show(b"65536 bytes", archive::check(&long) as u64);
-    show_changed(b"length 25", 1, 25);
+    show_changed(b"length 25", &mut b, 1, 25);
 }
 
 fn heads() {
-    show_changed(b"version 2", 2, 2);
-    show_changed(b"S 0", 3, 0);
-    show_changed(b"S 16, 24 bytes", 3, 16);
-    show_changed(b"S 17", 3, 17);
-    show_changed(b"T 0", 4, 0);
-    show_changed(b"T 255", 4, 255);
-    show_changed(b"D 0", 5, 0);
-    show_changed(b"D 8", 5, 8);
-    show_changed(b"D 9", 5, 9);
-    show_changed(b"seed 0", 9, 0);
-    show_changed(b"N 2", 12, 2);
+    let mut b = R;
+    show_changed(b"version 2", &mut b, 2, 2);
+    show_changed(b"S 0", &mut b, 3, 0);
+    show_changed(b"S 16, 24 bytes", &mut b, 3, 16);
+    show_changed(b"S 17", &mut b, 3, 17);
+    show_changed(b"T 0", &mut b, 4, 0);
+    show_changed(b"T 255", &mut b, 4, 255);
+    show_changed(b"D 0", &mut b, 5, 0);
+    show_changed(b"D 8", &mut b, 5, 8);
+    show_changed(b"D 9", &mut b, 5, 9);
+    show_changed(b"seed 0", &mut b, 9, 0);
+    show_changed(b"N 2", &mut b, 12, 2);
 }
 
 fn bodies() {
-    show_changed(b"channel 3", 13, 3);
-    show_changed(b"channel 4", 13, 4);
-    show_changed(b"route 1000", 17, 0x10);
-    show_changed(b"send at site 1", 21, 1);
-    show_changed(b"send to {}", 23, 0);
-    show_changed(b"send to {0,1}", 23, 3);
-    show_changed(b"send before draw 2", 20, 2);
-    show_changed(b"send before draw 3", 20, 3);
+    let mut b = R;
+    show_changed(b"channel 3", &mut b, 13, 3);
+    show_changed(b"channel 4", &mut b, 13, 4);
+    show_changed(b"route 1000", &mut b, 17, 0x10);
+    show_changed(b"send at site 1", &mut b, 21, 1);
+    show_changed(b"send to {}", &mut b, 23, 0);
+    show_changed(b"send to {0,1}", &mut b, 23, 3);
+    show_changed(b"send before draw 2", &mut b, 20, 2);
+    show_changed(b"send before draw 3", &mut b, 20, 3);
 }
 
 // Run R written into rooms of 23, 24 and 26 nines.

@@ -1,6 +1,7 @@
 // Reader and writer on the bounds of version 2, and version and edition in memory. Run R in version 2 stands here.
 use crate::R;
 use crate::show;
+use crate::show_changed;
 use crate::show_same;
 use crate::show_written;
 
@@ -43,15 +44,6 @@ const WIDE: [u8; 35] = [
     0x01,
 ];
 
-// It with one byte changed, as the reader judges it.
-fn show_changed(label: &[u8], i: usize, v: u8) {
-    if i < 35 {
-        let mut b = WIDE;
-        b[i] = v;
-        show(label, archive::check(&b) as u64);
-    }
-}
-
 // It with the two bytes of its first channel.
 fn show_channel(label: &[u8], high: u8, low: u8) {
     let mut b = WIDE;
@@ -81,31 +73,33 @@ fn lengths() {
 }
 
 fn heads() {
-    show_changed(b"version 3", 2, 3);
-    show_changed(b"edition 0", 3, 0);
-    show_changed(b"edition 1", 3, 1);
-    show_changed(b"edition 2", 3, 2);
-    show_changed(b"S 0", 4, 0);
-    show_changed(b"S 64, 35 bytes", 4, 64);
-    show_changed(b"S 65", 4, 65);
-    show_changed(b"T 0", 5, 0);
-    show_changed(b"D 9", 6, 9);
-    show_changed(b"seed 0", 10, 0);
-    show_changed(b"N 0", 13, 0);
+    let mut b = WIDE;
+    show_changed(b"version 3", &mut b, 2, 3);
+    show_changed(b"edition 0", &mut b, 3, 0);
+    show_changed(b"edition 1", &mut b, 3, 1);
+    show_changed(b"edition 2", &mut b, 3, 2);
+    show_changed(b"S 0", &mut b, 4, 0);
+    show_changed(b"S 64, 35 bytes", &mut b, 4, 64);
+    show_changed(b"S 65", &mut b, 4, 65);
+    show_changed(b"T 0", &mut b, 5, 0);
+    show_changed(b"D 9", &mut b, 6, 9);
+    show_changed(b"seed 0", &mut b, 10, 0);
+    show_changed(b"N 0", &mut b, 13, 0);
 }
 
 fn bodies() {
+    let mut b = WIDE;
     show_channel(b"channel 3", 0, 3);
     show_channel(b"channel 4", 0, 4);
     show_channel(b"channel 255", 0, 255);
     show_channel(b"channel 256", 1, 0);
     show_channel(b"channel 65535", 255, 255);
-    show_changed(b"route 1000", 22, 0x10);
-    show_changed(b"send at site 1", 26, 1);
-    show_changed(b"send to {}", 34, 0);
-    show_changed(b"send to {0,63}", 27, 128);
-    show_changed(b"send before draw 2", 25, 2);
-    show_changed(b"send before draw 3", 25, 3);
+    show_changed(b"route 1000", &mut b, 22, 0x10);
+    show_changed(b"send at site 1", &mut b, 26, 1);
+    show_changed(b"send to {}", &mut b, 34, 0);
+    show_changed(b"send to {0,63}", &mut b, 27, 128);
+    show_changed(b"send before draw 2", &mut b, 25, 2);
+    show_changed(b"send before draw 3", &mut b, 25, 3);
 }
 
 // Read, and written into rooms of 34 and 35 nines.
