@@ -1,6 +1,7 @@
-// Reader and writer on the bounds of document 01, and of version 2 (wide). Standard input is the largest archive of version
-// 1, 16 sites and 255 sends, 1,864 bytes; run R stands here. `stdout` is typed from the documents: a line for each case, with
-// the refusal number, 0 for none.
+// Reader and writer on the bounds of document 01, and of version 2 (wide); the moves from one version to the other (moves).
+// Standard input is the largest archive of version 1, 16 sites and 255 sends, 1,864 bytes; run R stands here. `stdout` is
+// typed from the documents: a line for each case, with the refusal number, 0 for none.
+mod moves;
 mod wide;
 
 use libc::STDOUT_FILENO;
@@ -232,4 +233,5 @@ fn main() {
     let n = io::read_full(0, &mut buffer);
     largest(&buffer[..n]);
     wide::cases();
+    moves::cases();
 }

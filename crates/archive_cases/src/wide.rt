@@ -6,7 +6,7 @@ use crate::show_same;
 use crate::show_written;
 
 // Run R: after the version byte an edition byte, four channels of two bytes, a set of eight.
-const WIDE: [u8; 35] = [
+pub(crate) const WIDE: [u8; 35] = [
     0x00,
     0x23,
     0x02,
