@@ -31,9 +31,7 @@ pub struct Run {
 
 /// The run that the bytes hold, or the first refusal of 1, 2, 17, 3 to 8.
 pub fn read(bytes: &[u8]) -> Result<Run, Refusal> {
-    if bytes.len() < FEWEST || number(&bytes[..2]) as usize != bytes.len() {
-        return Err(Refusal::Length);
-    }
+    check_length(bytes)?;
     let version = bytes[VERSION_AT];
     let format = Format::of(version);
     let mut network = Network {
@@ -65,6 +63,12 @@ pub fn read(bytes: &[u8]) -> Result<Run, Refusal> {
     let run = Run { network, seed, draws, sends };
     run.check_sends()?;
     Ok(run)
+}
+
+/// Refusal 1: fewer than 13 bytes, or the length field is not the slice's length.
+pub fn check_length(bytes: &[u8]) -> Result<(), Refusal> {
+    let good = bytes.len() >= FEWEST && number(&bytes[..2]) as usize == bytes.len();
+    good.then_some(()).ok_or(Refusal::Length)
 }
 
 fn check_seed(seed: u32) -> Result<(), Refusal> {

@@ -10,6 +10,7 @@ pub mod draws;
 pub mod faults;
 pub mod format;
 pub mod making;
+pub mod moves;
 pub mod network;
 pub mod owing;
 pub mod player;

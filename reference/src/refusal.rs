@@ -6,7 +6,7 @@
 pub enum Refusal {
     /// Fewer than 13 bytes, or the length field is not the slice's length.
     Length = 1,
-    /// The version is neither 1 nor 2.
+    /// The version is neither 1 nor 2; in a move, not the one that is moved from.
     Version = 2,
     /// S, T or D outside its limits.
     Limits = 3,
@@ -28,6 +28,8 @@ pub enum Refusal {
     Range = 13,
     /// The lent output is too short.
     Room = 14,
+    /// The file can't go back to version 1: more than 16 sites, or an edition other than 1.
+    Back = 15,
     /// The edition is unknown, or not 1 in version 1.
     Edition = 17,
 }

@@ -5,6 +5,8 @@ mod counters;
 mod examples;
 mod helpers;
 mod kept;
+mod moved;
+mod moves;
 mod orders;
 mod ranges;
 mod readings;
