@@ -1,5 +1,5 @@
-//! Fennqualo for Rust: archives, of version 1 and of version 2, played, checked and copied by the proved library, with
-//! Rust's own types.
+//! Fennqualo for Rust: archives, of version 1 and of version 2, played, checked, copied and moved from one version to
+//! the other by the proved library, with Rust's own types.
 //!
 //! A [`Player`] owns the book that it lends to the library, and the functions here make every other buffer themselves,
 //! so no slice is too short, none overlaps another, and none is seen while the library writes it.
@@ -37,11 +37,26 @@ mod library {
             out: *mut u8,
             out_length: usize,
         ) -> u8;
+        pub fn fennqualo_over(
+            archive: *const u8,
+            archive_length: usize,
+            out: *mut u8,
+            out_length: usize,
+        ) -> u8;
+        pub fn fennqualo_back(
+            archive: *const u8,
+            archive_length: usize,
+            out: *mut u8,
+            out_length: usize,
+        ) -> u8;
     }
 }
 
 /// Room for the book of every archive: 255 sends to 64 sites each, 4 bytes a service.
 const BOOK: usize = 4 * 255 * 64;
+/// Room for every archive, and for every one of version 1.
+const ARCHIVE: usize = 11_523;
+const FIRST: usize = 1_864;
 
 /// What is counted over a run.
 #[derive(Clone, Copy, PartialEq, Eq, Debug)]
@@ -135,9 +150,34 @@ pub fn check(archive: &[u8]) -> Result<(), Refusal> {
 
 /// Checks an archive and copies it: the same bytes, in a buffer of their own.
 pub fn copy(archive: &[u8]) -> Result<Vec<u8>, Refusal> {
-    let mut out = vec![0; archive.len()];
+    written(library::fennqualo_copy, archive, archive.len())
+}
+
+/// Moves an archive of version 1 over to version 2: the same run, and [`back`] gives the same bytes again.
+///
+/// An archive of version 2 is refused with [`Refusal::Version`].
+pub fn over(archive: &[u8]) -> Result<Vec<u8>, Refusal> {
+    written(library::fennqualo_over, archive, ARCHIVE)
+}
+
+/// Moves an archive of version 2 back to version 1: the same run, and [`over`] gives the same bytes again.
+///
+/// An archive of version 1 is refused with [`Refusal::Version`], one of more than 16 sites with [`Refusal::Back`].
+pub fn back(archive: &[u8]) -> Result<Vec<u8>, Refusal> {
+    written(library::fennqualo_back, archive, FIRST)
+}
+
+/// What a function of the library writes into room for `most` bytes: an archive, whose first two bytes hold its length.
+fn written(
+    function: unsafe extern "C" fn(*const u8, usize, *mut u8, usize) -> u8,
+    archive: &[u8],
+    most: usize,
+) -> Result<Vec<u8>, Refusal> {
+    let mut out = vec![0; most];
     // SAFETY: two slices that are there; `out` was made here, so the two do not overlap.
-    let answer =
-        unsafe { library::fennqualo_copy(archive.as_ptr(), archive.len(), out.as_mut_ptr(), out.len()) };
-    Refusal::check(answer).map(|()| out)
+    let answer = unsafe { function(archive.as_ptr(), archive.len(), out.as_mut_ptr(), out.len()) };
+    Refusal::check(answer)?;
+    out.truncate(u16::from_be_bytes([out[0], out[1]]).into());
+    out.shrink_to_fit();
+    Ok(out)
 }

@@ -16,13 +16,14 @@ pub enum Refusal {
     Route = 7,
     Send = 8,
     Room = 14,
+    Back = 15,
     Edition = 17,
 }
 
 /// Each refusal in words.
-const WORDS: [(Refusal, &str); 10] = [
+const WORDS: [(Refusal, &str); 11] = [
     (Refusal::Length, "fewer than 13 bytes, or the length field is not the number of bytes"),
-    (Refusal::Version, "the version is neither 1 nor 2"),
+    (Refusal::Version, "the version is neither 1 nor 2, or not the one that is moved from"),
     (Refusal::Edition, "the edition is unknown: it is not 1"),
     (Refusal::Limits, "sites, limit of tries or depth of queues outside their limits"),
     (Refusal::Seed, "the seed is 0"),
@@ -30,11 +31,12 @@ const WORDS: [(Refusal, &str); 10] = [
     (Refusal::Channel, "a channel that names no input, or an input fed twice"),
     (Refusal::Route, "a route not as described"),
     (Refusal::Send, "a send's site, set or draw number impossible, or draw numbers falling"),
+    (Refusal::Back, "it cannot go back to version 1: more than 16 sites, or an edition other than 1"),
     (Refusal::Room, "a lent slice is too short"),
 ];
 
 impl Refusal {
-    /// Its number: 1 to 8, 14 or 17.
+    /// Its number: 1 to 8, 14, 15 or 17.
     pub fn number(self) -> u8 {
         self as u8
     }
