@@ -2,7 +2,8 @@
 //! library.
 
 use crate::guarded::{bytes, copied, numbers, Guarded};
-use crate::judged::Judged;
+use crate::judged::{Judged, Written};
+use reference::archive::LONGEST;
 use reference::making::rng::Rng;
 use reference::player::BOOK;
 
@@ -17,7 +18,12 @@ extern "C" {
     ) -> u8;
     fn fennqualo_check(archive: *const u8, archive_length: usize) -> u8;
     fn fennqualo_copy(archive: *const u8, archive_length: usize, out: *mut u8, out_length: usize) -> u8;
+    fn fennqualo_over(archive: *const u8, archive_length: usize, out: *mut u8, out_length: usize) -> u8;
+    fn fennqualo_back(archive: *const u8, archive_length: usize, out: *mut u8, out_length: usize) -> u8;
 }
+
+/// A function that writes an archive into lent room, by its name.
+type Writer = (&'static str, unsafe extern "C" fn(*const u8, usize, *mut u8, usize) -> u8);
 
 /// One archive handed in again and again; every call is held to what the second model says of it.
 struct Calls<'a> {
@@ -54,7 +60,7 @@ impl Calls<'_> {
         let answer =
             unsafe { fennqualo_play(archive, length, book.lent(rng), room, counts.lent(rng), places) };
         // The book's 14 and that of the counts: the same number, after 1 to 8.
-        let expected = match self.judged.with_room(room, self.judged.room) {
+        let expected = match self.judged.with_book(room) {
             0 if places < 4 => 14,
             answer => answer,
         };
@@ -67,14 +73,17 @@ impl Calls<'_> {
         self.held(&call, counts.holds(four), "the counts, or a number beside them, are not as they must be");
     }
 
-    fn copy(&mut self, room: usize, rng: &mut Rng) {
-        let call = format!("copy with {room} bytes");
+    fn write(&mut self, (name, function): Writer, written: &Written, room: usize, rng: &mut Rng) {
+        let call = format!("{name} with {room} bytes");
         let mut out = bytes(room, rng);
         let archive = self.archive.lent(rng);
-        let answer = unsafe { fennqualo_copy(archive, self.archive.length(), out.lent(rng), room) };
-        let expected = self.judged.with_room(room, self.whole.len());
+        let answer = unsafe { function(archive, self.archive.length(), out.lent(rng), room) };
+        let (expected, front): (u8, &[u8]) = match written {
+            Err(refusal) => (*refusal, &[]),
+            Ok(whole) if room < whole.len() => (14, &[]),
+            Ok(whole) => (0, whole),
+        };
         self.ended(&call, answer, expected);
-        let front = if expected == 0 { self.whole } else { &[] };
         self.held(&call, out.holds(front), "the room, or a byte beside it, is not as it must be");
     }
 }
@@ -99,12 +108,29 @@ pub fn compare(name: &str, whole: &[u8], judged: &Judged, rng: &mut Rng) -> usiz
         calls.play(exact - 1, 3, rng);
     }
     let length = whole.len();
-    calls.copy(length, rng);
-    calls.copy(length + rng.within(1, 70), rng);
-    if length > 0 {
-        calls.copy(length - 1, rng);
-        calls.copy(rng.below(length), rng);
+    let copy: Writer = ("copy", fennqualo_copy);
+    for room in rooms(length, rng) {
+        calls.write(copy, &judged.copied, room, rng);
     }
-    calls.copy(0, rng);
+    let moves: [Writer; 2] = [("over", fennqualo_over), ("back", fennqualo_back)];
+    for (go, written) in moves.into_iter().zip([&judged.over, &judged.back]) {
+        let rooms = match written {
+            Ok(moved) => rooms(moved.len(), rng),
+            Err(_) => vec![rng.pick(&[0, length, LONGEST])],
+        };
+        for room in rooms {
+            calls.write(go, written, room, rng);
+        }
+    }
     calls.made
+}
+
+/// Room for so many bytes: exact, longer, one short, shorter, none.
+fn rooms(length: usize, rng: &mut Rng) -> Vec<usize> {
+    let mut rooms = vec![length, length + rng.within(1, 70)];
+    if length > 0 {
+        rooms.extend([length - 1, rng.below(length)]);
+    }
+    rooms.push(0);
+    rooms
 }

@@ -1,8 +1,8 @@
 //! Tests of the C and Rust library against the second model: `library CORPUS COUNT SEED`.
 //!
-//! Every archive of the folder CORPUS and COUNT fresh ones of SEED, of both versions, a third of them damaged, go through each function
-//! of include/fennqualo.h, with lent slices of many lengths between guards, and through the Rust wrapper. Prints one
-//! line; panics at the first difference, naming the archive and the call.
+//! Every archive of the folder CORPUS and COUNT fresh ones of SEED, of both versions, a third of them damaged, go
+//! through each function of include/fennqualo.h, with lent slices of many lengths between guards, and through the Rust
+//! wrapper. Prints one line; panics at the first difference, naming the archive and the call.
 
 mod calls;
 mod guarded;
@@ -19,6 +19,8 @@ use std::path::Path;
 pub struct Tally {
     archives: usize,
     refused: [usize; 18],
+    over: [usize; 18],
+    back: [usize; 18],
     calls: usize,
     services: u64,
     longest: usize,
@@ -30,6 +32,8 @@ impl Tally {
         let judged = judged::Judged::of(bytes);
         self.archives += 1;
         self.refused[judged.refusal as usize] += 1;
+        self.over[refusal(&judged.over)] += 1;
+        self.back[refusal(&judged.back)] += 1;
         self.services += judged.counts.map_or(0, |counts| counts[2]);
         self.longest = self.longest.max(bytes.len());
         self.calls += calls::compare(name, bytes, &judged, rng);
@@ -37,18 +41,24 @@ impl Tally {
     }
 
     fn print(&self) {
-        for number in (1..=8).chain([17]) {
-            assert!(
-                self.refused[number] > 0,
-                "no archive is refused with {number}: the comparison has a gap"
-            );
+        let Tally { archives, longest, services, calls, over, back, .. } = self;
+        for number in 0..=8 {
+            for (call, met) in [("play", &self.refused), ("over", over), ("back", back)] {
+                assert!(met[number] > 0, "no archive gets {number} of {call}: the comparison has a gap");
+            }
         }
+        let others = self.refused[17] > 0 && back[17] > 0 && back[15] > 0;
+        assert!(others, "no archive is refused with 15 or 17: the comparison has a gap");
         let played = self.refused[0];
-        let refused = self.archives - played;
-        let Tally { archives, longest, services, calls, .. } = self;
+        let refused = archives - played;
         print!("library: {archives} archives of up to {longest} bytes, {played} played with {services} services, ");
-        println!("{refused} refused; {calls} calls, 0 differences");
+        println!("{refused} refused, {} moved over, {} back; {calls} calls, 0 differences", over[0], back[0]);
     }
+}
+
+/// The refusal of a call that writes, or 0.
+fn refusal(written: &judged::Written) -> usize {
+    written.as_ref().err().map_or(0, |&number| number.into())
 }
 
 /// The archives of a folder, by name.

@@ -1,23 +1,18 @@
 //! The safe wrapper (bindings/rust): its types against what the second model says.
 
 use crate::judged::Judged;
-use fennqualo::{Player, Service};
+use fennqualo::{Player, Refusal, Service};
 
 /// Calls each function of the wrapper on an archive, with a player that has played others before; answers how many
 /// calls were made.
 pub fn compare(name: &str, bytes: &[u8], judged: &Judged, player: &mut Player) -> usize {
-    let checked = fennqualo::check(bytes).map_err(|refusal| refusal.number());
-    let copied = fennqualo::copy(bytes).map_err(|refusal| refusal.number());
+    let checked = fennqualo::check(bytes).map_err(Refusal::number);
     let played = player.play(bytes);
     match (judged.counts, played) {
         (None, Err(refusal)) => {
             assert_eq!(refusal.number(), judged.refusal, "{name}: the wrapper's play");
-            assert!(
-                refusal.to_string().starts_with(&format!("refused {}: ", judged.refusal)),
-                "{name}: {refusal}"
-            );
+            tell(name, refusal);
             assert_eq!(checked, Err(judged.refusal), "{name}: the wrapper's check");
-            assert_eq!(copied, Err(judged.refusal), "{name}: the wrapper's copy");
         }
         (Some(counts), Ok(played)) => {
             let found = played.counts;
@@ -27,13 +22,28 @@ pub fn compare(name: &str, bytes: &[u8], judged: &Judged, player: &mut Player) -
             let again: Vec<u8> = played.services().flat_map(entry).collect();
             assert_eq!(again, judged.book, "{name}: the wrapper's services");
             assert_eq!(checked, Ok(()), "{name}: the wrapper's check");
-            assert_eq!(copied.as_deref(), Ok(bytes), "{name}: the wrapper's copy");
         }
         (_, played) => {
             panic!("{name}: the wrapper's play answers {played:?}, the second model {}", judged.refusal)
         }
     }
-    3
+    for (call, answer, written) in [
+        ("copy", fennqualo::copy(bytes), &judged.copied),
+        ("over", fennqualo::over(bytes), &judged.over),
+        ("back", fennqualo::back(bytes), &judged.back),
+    ] {
+        if let Err(refusal) = answer {
+            tell(name, refusal);
+        }
+        assert_eq!(answer.map_err(Refusal::number), *written, "{name}: the wrapper's {call}");
+    }
+    5
+}
+
+/// A refusal's words begin with its number, and there are some.
+fn tell(name: &str, refusal: Refusal) {
+    let (words, start) = (refusal.to_string(), format!("refused {}: ", refusal.number()));
+    assert!(words.starts_with(&start) && words.len() > start.len(), "{name}: {words}");
 }
 
 fn entry(service: Service) -> [u8; 4] {
