@@ -45,7 +45,7 @@ fi
 
 # memcpy and memset are bound when the program starts, not during a call.
 cd "$root"
-"$cc" -std=c99 -O2 -Wall -Wextra -pedantic -Werror -Iinclude tests/stack/main.c tests/stack/measure.c \
+"$cc" -std=c99 -O2 -Wall -Wextra -pedantic -Werror -Iinclude tests/stack/*.c \
     -L"$built" -lfennqualo -lstack -Wl,-z,now -o "$built/stack" >"$built/cc.log" 2>&1 || {
     sed 's/^/stack: /' "$built/cc.log" >&2
     end 1 "tests/stack does not compile"

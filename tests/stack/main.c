@@ -1,8 +1,8 @@
 /*
- * stack CORPUS [WORDS]: measures the stack that fennqualo_check, fennqualo_copy, fennqualo_play (include/fennqualo.h)
- * and the archive reader (stack_read, crates/stack) take, and holds it to the limits below; measure.c says what is
- * counted. Every *.bin file of the folder CORPUS goes through the four calls, and so do damaged ones made of each that
- * is accepted; what the calls answer is checked too. WORDS, as `compiled for aarch64`, are added to each figure's line;
+ * stack CORPUS [WORDS]: measures the stack that the calls of include/fennqualo.h and the archive reader (stack_read,
+ * crates/stack) take, and holds it to the limits below; measure.c says what is counted. Every *.bin file of the folder
+ * CORPUS goes through all of them, and damaged ones made of each that is accepted through all but the move of the other
+ * version; what the calls answer is checked too. WORDS, as `compiled for aarch64`, are added to each figure's line;
  * without them the figures are held to those of the header too.
  * Exit: 0 all is well; 1 a limit is reached, an answer is wrong, or something is not there to be seen; 2 wrong usage.
  */
@@ -16,6 +16,7 @@
 /* A figure has to stay below its limit, the reader's beside its answer. */
 #define CHECK_LIMIT 1024
 #define COPY_LIMIT 4096
+#define MOVE_LIMIT 4096
 #define READ_LIMIT 4096
 
 /* The reader's answer, format::Decoded: refusal 1, padding 7, network 8,728, seed, draws and count 16, sends 255 x 16. */
@@ -24,7 +25,6 @@
 #define PICKED_BYTES (2 * 256 + 2 * 4096 + 255 * 16)
 
 #define ROOM 65600 /* more than the longest file has */
-#define FILL 0xEE  /* what is in lent room before a call */
 #define ROUNDS 40  /* of random damage to each archive */
 
 static const char *file = "no file";
@@ -43,14 +43,6 @@ static void refuse_file(const char *name, const char *what)
 {
     fprintf(stderr, "stack: %s %s\n", name, what);
     exit(1);
-}
-
-/* Whether every byte is as it was before the call. */
-static int is_filled(const void *bytes, size_t length)
-{
-    const uint8_t *from = bytes;
-
-    return from[0] == FILL && memcmp(from, from + 1, length - 1) == 0;
 }
 
 static uint64_t word_at(const uint8_t *bytes, size_t at)
@@ -99,20 +91,6 @@ static void judge_read(size_t k, size_t refusal)
     }
 }
 
-static void judge_copy(size_t room, size_t refusal)
-{
-    size_t length = refusal == 0 ? job.length : 0;
-
-    job.room = room;
-    memset(job.out, FILL, sizeof job.out);
-    if (measured(COPY) != refusal) {
-        fail("another refusal");
-    }
-    if (memcmp(job.out, job.bytes, length) != 0 || !is_filled(job.out + length, sizeof job.out - length)) {
-        fail("not the same bytes, or something else is written");
-    }
-}
-
 static void judge_play(size_t refusal)
 {
     memset(job.book, FILL, sizeof job.book);
@@ -128,7 +106,13 @@ static void judge_play(size_t refusal)
     }
 }
 
-/* Hands the bytes to every call; answers the refusal. */
+/* The move that takes the version of the bytes. */
+static enum call way(void)
+{
+    return job.length > 2 && job.bytes[2] == 2 ? BACK : OVER;
+}
+
+/* Hands the bytes to every call, but for the other move; answers the refusal. */
 static size_t judge(const uint8_t *bytes, size_t length, size_t k)
 {
     size_t refusal;
@@ -142,6 +126,7 @@ static size_t judge(const uint8_t *bytes, size_t length, size_t k)
     refusals[refusal]++;
     judge_read(k, refusal);
     judge_copy(sizeof job.out, refusal);
+    judge_move(way(), sizeof job.out, refusal);
     judge_play(refusal);
     return refusal;
 }
@@ -190,13 +175,13 @@ static void damage(const uint8_t *whole, size_t length)
     }
 }
 
-/* The file as it is, every place of its run by the reader, a copy without room enough, and the file damaged. */
+/* The file as it is, by both moves too; every place of its run by the reader; without room enough; the file damaged. */
 static void judge_file(const char *folder, const char *name)
 {
     static uint8_t bytes[ROOM];
     static char path[4096];
     FILE *opened;
-    size_t length, k;
+    size_t length, refusal, k;
 
     file = name;
     how[0] = '\0';
@@ -212,11 +197,14 @@ static void judge_file(const char *folder, const char *name)
     fclose(opened);
     archives++;
     value = 88172645463325252u;
-    if (judge(bytes, length, 0) != 0) {
+    refusal = judge(bytes, length, 0);
+    judge_move(way() == OVER ? BACK : OVER, sizeof job.out, refusal);
+    if (refusal != 0) {
         return;
     }
     longest = length > longest ? length : longest;
     judge_copy(length - 1, FENNQUALO_ROOM);
+    judge_move(way(), moved_length() - 1, 0);
     for (k = 1; k < 4096; k += k < 256 ? 1 : 61) {
         judge_read(k, 0);
     }
@@ -257,8 +245,11 @@ static int is_sound(void)
 
     for (number = 0; number < 9; number++) {
         sound &= holds(refusals[number] > 0, "one of the answers 0 to 8 is given to no archive: the test has a gap");
+        sound &= holds(met[OVER][number] > 0 && met[BACK][number] > 0, "a move gives one of them to no archive: a gap");
     }
-    sound &= holds(refusals[17] > 0, "the answer 17 is given to no archive: the test has a gap");
+    sound &= holds(refusals[17] > 0 && met[BACK][17] > 0, "the answer 17 is given to no archive: the test has a gap");
+    sound &= holds(met[BACK][15] > 0, "the answer 15 is given to no archive: the test has a gap");
+    sound &= holds(met[OVER][14] > 0 && met[BACK][14] > 0, "no archive is moved without room: the test has a gap");
     sound &= holds(longest == FENNQUALO_ARCHIVE_MOST, "the longest archive is not among those accepted");
     sound &= holds(most[EMPTY] <= 16, "the measure is wrong: an empty call takes more than an address or two");
     sound &= holds(most[KNOWN] >= KNOWN_BYTES && most[KNOWN] < KNOWN_BYTES + 200, "the measure is wrong: a known call");
@@ -301,15 +292,19 @@ int main(int count, char **words)
            KNOWN_BYTES, (unsigned long)most[KNOWN]);
     good &= print_figure(CHECK, behind, "", most[CHECK], CHECK_LIMIT);
     good &= print_figure(COPY, behind, "", most[COPY], COPY_LIMIT);
+    good &= print_figure(OVER, behind, "", most[OVER], MOVE_LIMIT);
+    good &= print_figure(BACK, behind, "", most[BACK], MOVE_LIMIT);
     good &= print_figure(PLAY, behind, "", most[PLAY], 0);
     good &= print_figure(READ, behind, beside, reader, READ_LIMIT);
     if (count == 2) { /* the header speaks of x86-64 */
         good &= holds(most[CHECK] <= FENNQUALO_CHECK_STACK, "include/fennqualo.h says less of fennqualo_check");
         good &= holds(most[COPY] <= FENNQUALO_COPY_STACK, "include/fennqualo.h says less of fennqualo_copy");
+        good &= holds(most[OVER] <= FENNQUALO_OVER_STACK, "include/fennqualo.h says less of fennqualo_over");
+        good &= holds(most[BACK] <= FENNQUALO_BACK_STACK, "include/fennqualo.h says less of fennqualo_back");
         good &= holds(most[PLAY] <= FENNQUALO_PLAY_STACK, "include/fennqualo.h says less of fennqualo_play");
     }
     printf("stack: %lu archives of the corpus and %lu damaged ones, %lu accepted; %lu calls, every answer right\n",
            (unsigned long)archives, (unsigned long)damaged, (unsigned long)refusals[0],
-           (unsigned long)(made[CHECK] + made[COPY] + made[PLAY] + made[READ]));
+           (unsigned long)(made[CHECK] + made[COPY] + made[OVER] + made[BACK] + made[PLAY] + made[READ]));
     return good ? 0 : 1;
 }

@@ -23,7 +23,8 @@
 size_t stack_read(const uint8_t *archive, size_t archive_length, size_t k);
 
 const char *const call_names[CALLS] = {
-    "an empty call", "a known call", "fennqualo_check", "fennqualo_copy", "fennqualo_play", "stack_read",
+    "an empty call",  "a known call",   "fennqualo_check", "fennqualo_copy",
+    "fennqualo_over", "fennqualo_back", "fennqualo_play",  "stack_read",
 };
 
 struct job job;
@@ -64,6 +65,12 @@ static __attribute__((noinline)) void make_call(void)
         break;
     case COPY:
         job.answer = fennqualo_copy(job.bytes, job.length, job.out, job.room);
+        break;
+    case OVER:
+        job.answer = fennqualo_over(job.bytes, job.length, job.out, job.room);
+        break;
+    case BACK:
+        job.answer = fennqualo_back(job.bytes, job.length, job.out, job.room);
         break;
     case PLAY:
         job.answer = fennqualo_play(job.bytes, job.length, job.book, sizeof job.book, job.counts, FENNQUALO_COUNTS);
