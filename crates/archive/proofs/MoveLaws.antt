@@ -324,3 +324,10 @@ module _ (from to : ℕ) (b out : List ℕ) where
     move-yes after size h es ea =
         let enough = le-ltb (length out) (lengthOf (runUnder to b)) (omega (arith, es)) in
         (rw (e, enough, es) refl, rw (e, enough) (ea ∙ put-front out (fileUnder to b)))
+
+-- the refusal of an answer
+pub answer-refusal : (from to : ℕ) (b : List ℕ) (room : ℕ) → moveAnswer from to b room .refusal ≡ moveRefusal from to b room
+unfolding moveAnswer
+answer-refusal from to b room =
+    let f = moveRefusal from to b room in
+    either-way (eqb f 0) (λ e. rw e (sym (eqb-true f 0 e))) (λ e. rw e refl)

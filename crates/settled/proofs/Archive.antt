@@ -6,6 +6,8 @@ use Rattle.settled.proofs.Shown.{settled, value, beside, behind, inputs
 use Rattle.archive.proofs.read as the-read
 use Rattle.archive.proofs.check as the-check
 use Rattle.archive.proofs.write as the-write
+use Rattle.archive.proofs.move_over as the-move-over
+use Rattle.archive.proofs.move_back as the-move-back
 
 pub read-settled : Settles the-read.ended (λ M. the-read.clauses) (λ M. the-read.spec)
 read-settled = settled (λ κs a x y p q. refl) (λ κs a x y p q i. (same p q i, x .1))
@@ -16,4 +18,12 @@ check-settled = settled (λ κs a x y p q. refl) (λ κs a x y p q i. (same p q 
 -- the answer, and every byte of the lent `out`
 pub write-settled : Settles the-write.ended (λ M. the-write.clauses) (λ M. the-write.spec)
 write-settled = settled (λ κs a. beside value (beside (behind (inputs the-write.ended κs .1 .0)) value))
+    (λ κs a x y p q i. (same (p .0) (q .0) i, (tt, (same (p .1) (q .1) i, tt))))
+
+pub move-over-settled : Settles the-move-over.ended (λ M. the-move-over.clauses) (λ M. the-move-over.spec)
+move-over-settled = settled (λ κs a. beside value (beside (behind (inputs the-move-over.ended κs .1 .0)) value))
+    (λ κs a x y p q i. (same (p .0) (q .0) i, (tt, (same (p .1) (q .1) i, tt))))
+
+pub move-back-settled : Settles the-move-back.ended (λ M. the-move-back.clauses) (λ M. the-move-back.spec)
+move-back-settled = settled (λ κs a. beside value (beside (behind (inputs the-move-back.ended κs .1 .0)) value))
     (λ κs a x y p q i. (same (p .0) (q .0) i, (tt, (same (p .1) (q .1) i, tt))))
