@@ -6,6 +6,7 @@ use crate::show;
 use crate::show_same;
 use crate::show_written;
 use crate::wide::WIDE;
+use libc::STDOUT_FILENO;
 
 // The file at the front, and behind it a nine.
 fn at_front(file: &[u8], room: &[u8]) -> bool {
@@ -16,34 +17,118 @@ fn at_front(file: &[u8], room: &[u8]) -> bool {
     false
 }
 
-fn change(b: &mut [u8], i: usize, x: u8) {
-    if i < b.len() {
-        b[i] = x;
+// Rows of four bytes i, x, j and y: byte i of run R made x, byte j made y; a row with one change has it twice. A wrong
+// length, versions, S, seed, N, a channel, a route and a set, each before the one that comes behind it.
+const OVER: [u32; 18] = [
+    0x01190119,
+    0x01190202,
+    0x02000200,
+    0x02020202,
+    0x02030203,
+    0x02030300,
+    0x03000300,
+    0x03110311,
+    0x03000900,
+    0x09000900,
+    0x09000C02,
+    0x0C020C02,
+    0x0C020D04,
+    0x0D040D04,
+    0x0D041110,
+    0x11101110,
+    0x11101700,
+    0x17001700,
+];
+// The same of run R in version 2, editions behind the versions.
+const BACK: [u32; 21] = [
+    0x01240124,
+    0x01240201,
+    0x02000200,
+    0x02010201,
+    0x02030203,
+    0x02030302,
+    0x03000300,
+    0x03020302,
+    0x03020400,
+    0x04000400,
+    0x04410441,
+    0x04000A00,
+    0x0A000A00,
+    0x0A000D00,
+    0x0D000D00,
+    0x0D000E00,
+    0x0E000E00,
+    0x0E001610,
+    0x16101610,
+    0x16102200,
+    0x22002200,
+];
+
+fn change(b: &mut [u8], i: u8, x: u8) {
+    let at = i as usize;
+    if at < b.len() {
+        b[at] = x;
     }
 }
 
-// Run R with byte i and byte j changed, moved over.
-fn over_two(label: &[u8], i: usize, x: u8, j: usize, y: u8, room: &mut [u8]) {
+// Both changes of a row, made and printed.
+fn change_both(b: &mut [u8], row: u32) {
+    let i = (row / 16777216 % 256) as u8;
+    let x = (row / 65536 % 256) as u8;
+    let j = (row / 256 % 256) as u8;
+    let y = (row % 256) as u8;
+    change(b, i, x);
+    change(b, j, y);
+    print_change(i, x);
+    if i != j {
+        print_change(j, y);
+    }
+}
+
+fn print_change(i: u8, x: u8) {
+    io::write_all(STDOUT_FILENO, b"byte ");
+    io::print_decimal(STDOUT_FILENO, i as u64);
+    io::write_all(STDOUT_FILENO, b" ");
+    io::print_decimal(STDOUT_FILENO, x as u64);
+    io::write_all(STDOUT_FILENO, b", ");
+}
+
+// Run R with both changes, moved over into a room of 36 nines. Answers whether it is as it was.
+fn over_row(row: u32) -> bool {
     let mut b = R;
-    change(&mut b, i, x);
-    change(&mut b, j, y);
-    show_written(label, archive::move_over(&b, room));
+    change_both(&mut b, row);
+    let mut room = [9u8; 36];
+    let nines = [9u8; 36];
+    show_written(b"over", archive::move_over(&b, &mut room));
+    check::same(&room, &nines)
 }
 
-fn over_one(label: &[u8], i: usize, x: u8, room: &mut [u8]) {
-    over_two(label, i, x, i, x, room);
-}
-
-// Run R in version 2 with byte i and byte j changed, moved back.
-fn back_two(label: &[u8], i: usize, x: u8, j: usize, y: u8, room: &mut [u8]) {
+// Run R in version 2 with both changes, moved back.
+fn back_row(row: u32) -> bool {
     let mut b = WIDE;
-    change(&mut b, i, x);
-    change(&mut b, j, y);
-    show_written(label, archive::move_back(&b, room));
+    change_both(&mut b, row);
+    let mut room = [9u8; 36];
+    let nines = [9u8; 36];
+    show_written(b"back", archive::move_back(&b, &mut room));
+    check::same(&room, &nines)
 }
 
-fn back_one(label: &[u8], i: usize, x: u8, room: &mut [u8]) {
-    back_two(label, i, x, i, x, room);
+fn over_rows(rows: &[u32]) {
+    let mut kept = true;
+    for k in 0..rows.len() {
+        let is_kept = over_row(rows[k]);
+        kept = kept & is_kept;
+    }
+    show_same(b"every room as it was", kept);
+}
+
+fn back_rows(rows: &[u32]) {
+    let mut kept = true;
+    for k in 0..rows.len() {
+        let is_kept = back_row(rows[k]);
+        kept = kept & is_kept;
+    }
+    show_same(b"every room as it was", kept);
 }
 
 // Into rooms of 35, 36 and 34 nines, and into none.
@@ -67,39 +152,7 @@ fn over_rooms() {
     show_written(b"no room", archive::move_over(&b, &mut none));
 }
 
-fn over_heads() {
-    let mut room = [9u8; 36];
-    let nines = [9u8; 36];
-    over_one(b"over, length 25", 1, 25, &mut room);
-    over_two(b"length 25, version 2", 1, 25, 2, 2, &mut room);
-    over_one(b"version 0", 2, 0, &mut room);
-    over_one(b"version 2", 2, 2, &mut room);
-    over_one(b"version 3", 2, 3, &mut room);
-    over_two(b"version 3, S 0", 2, 3, 3, 0, &mut room);
-    over_one(b"S 0", 3, 0, &mut room);
-    over_one(b"S 17", 3, 17, &mut room);
-    over_two(b"S 0, seed 0", 3, 0, 9, 0, &mut room);
-    over_one(b"seed 0", 9, 0, &mut room);
-    over_two(b"seed 0, N 2", 9, 0, 12, 2, &mut room);
-    over_one(b"N 2", 12, 2, &mut room);
-    over_two(b"N 2, channel 4", 12, 2, 13, 4, &mut room);
-    show_same(b"room as it was", check::same(&room, &nines));
-}
-
-fn over_bodies() {
-    let mut room = [9u8; 36];
-    let nines = [9u8; 36];
-    over_one(b"channel 4", 13, 4, &mut room);
-    over_two(b"channel 4, route 1000", 13, 4, 17, 0x10, &mut room);
-    over_one(b"route 1000", 17, 0x10, &mut room);
-    over_two(b"route 1000, send to {}", 17, 0x10, 23, 0, &mut room);
-    over_one(b"send to {}", 23, 0, &mut room);
-    show_same(b"room as it was", check::same(&room, &nines));
-    let mut none = [9u8; 0];
-    over_one(b"send to {}, no room", 23, 0, &mut none);
-}
-
-// Files of version 2, and cut short.
+// Files of version 2, cut short, and 8 with no room.
 fn over_files() {
     let mut room = [9u8; 36];
     let b = R;
@@ -109,6 +162,12 @@ fn over_files() {
     wide[3] = 2;
     show_written(b"with edition 2", archive::move_over(&wide, &mut room));
     show_written(b"its 34 bytes", archive::move_over(&wide[..34], &mut room));
+    let mut empty = R;
+    empty[23] = 0;
+    show_written(
+        b"send to {}, no room",
+        archive::move_over(&empty, &mut room[..0]),
+    );
 }
 
 // Into rooms of 24, 25 and 23 nines, and into none.
@@ -129,42 +188,7 @@ fn back_rooms() {
     show_written(b"no room", archive::move_back(&wide, &mut none));
 }
 
-fn back_heads() {
-    let mut room = [9u8; 25];
-    let nines = [9u8; 25];
-    back_one(b"back, length 36", 1, 36, &mut room);
-    back_two(b"length 36, version 1", 1, 36, 2, 1, &mut room);
-    back_one(b"version 0", 2, 0, &mut room);
-    back_one(b"version 1", 2, 1, &mut room);
-    back_one(b"version 3", 2, 3, &mut room);
-    back_two(b"version 3, edition 2", 2, 3, 3, 2, &mut room);
-    back_one(b"edition 0", 3, 0, &mut room);
-    back_one(b"edition 2", 3, 2, &mut room);
-    back_two(b"edition 2, S 0", 3, 2, 4, 0, &mut room);
-    back_one(b"S 0", 4, 0, &mut room);
-    back_one(b"S 65", 4, 65, &mut room);
-    back_two(b"S 0, seed 0", 4, 0, 10, 0, &mut room);
-    back_one(b"seed 0", 10, 0, &mut room);
-    back_two(b"seed 0, N 0", 10, 0, 13, 0, &mut room);
-    back_one(b"N 0", 13, 0, &mut room);
-    back_two(b"N 0, channel 255", 13, 0, 14, 0, &mut room);
-    show_same(b"room as it was", check::same(&room, &nines));
-}
-
-fn back_bodies() {
-    let mut room = [9u8; 25];
-    let nines = [9u8; 25];
-    back_one(b"channel 255", 14, 0, &mut room);
-    back_two(b"channel 255, route 1000", 14, 0, 22, 0x10, &mut room);
-    back_one(b"route 1000", 22, 0x10, &mut room);
-    back_two(b"route 1000, send to {}", 22, 0x10, 34, 0, &mut room);
-    back_one(b"send to {}", 34, 0, &mut room);
-    show_same(b"room as it was", check::same(&room, &nines));
-    let mut none = [9u8; 0];
-    back_one(b"send to {}, no room", 34, 0, &mut none);
-}
-
-// Files of version 1, and cut short.
+// Files of version 1, cut short, and 8 with no room.
 fn back_files() {
     let mut room = [9u8; 25];
     let wide = WIDE;
@@ -174,6 +198,12 @@ fn back_files() {
     b[3] = 0;
     show_written(b"with S 0", archive::move_back(&b, &mut room));
     show_written(b"its 23 bytes", archive::move_back(&b[..23], &mut room));
+    let mut empty = WIDE;
+    empty[34] = 0;
+    show_written(
+        b"send to {}, no room",
+        archive::move_back(&empty, &mut room[..0]),
+    );
 }
 
 // Byte p of the head of a ring of so many sites, a file of so many bytes: T, D and the seed are 1, draws and N 0.
@@ -280,13 +310,13 @@ fn ring_with_send() {
 }
 
 pub(crate) fn cases() {
+    let over = OVER;
+    let back = BACK;
     over_rooms();
-    over_heads();
-    over_bodies();
+    over_rows(&over);
     over_files();
     back_rooms();
-    back_heads();
-    back_bodies();
+    back_rows(&back);
     back_files();
     ring_of_16();
     ring_of_17();
