@@ -1,7 +1,8 @@
 #!/bin/sh
-# front.sh: tests the front `fennqualo`, in the repository and installed: its exit statuses, `batch --jobs`, what it says of a
-# build, `install`. Run it after `rt ci` or `rt check` and scripts/exports.sh. Builds are tried in a copy of the front with
-# a program in the place of `rt`; the installed front is a real one. Prints one line. Exit: 0 all as expected, 1 not.
+# front.sh: tests the front `fennqualo`, in the repository and installed: its exit statuses, `over` and `back`,
+# `batch --jobs`, what it says of a build, `install`. Run it after `rt ci` or `rt check` and scripts/exports.sh. Builds
+# are tried in a copy of the front with a program in the place of `rt`; the installed front is a real one. Prints one
+# line. Exit: 0 all as expected, 1 not.
 set -u
 export LC_ALL=C
 root=$(CDPATH= cd -- "$(dirname -- "$0")/.." && pwd) || exit 1
@@ -70,6 +71,9 @@ ln -s "$root/fennqualo" "$work/fq"
 expect 1 "by a link" "$work/fq" play "$work/none"
 says err 'fq play: '
 
+# ---- over and back
+. "$root/scripts/desk.sh"
+
 # ---- the same lines in several processes
 names=crates/batch/stdin
 tr '\n' '\0' <"$names" >"$work/names.0"
@@ -121,7 +125,7 @@ cp fennqualo VERSION "$copy" && cp -r scripts "$copy" || wrong "the front cannot
 echo 'one: two' >"$copy/crates.txt"
 echo 'two:' >>"$copy/crates.txt"
 echo 'code' >"$copy/crates/one/src/lib.rt"
-for program in play batch inspect trace; do
+for program in play batch inspect trace mover; do
     printf '#!/bin/sh\necho "0 1 1 0 0" >&3\n' >"$copy/target/bin/$program"
     chmod +x "$copy/target/bin/$program"
 done
@@ -204,6 +208,11 @@ says err 'fennqualo play: '
 expect 0 "installed, batch" "$work/prefix/bin/fennqualo" batch --jobs 2 examples/run-r.bin examples/two-sites.bin
 expect 0 "installed, check" "$work/prefix/bin/fennqualo" check examples/run-r.bin
 expect 0 "installed, trace" "$work/prefix/bin/fennqualo" trace examples/run-r.bin
+fennqualo=$work/prefix/bin/fennqualo
+moves "installed, over" "$two" over "$one" new.bin
+moves "installed, back" "$one" back "$two" new.bin
+refuses 15 "installed, back, refused" back "$root/examples/torus-8x8.bin" new.bin
+fails 1 'kept.bin is there already' "installed, over, OUT there" "$fennqualo" over "$one" kept.bin
 expect 0 "installed, version" "$work/prefix/bin/fennqualo" version
 says out "$(rt version)"
 expect 2 "installed, build" "$work/prefix/bin/fennqualo" build
