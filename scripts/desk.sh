@@ -11,6 +11,7 @@ head -c 38 "$one" >"$desk/cut.bin"
 : >"$desk/empty.bin"
 echo kept >"$desk/kept.bin"
 ln -s nowhere "$desk/dangling"
+mode=$(printf '%o' $((0666 & ~$(umask))))
 
 # What lies at the desk: names, kinds and bytes.
 lying() { (cd "$desk" && find . | sort && find . -type f -exec cksum {} + | sort && find . -type l); }
@@ -35,7 +36,7 @@ moves() {
     for out in "$@"; do :; done
     case $out in /*) ;; *) out=$desk/$out ;; esac
     cmp -s "$bytes" "$out" || wrong "$what: OUT has other bytes than $bytes"
-    [ "$(find "$out" -perm 600)" = '' ] || wrong "$what: OUT is closed to others"
+    [ -n "$(find "$out" -perm "$mode")" ] || wrong "$what: OUT is not open to those to whom a new file is"
     rm "$out"
     as_it_was
 }
@@ -92,7 +93,7 @@ fails 1 'there is no such folder' "over, OUT in no folder" "$fennqualo" over "$o
 fails 1 'there is no such folder' "over, OUT below a file" "$fennqualo" over "$one" kept.bin/new.bin
 [ ! -d /proc/self ] ||
     fails 1 'nothing can be made in its folder' "over, OUT in /proc" "$fennqualo" over "$one" /proc/new.bin
-fails 1 'cannot be written: File too large' "over, no room" \
+fails 1 'new.bin is not written' "over, no room" \
     sh -c 'trap "" XFSZ && ulimit -f 1 && exec "$@"' sh "$fennqualo" over "$root/examples/torus-4x4.bin" new.bin
 [ ! -w /dev/full ] || fails 1 'standard output cannot be written' "back, refused, a full disk" \
     sh -c '"$@" >/dev/full' sh "$fennqualo" back "$one" new.bin

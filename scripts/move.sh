@@ -79,6 +79,7 @@ put_moved() {
     case $told in
     '0 0') give_name || status=1 ;;
     1\ [1-9]*) echo "refused ${told#1 }" || tell "standard output cannot be written" ;;
+    *) tell "$shown is not written" ;;
     esac
 }
 
