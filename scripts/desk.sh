@@ -122,6 +122,9 @@ rm "$desk/new.bin"
 as_it_was
 mover 'printf mov' 'kill -9 $$'
 fails 1 'mover ended before it was done' "over, a program that dies" "$fennqualo" over "$one" new.bin
+mover 'sleep 1' 'echo 1 2 >&3'
+expect 0 "over, nobody reads the refusal" at_desk sh -c '"$@" | :' sh "$fennqualo" over "$one" new.bin
+as_it_was
 mover ": >'$work/begun'" 'printf moved' 'sleep 2' 'echo 0 0 >&3'
 (cd "$desk" && FENNQUALO_PROGRAMS=$instead exec "$fennqualo" over "$one" new.bin) >/dev/null 2>&1 &
 moving=$!

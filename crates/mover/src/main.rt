@@ -123,7 +123,7 @@ fn moved(way: u8, bytes: &[u8], room: &mut [u8]) -> Written {
     archive::move_back(bytes, room)
 }
 
-// Writes the first `count` bytes of the room, as far as it has them, in one go. Answers the status.
+// Writes the first `count` bytes of the room, which has them. Answers the status.
 fn put_out(who: &[u8], room: &[u8], count: usize) -> u64 {
     if count <= room.len() && front::print(who, &room[..count]) {
         return front::DONE;
