@@ -1,7 +1,14 @@
-// The archive's format, versions 1 and 2: what reader and writer answer, and where an archive is at fault. specs/Format.antt has
-// the bytes, specs/Refusals.antt the refusals and what stands beside them, specs/Faults.antt the place of a fault;
-// proofs/Examples.antt computes the first two on document 01's run R, its bounds and an archive for each refusal,
-// proofs/FaultExamples.antt the third. The code is in the crates archive and faults.
+// The archive's format, versions 1 and 2: what reader, writer and moves answer, and where an archive is at fault.
+// specs/Format.antt has the bytes, specs/Refusals.antt the refusals and what stands beside them, specs/Moves.antt the moves
+// from one version to the other, specs/Faults.antt the place of a fault; proofs/Examples.antt and WideExamples.antt compute
+// the first two on document 01's run R, its bounds and an archive for each refusal, proofs/MoveExamples.antt and
+// FaultExamples.antt the others. The code is in the crates archive and faults.
+
+// The bytes of the longest archive, which is of version 2.
+pub const LONGEST: usize = 14
+    + 2 * base::PORTS * base::SITES
+    + 2 * base::SITES * base::SITES
+    + 11 * base::SENDS;
 
 // What the reader answers: the run, or the refusal and the all-zero run.
 pub struct Decoded {
@@ -9,7 +16,7 @@ pub struct Decoded {
     pub run: types::Run,
 }
 
-// What the writer answers: how many bytes it wrote, or the refusal and 0.
+// What the writer and a move answer: how many bytes they wrote, or the refusal and 0.
 pub struct Written {
     pub refusal: u8,
     pub length: usize,

@@ -12,12 +12,6 @@ use libc::STDERR_FILENO;
 use libc::STDOUT_FILENO;
 use report::Seen;
 
-// The bytes of the longest archive, which is of version 2.
-const MOST: usize = 14
-    + 2 * base::PORTS * base::SITES
-    + 2 * base::SITES * base::SITES
-    + 11 * base::SENDS;
-
 // How a move ended: the status, and the number of a refusal or 0.
 struct Ended {
     status: u64,
@@ -95,7 +89,7 @@ fn move_archive(who: &[u8], way: u8, words: Words) -> Ended {
         return without_refusal(front::FAILED);
     }
     let n = seen.count;
-    let mut room = [0u8; MOST];
+    let mut room = [0u8; format::LONGEST];
     let written = moved(way, &bytes[..n], &mut room);
     if written.refusal != 0 {
         return Ended {

@@ -3,11 +3,6 @@ use libc::STDOUT_FILENO;
 use std::num::wrapping_add_u64;
 use types::Run;
 
-// The bytes of the longest archive, which is of version 2.
-const MOST: usize = 14
-    + 2 * base::PORTS * base::SITES
-    + 2 * base::SITES * base::SITES
-    + 11 * base::SENDS;
 // What a room is filled with before the writer gets it.
 const FILL: u8 = 165;
 
@@ -59,8 +54,8 @@ fn judge(name: &[u8], bytes: &[u8], totals: Totals) -> Totals {
         return now;
     }
     let run = decoded.run;
-    let mut room = [FILL; MOST];
-    let mut short = [FILL; MOST];
+    let mut room = [FILL; format::LONGEST];
+    let mut short = [FILL; format::LONGEST];
     let is_back = comes_back(run, bytes, &mut room);
     if needs_room(run, bytes.len(), &mut short) && is_back {
         let is_printed = print_number(name, b": same ", bytes.len() as u64, b" bytes\n");
