@@ -113,20 +113,18 @@ fn back_row(row: u32) -> bool {
     check::same(&room, &nines)
 }
 
-fn over_rows(rows: &[u32]) {
-    let mut kept = true;
-    for k in 0..rows.len() {
-        let is_kept = over_row(rows[k]);
-        kept = kept & is_kept;
+fn is_kept(row: u32, is_over: bool) -> bool {
+    if is_over {
+        return over_row(row);
     }
-    show_same(b"every room as it was", kept);
+    back_row(row)
 }
 
-fn back_rows(rows: &[u32]) {
+fn show_rows(rows: &[u32], is_over: bool) {
     let mut kept = true;
     for k in 0..rows.len() {
-        let is_kept = back_row(rows[k]);
-        kept = kept & is_kept;
+        let same = is_kept(rows[k], is_over);
+        kept = kept & same;
     }
     show_same(b"every room as it was", kept);
 }
@@ -313,10 +311,10 @@ pub(crate) fn cases() {
     let over = OVER;
     let back = BACK;
     over_rooms();
-    over_rows(&over);
+    show_rows(&over, true);
     over_files();
     back_rooms();
-    back_rows(&back);
+    show_rows(&back, false);
     back_files();
     ring_of_16();
     ring_of_17();
