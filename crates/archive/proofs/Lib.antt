@@ -11,4 +11,5 @@ pub mod ReadLaws
 pub mod Put
 pub mod Answers
 pub mod MoveLaws
+pub mod MoveParts
 pub mod Moved

@@ -168,7 +168,8 @@ back-exactly b room ok second enough =
           (leb-true S firstSites (g .0), eqb-true E 1 (g .1)),
       λ few first.
           let goes : goesInto 1 (runOf b) ≡ true = rw (le-leb S firstSites few, first) refl in
-          move-room 2 1 b (record { valid = ok; version = second; goes = goes }) room ∙ rw (le-ltb room (lengthOf (runUnder 1 b)) enough) refl,
+          move-room 2 1 b (record { valid = ok; version = second; goes = goes }) room
+          ∙ rw (le-ltb room (lengthOf (runUnder 1 b)) enough) refl,
     )
 
 -- a valid file of version 1, given room, always moves over

@@ -2,6 +2,7 @@
 // Standard input is the largest archive of version 1, 16 sites and 255 sends, 1,864 bytes; run R stands here. `stdout` is
 // typed from the documents: a line for each case, with the refusal number, 0 for none.
 mod moves;
+mod rings;
 mod wide;
 
 use libc::STDOUT_FILENO;

@@ -3,7 +3,8 @@ use denote.Ref.{now}
 use mathlib.Core.Path.{refl, sym, _∙_}
 use borrow.Author.Tests.{ne-eqb}
 use Rattle.faults.proofs.HeadLaws.{read-passes}
-use Rattle.archive.proofs.MoveLaws.{file-passes, fields-within, goes-here, go-yes, go-15}
+use Rattle.archive.proofs.MoveLaws.{file-passes}
+use Rattle.archive.proofs.MoveParts.{fields-within, goes-here, go-yes, go-15}
 use native.Mathlib.Omega.{arith}
 use borrow.Author.Needs.{needs}
 use Rattle.archive.proofs.mover.go_refusal.Statement.{statement}

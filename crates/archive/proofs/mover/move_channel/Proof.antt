@@ -1,7 +1,7 @@
 -- `mover::move_channel` meets its contract: read as the reader does, put as the writer does. Assumes nothing.
 use denote.Ref.{now}
 use mathlib.Core.Path.{refl, _∙_}
-use Rattle.archive.proofs.MoveLaws.{channel-here}
+use Rattle.archive.proofs.MoveParts.{channel-here}
 use native.Mathlib.Omega.{arith}
 use borrow.Author.Needs.{needs}
 use Rattle.archive.proofs.mover.move_channel.Statement.{statement}

@@ -9,7 +9,7 @@ use Rattle.archive.specs.Code.{Narrow}
 use Rattle.archive.proofs.Holds.{part-ends}
 use Rattle.archive.proofs.Parts.{channel-inside}
 use Rattle.archive.proofs.Put.{channels-none}
-use Rattle.archive.proofs.MoveLaws.{channel-there, channel-turn}
+use Rattle.archive.proofs.MoveParts.{channel-there, channel-turn}
 use native.Mathlib.Omega.{arith}
 use Rattle.archive.proofs.mover.move_channels.Statement.{statement}
 use Rattle.archive.proofs.mover.move_channels.Tie as tie

@@ -1,6 +1,6 @@
 -- `mover::move_fields` meets its contract: six fields, read and put. Assumes nothing.
 use denote.Ref.{now}
-use Rattle.archive.proofs.MoveLaws.{fields-moved}
+use Rattle.archive.proofs.MoveParts.{fields-moved}
 use borrow.Author.Needs.{needs}
 use Rattle.archive.proofs.mover.move_fields.Statement.{statement}
 use Rattle.archive.proofs.mover.move_fields.Tie as tie

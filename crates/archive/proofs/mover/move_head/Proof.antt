@@ -1,6 +1,6 @@
 -- `mover::move_head` meets its contract: the start, and the fields behind it. Assumes nothing.
 use denote.Ref.{now}
-use Rattle.archive.proofs.MoveLaws.{fields-within, head-moved}
+use Rattle.archive.proofs.MoveParts.{fields-within, head-moved}
 use native.Mathlib.Omega.{arith}
 use borrow.Author.Needs.{needs}
 use Rattle.archive.proofs.mover.move_head.Statement.{statement}

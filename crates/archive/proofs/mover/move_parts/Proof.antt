@@ -1,7 +1,7 @@
 -- `mover::move_parts` meets its contract: four parts, one behind the other. Assumes nothing.
 use denote.Ref.{now}
 use lib.ListN.{length}
-use Rattle.archive.proofs.MoveLaws.{fields-within, head-fits, channels-fit, routes-fit, sends-fit, parts-moved}
+use Rattle.archive.proofs.MoveParts.{fields-within, head-fits, channels-fit, routes-fit, sends-fit, parts-moved}
 use native.Mathlib.Omega.{arith}
 use borrow.Author.Needs.{needs}
 use Rattle.archive.proofs.mover.move_parts.Statement.{statement}

@@ -6,7 +6,7 @@ use lib.ListN.{length}
 use Rattle.base.specs.Put.{put}
 use Rattle.format.specs.Format.{routeBytes, routesOf}
 use Rattle.archive.proofs.Put.{routes-none}
-use Rattle.archive.proofs.MoveLaws.{route-turn}
+use Rattle.archive.proofs.MoveParts.{route-turn}
 use native.Mathlib.Omega.{arith}
 use Rattle.archive.proofs.mover.move_routes.Statement.{statement}
 use Rattle.archive.proofs.mover.move_routes.Tie as tie

@@ -7,7 +7,7 @@ use Rattle.base.specs.Put.{put}
 use Rattle.format.specs.Format.{sendsBytes, sendsOf, sendsPlace, sendWidth}
 use Rattle.archive.proofs.Holds.{part-ends}
 use Rattle.archive.proofs.Put.{sends-none}
-use Rattle.archive.proofs.MoveLaws.{send-turn}
+use Rattle.archive.proofs.MoveParts.{send-turn}
 use native.Mathlib.Omega.{arith}
 use Rattle.archive.proofs.mover.move_sends.Statement.{statement}
 use Rattle.archive.proofs.mover.move_sends.Tie as tie

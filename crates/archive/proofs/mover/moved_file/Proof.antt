@@ -2,7 +2,8 @@
 use denote.Ref.{now}
 use mathlib.Core.Path.{sym, _∙_}
 use Rattle.faults.proofs.HeadLaws.{read-passes}
-use Rattle.archive.proofs.MoveLaws.{go-passes, movable, fields-within, size-here, move-no, move-short, move-yes}
+use Rattle.archive.proofs.MoveLaws.{go-passes, movable, move-no, move-short, move-yes}
+use Rattle.archive.proofs.MoveParts.{fields-within, size-here}
 use native.Mathlib.Omega.{arith}
 use borrow.Author.Needs.{needs}
 use Rattle.archive.proofs.mover.moved_file.Statement.{statement}

@@ -1,13 +1,13 @@
--- `moves::ring` is safe and ends. Assumes nothing.
+-- `rings::ring` is safe and ends. Assumes nothing.
 use mathlib.Core.Path.{_≡_}
 use Prim.Native.Nat.{_-_}
 use lib.ListN.{length}
 use borrow.Author.Needs.{needs}
-use Rattle.archive_cases.proofs.moves.ring.Statement.{statement}
-use Rattle.archive_cases.proofs.moves.ring.Tie as tie
-use Rattle.archive_cases.proofs.moves.ring.Reads as reads
-use Rattle.archive_cases.proofs.moves.ring.Lts as lts
-use Rattle.archive_cases.proofs.moves.ring_byte.Reads as ring-byte-reads
+use Rattle.archive_cases.proofs.rings.ring.Statement.{statement}
+use Rattle.archive_cases.proofs.rings.ring.Tie as tie
+use Rattle.archive_cases.proofs.rings.ring.Reads as reads
+use Rattle.archive_cases.proofs.rings.ring.Lts as lts
+use Rattle.archive_cases.proofs.rings.ring_byte.Reads as ring-byte-reads
 
 abbrev Inv-loop : tie.InvT-loop
 Inv-loop b₀ sites size p₀ b p = length b ≡ length b₀
