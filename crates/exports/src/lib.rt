@@ -1,6 +1,7 @@
-// The functions that C and Rust call: an archive played, checked, copied, moved to the other version. Each is thin over a proved function, takes
-// slices of any length and any bytes, and answers 0 or the number of document 01's refusal; a refusal leaves every lent
-// element as it was. calls/specs/Calls.antt says what they answer, include/fennqualo.h tells it to C.
+// The functions that C and Rust call: an archive played, checked, copied, moved to the other version. Each is thin over
+// a proved function, takes slices of any length and any bytes, and answers 0 or the number of document 01's refusal, or
+// 02's; a refusal leaves every lent element as it was. calls/specs/Calls.antt and, for the moves, format/specs/Moves.antt
+// say what they answer, include/fennqualo.h tells it to C.
 // What no proof can see: a caller in C hands over slices that are there, that do not overlap, and that nobody else
 // changes during the call.
 ghost use mathlib.Core.Path.{_≡_};
@@ -24,7 +25,7 @@ fn put_counts(counts: Counts, out: &mut [u64])
     out[3] = counts.owed as u64;
 }
 
-// The reader's refusal, 1 to 8; 0 for an archive.
+// The reader's refusal, 1 to 8 or 17; 0 for an archive.
 #[no_mangle]
 pub extern "C" fn fennqualo_check(bytes: &[u8]) -> u8
     ensures { λ r. ⌜ r ≡ readRefusal (now (bytes .entry)) ⌝ }
