@@ -1,19 +1,20 @@
 -- Computed examples of the moves (document 02, L5), typed by hand: run R and two sites over and back; every refusal of
--- both, and their order; rings of 16 and of 17 sites. Assumes nothing.
+-- both, and their order; which runs go into a version. Assumes nothing.
 use mathlib.Core.Path.{_≡_, refl}
-use mathlib.Core.Bool.{cond}
+use mathlib.Core.Bool.{Bool, true, false}
 use mathlib.Core.List.{List, [], _∷_, _++_, map}
-use Prim.Native.Nat.{ℕ, suc, _+_, _*_, _/_, _%_}
-use lib.Dec.{eqb}
+use Prim.Native.Nat.{ℕ}
 use lib.ListN.{set, take}
 use Rattle.base.specs.Over.{over}
 use Rattle.base.specs.All.{all}
 use Rattle.base.specs.Answers.{atFront}
 use Rattle.model.specs.Network.{networkUnder}
 use Rattle.model.specs.Runs.{bodyRefusal, under}
-use Rattle.format.specs.Format.{wordBytes, each, headBytes, channelBytes, routeBytes, sendsBytes, encode, networkOf, runOf}
+use Rattle.model.proofs.Made.{netIn, runOn}
+use Rattle.format.specs.Format.{each, headBytes, channelBytes, routeBytes, sendsBytes, encode, networkOf, runOf}
 use Rattle.format.specs.Refusals.{readRefusal, headThen}
-use Rattle.format.specs.Moves.{fileUnder, moveRefusal, moveAnswer, moved, overRefusal, backRefusal}
+use Rattle.format.specs.Moves.{fileUnder, fileRefusal, goesInto, moveRefusal, moveAnswer, moved}
+use Rattle.format.specs.Moves.{overRefusal, backRefusal}
 use Rattle.format.proofs.Examples.{bytesR, bytesTwo}
 use Rattle.format.proofs.WideExamples.{wideR, wideTwo}
 
@@ -98,18 +99,24 @@ back-17-8 = refl
 
 -- ---- "15 .. for a file that can't go back"
 
--- a ring of S sites in version 2, port 1 of each joined to port 1 of the next, without draws and sends
-abbrev ring : ℕ → List ℕ
-ring S =
-    wordBytes (14 + 8 * S + 2 * (S * S))
-    ++ (2 ∷ 1 ∷ S ∷ 1 ∷ 1 ∷ 0 ∷ 0 ∷ 0 ∷ 1 ∷ 0 ∷ 0 ∷ 0 ∷ [])
-    ++ each (λ s. 0 ∷ 4 * (suc s % S) ∷ 255 ∷ 255 ∷ 255 ∷ 255 ∷ 255 ∷ 255 ∷ []) S
-    ++ each (λ k. cond (eqb (k / S) (k % S)) 0 16 ∷ 0 ∷ []) (S * S)
+-- whether a run with so many sites, of this edition, goes into version v
+abbrev goes : ℕ → ℕ → ℕ → Bool
+goes v S edition = goesInto v (runOn (netIn 2 edition 0 0 S 3 1 [] []) 1 2 [])
 
--- 16 sites go back, into 13 + 64 + 512 bytes; 17 sites do not, 15, with room and before 14; with a route from site 0 to
--- itself they are 7, with another N 5, before 15
-pub back-15 : backRefusal (ring 16) 589 ∷ backRefusal (ring 16) 588 ∷ backRefusal (ring 17) 9999 ∷ backRefusal (ring 17) 0
-    ∷ backRefusal (set (ring 17) 150 16) 9999 ∷ backRefusal (set (ring 17) 13 1) 9999 ∷ []
-    ≡ 0 ∷ 14 ∷ 15 ∷ 15 ∷ 7 ∷ 5 ∷ []
-unfolding moveRefusal under networkUnder each readRefusal headThen bodyRefusal runOf networkOf over all
-back-15 = refl
+-- into version 1 with 1 and 16 sites and edition 1; not with 17 or 64 sites, nor with the editions 0 and 2; into version 2 always
+pub goes-back : goes 1 1 1 ∷ goes 1 16 1 ∷ goes 1 17 1 ∷ goes 1 64 1 ∷ goes 1 16 0 ∷ goes 1 16 2 ∷ goes 1 17 2 ∷ []
+    ≡ true ∷ true ∷ false ∷ false ∷ false ∷ false ∷ false ∷ []
+goes-back = refl
+
+pub goes-over : goes 2 1 1 ∷ goes 2 17 1 ∷ goes 2 64 1 ∷ goes 2 16 2 ∷ [] ≡ true ∷ true ∷ true ∷ true ∷ []
+goes-over = refl
+
+-- a file that passes the reader's tests and does not go is 15, whatever the room: 15 before 14
+pub back-15 : (b : List ℕ) (room : ℕ) → fileRefusal 2 b ≡ 0 → goesInto 1 (runOf b) ≡ false → backRefusal b room ≡ 15
+unfolding moveRefusal
+back-15 b room e g = rw (e, g) refl
+
+-- and one that the reader turns down is what it says, whether it goes or not: 8 before 15
+pub back-8 : (b : List ℕ) (room : ℕ) → fileRefusal 2 b ≡ 8 → backRefusal b room ≡ 8
+unfolding moveRefusal
+back-8 b room e = rw e refl
