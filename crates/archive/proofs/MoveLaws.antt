@@ -13,13 +13,10 @@ use Rattle.base.specs.Bools.{both, either-way, first-of}
 use Rattle.base.specs.Answers.{orNext}
 use Rattle.base.specs.Put.{put, put-front}
 use Rattle.types.specs.declared.Run.{Run}
-use Rattle.model.specs.Network.{versionOk, editionOk, sizesOk, channelsOk, routesOk}
-use Rattle.model.specs.Network.{sitesIn, networkUnder}
+use Rattle.model.specs.Network.{versionOk, editionOk, sitesIn, sizesOk, channelsOk, routesOk, networkUnder}
 use Rattle.model.specs.Runs.{sendsOk, bodyRefusal}
 use Rattle.format.specs.declared.Written.{Written}
-use Rattle.format.specs.Format.{at}
-use Rattle.format.specs.Format.{lengthOf}
-use Rattle.format.specs.Format.{versionOf, networkOf, runOf}
+use Rattle.format.specs.Format.{lengthOf, versionOf, networkOf, runOf}
 use Rattle.format.specs.Refusals.{leastLength, lengthOk, sizeOk, headThen, readRefusal}
 use Rattle.format.specs.Moves.{runUnder, fileUnder, fileRefusal, goesInto, goRefusal, moveRefusal, moveAnswer}
 use Rattle.format.specs.Moves.{moved}

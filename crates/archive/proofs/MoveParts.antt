@@ -13,8 +13,7 @@ use Rattle.base.specs.Over.{over-below}
 use Rattle.base.specs.Put.{put}
 use Rattle.types.specs.declared.StoredSend.{StoredSend}
 use Rattle.model.specs.Types.{sendD}
-use Rattle.model.specs.Network.{noChannels, noRoutes}
-use Rattle.model.specs.Network.{networkUnder}
+use Rattle.model.specs.Network.{noChannels, noRoutes, networkUnder}
 use Rattle.model.specs.Runs.{noSends, under}
 use Rattle.format.specs.Format.{at, word, quad, wordBytes, startWith, fieldsWith, headBytes, channelPart, channelBytes}
 use Rattle.format.specs.Format.{routeBytes, sendBytes, sendsBytes, lengthOf}
@@ -23,7 +22,6 @@ use Rattle.format.specs.Format.{headLength, channelWidth, channelPlace, routesP
 use Rattle.format.specs.Format.{inVersion, editionOf, channelOf, channelIn, sendOf, channelsOf, routesOf, sendsOf}
 use Rattle.format.specs.Format.{versionOf, sitesOf, countOf, runOf}
 use Rattle.format.specs.Moves.{runUnder, fileUnder, fileRefusal, goesInto, goRefusal}
-use Rattle.format.specs.Moves.{moved}
 use Rattle.faults.specs.Head.{Head}
 use Rattle.archive.specs.Code.{AllNarrow, Movable, fieldsIn}
 use Rattle.archive.proofs.Holds.{part-ends}

@@ -2,18 +2,17 @@
 -- exactly if it has at most 16 sites and edition 1. All of it is said over the run: the moved file is the encoding of the
 -- same run under the other version. Assumes nothing but that bytes are below 256.
 use mathlib.Core.Path.{_≡_, refl, sym, ap, _∙_}
-use mathlib.Core.Bool.{Bool, true, false, cond, _&&_, _||_}
+use mathlib.Core.Bool.{true, cond, _||_}
 use mathlib.Core.List.{List}
 use Prim.Native.Nat.{ℕ, _≤_}
 use native.Mathlib.Omega.{arith}
-use borrow.Author.Tests.{eq-eqb, eqb-true, eqb-false, le-leb, leb-true, le-ltb, ltb-false}
+use borrow.Author.Tests.{eq-eqb, eqb-true, le-leb, leb-true, le-ltb, ltb-false}
 use lib.Dec.{eqb, ltb, leb}
 use lib.ListN.{length}
-use Rattle.base.specs.Sizes.{firstSites, sitesMost}
-use Rattle.base.specs.Bools.{both, either-way, first-of, second-of}
-use Rattle.base.specs.Answers.{orNext}
+use Rattle.base.specs.Sizes.{firstSites}
+use Rattle.base.specs.Bools.{both, first-of, second-of}
 use Rattle.types.specs.declared.Run.{Run}
-use Rattle.model.specs.Network.{editionOk, sitesIn, trimmedNetwork, networkUnder}
+use Rattle.model.specs.Network.{editionOk, trimmedNetwork, networkUnder}
 use Rattle.model.specs.Runs.{storedRefusal, trimmed, under}
 use Rattle.theorems.proofs.Versions.{under-stored}
 use Rattle.format.specs.Format.{Bytes, Fits, encode, lengthOf, versionOf, runOf}

@@ -4,7 +4,7 @@ use mathlib.Core.Path.{_≡_, refl}
 use mathlib.Core.Bool.{Bool, true, false}
 use mathlib.Core.List.{List, [], _∷_, _++_, map}
 use Prim.Native.Nat.{ℕ}
-use lib.ListN.{set, take}
+use lib.ListN.{set, take, replicate}
 use Rattle.base.specs.Over.{over}
 use Rattle.base.specs.All.{all}
 use Rattle.base.specs.Answers.{atFront}
@@ -25,9 +25,10 @@ pub files : map (fileUnder 2) (bytesR ∷ bytesTwo ∷ []) ++ map (fileUnder 1) 
 unfolding fileUnder encode each headBytes channelBytes routeBytes sendsBytes under networkUnder runOf networkOf over
 files = refl
 
--- in a room with two bytes more: "writes at the front, the rest stays"; with one byte less: 14, and nothing is written
-pub over-rooms : moved 1 2 bytesR (wideR ++ 7 ∷ 8 ∷ []) ∷ moved 1 2 bytesR (set (take 34 wideR) 0 9) ∷ []
-    ≡ (wideR ++ 7 ∷ 8 ∷ []) ∷ set (take 34 wideR) 0 9 ∷ []
+-- rooms of nines, with two bytes more than the moved file: "writes at the front, the rest stays"; with one byte less: 14, and
+-- nothing is written
+pub over-rooms : moved 1 2 bytesR (replicate 37 9) ∷ moved 1 2 bytesR (replicate 34 9) ∷ []
+    ≡ (wideR ++ 9 ∷ 9 ∷ []) ∷ replicate 34 9 ∷ []
 unfolding moved moveRefusal fileUnder encode each headBytes channelBytes routeBytes sendsBytes under networkUnder atFront
     readRefusal headThen bodyRefusal runOf networkOf over all
 over-rooms = refl

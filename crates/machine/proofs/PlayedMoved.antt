@@ -1,22 +1,22 @@
 -- Document 02, L5, "The run played is the same before and after, book included": a file and the file that it is moved to,
 -- over or back, are played alike with every room, and ask for the same room. Assumes nothing but that bytes are below 256.
 use Prim.Native.Nat.{ℕ}
-use mathlib.Core.Path.{_≡_, refl, sym, ap, _∙_}
+use mathlib.Core.Path.{_≡_, refl, ap, _∙_}
 use mathlib.Core.Bool.{true, _||_}
 use mathlib.Core.List.{List}
 use lib.Dec.{eqb}
 use lib.ListN.{length}
 use Rattle.types.specs.declared.Run.{Run}
-use Rattle.model.specs.Runs.{Played, bookRoom, under, playedRun}
+use Rattle.model.specs.Runs.{bookRoom, under, playedRun}
 use Rattle.theorems.proofs.Versions.{under-played}
 use Rattle.format.specs.Format.{Bytes, runOf}
-use Rattle.format.specs.Moves.{runUnder, fileUnder, overRefusal, backRefusal}
+use Rattle.format.specs.Moves.{fileUnder, overRefusal, backRefusal}
 use Rattle.archive.proofs.RoundTripRuns.{read-stored}
 use Rattle.archive.proofs.Moved.{Moves, move-passes, moved-stored, moved-valid, moved-run}
 use Rattle.machine.specs.Play.{playRefusal, playAnswer, playBook}
 
 -- the two files are played alike
-pub record Alike (b m : List ℕ) : Type 0 where
+pub record PlayedAlike (b m : List ℕ) : Type 0 where
   -- the bytes that 14 asks of the book's room
   pub room : bookRoom (runOf m) ≡ bookRoom (runOf b)
   -- the refusal and all four counts, with every room
@@ -46,13 +46,13 @@ module _ (from to : ℕ) (known : (eqb to 1 || eqb to 2) ≡ true) (b : List ℕ
   unfolding playBook
   same-book lent = rw (same-refusal (length lent), same-played) refl
 
-  alike : Alike b (fileUnder to b)
+  alike : PlayedAlike b (fileUnder to b)
   alike = record { room = same-room; answer = same-answer; book = same-book }
 
 -- ---- the theorems
 
-pub over-played : (b : List ℕ) → Bytes b → (room : ℕ) → overRefusal b room ≡ 0 → Alike b (fileUnder 2 b)
+pub over-played : (b : List ℕ) → Bytes b → (room : ℕ) → overRefusal b room ≡ 0 → PlayedAlike b (fileUnder 2 b)
 over-played b w room h = alike 1 2 refl b w (move-passes 1 2 b room h .0)
 
-pub back-played : (b : List ℕ) → Bytes b → (room : ℕ) → backRefusal b room ≡ 0 → Alike b (fileUnder 1 b)
+pub back-played : (b : List ℕ) → Bytes b → (room : ℕ) → backRefusal b room ≡ 0 → PlayedAlike b (fileUnder 1 b)
 back-played b w room h = alike 2 1 refl b w (move-passes 2 1 b room h .0)

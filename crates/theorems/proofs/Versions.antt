@@ -4,11 +4,9 @@ use Prim.Native.Nat.{ℕ, zero, suc, _≤_}
 use mathlib.Core.Path.{_≡_, refl, sym, ap, _∙_}
 use mathlib.Core.Bool.{true}
 use borrow.Author.Tests.{ne-eqb, le-leb}
-use lib.Dec.{eqb, leb}
 use Rattle.base.specs.Sizes.{sendsMost, queueRoom}
-use Rattle.base.specs.Bools.{both}
 use Rattle.theorems.specs.Names.{Network, Run as StoredRun}
-use Rattle.model.specs.Network.{versionOk, editionOk, sitesIn, sizesOk, joinsThen, networkUnder}
+use Rattle.model.specs.Network.{versionOk, editionOk, sitesIn, sizesOk, networkUnder}
 use Rattle.model.specs.Runs.{bodyRefusal, storedRefusal, under, scriptTo, script, playedRun, playedSingly, unplayed}
 use Rattle.theorems.proofs.Networks.{sizes-at}
 use Rattle.theorems.proofs.SoundRuns.{sound}

@@ -1,5 +1,5 @@
 -- `mover::file_refusal` meets its contract: 1, then 2, then the reader's refusals. Assumes nothing.
-use mathlib.Core.Path.{ap, sym, _∙_}
+use mathlib.Core.Path.{ap, _∙_}
 use Rattle.format.specs.declared.Fault.{Fault}
 use Rattle.archive.proofs.Answers.{fault-refusal}
 use Rattle.archive.proofs.MoveLaws.{file-short, file-bytes, file-other, file-read}

@@ -1,6 +1,5 @@
 -- `mover::move_parts` meets its contract: four parts, one behind the other. Assumes nothing.
 use denote.Ref.{now}
-use lib.ListN.{length}
 use Rattle.archive.proofs.MoveParts.{fields-within, head-fits, channels-fit, routes-fit, sends-fit, parts-moved}
 use native.Mathlib.Omega.{arith}
 use borrow.Author.Needs.{needs}
