@@ -65,8 +65,11 @@ local-read = refl
 
 -- ---- net-outputs 1 to 4: with a channel or without, and the input at its end
 
+abbrev onIn : ℕ → Bool → Output → Input → List ℕ
+onIn edition there o y = ofTurn (λ o′. ofOutput o′ ∷ []) ofInput (channelOutput edition there o y)
+
 abbrev on : Bool → Output → Input → List ℕ
-on there o y = ofTurn (λ o′. ofOutput o′ ∷ []) ofInput (channelOutput there o y)
+on = onIn 1
 
 -- net-inputs that are open or abort; that are neither, nor free; free or one of those
 abbrev hearing : List Input

@@ -24,10 +24,10 @@ inp : Phase → ℕ → ℕ → List Bool → ℕ → Input
 inp ph q z bs t = record { set = z; phase = ph; outputs = bs; packet = q; tries = t }
 
 out : ℕ → ℕ → ℕ → Bool → Terminator → Output
-out q z i h t = record { set = z; terminator = t; packet = q; input = i; used = true; head = h }
+out q z i h t = record { set = z; terminator = t; packet = q; input = i; used = true; head = h; closing = false }
 
 empty : ℕ → ℕ → ℕ → Bool → Terminator → Output
-empty q z i h t = record { set = z; terminator = t; packet = q; input = i; used = false; head = h }
+empty q z i h t = record { set = z; terminator = t; packet = q; input = i; used = false; head = h; closing = false }
 
 leaving : ℕ → ℕ → Bool → OutEntry
 leaving q z s = record { set = z; packet = q; started = s }

@@ -33,7 +33,7 @@ hub-valid = refl
 outputsOf : List ℕ → List Output
 outputsOf [] = []
 outputsOf (zero ∷ us) = noOutput ∷ outputsOf us
-outputsOf (suc u ∷ us) = record { set = 8; terminator = tNone; packet = 9; input = 4; used = true; head = true } ∷ outputsOf us
+outputsOf (suc u ∷ us) = record { set = 8; terminator = tNone; packet = 9; input = 4; used = true; head = true; closing = false } ∷ outputsOf us
 
 -- the connection's number and each output's set; nothing for no choice
 chosen : Choice → List ℕ

@@ -39,10 +39,10 @@ ofInput y =
     ∷ bits (y .outputs)
     ∷ []
 
--- a net-output: in use, packet, set, input that feeds it, head taken, terminator
+-- a net-output: in use (2 more for the mark closing), packet, set, input that feeds it, head taken, terminator
 abbrev pub ofOutput : Output → ℕ
 ofOutput o =
-    digitsAfter (count (o .used)) (o .packet ∷ o .set ∷ o .input ∷ count (o .head) ∷ terminatorNumber (o .terminator) ∷ [])
+    digitsAfter (count (o .used) + 2 * count (o .closing)) (o .packet ∷ o .set ∷ o .input ∷ count (o .head) ∷ terminatorNumber (o .terminator) ∷ [])
 
 -- an out-queue entry: packet, set, started; an in-queue entry: packet, set, terminator; a queue: its count, then all its room
 abbrev pub ofOutQueue : OutQueue → List ℕ
@@ -73,7 +73,7 @@ inp ph bs = record { set = 7; phase = ph; outputs = bs; packet = 5; tries = 2 }
 
 -- a net-output in use: packet, set, input, head, terminator
 abbrev pub out : ℕ → ℕ → ℕ → Bool → Terminator → Output
-out q X i head h = record { set = X; terminator = h; packet = q; input = i; used = true; head = head }
+out q X i head h = record { set = X; terminator = h; packet = q; input = i; used = true; head = head; closing = false }
 
 abbrev pub leaving : ℕ → ℕ → Bool → OutEntry
 leaving q X started = record { set = X; packet = q; started = started }

@@ -1,4 +1,4 @@
--- Tables typed from document 02, L4: version, edition, sites and channels of both versions, in the order 2, 17, 3, 6, 7;
+-- Tables typed from document 02, L4 and L6: version, edition, sites and channels of both versions, in the order 2, 17, 3, 6, 7;
 -- and the last of 64 sites: its bit in a set, its own service.
 use Prim.Native.Nat.{ℕ, _+_, _-_, _^_}
 use mathlib.Core.Path.{_≡_, refl}
@@ -26,9 +26,9 @@ one version edition = netIn version edition 0 0 1 1 1 (0 ∷ noChannel ∷ noCha
 abbrev bare : ℕ → ℕ → List ℕ → Network
 bare version S cs = netIn version 1 noChannel 0 S 3 1 cs []
 
--- the same of edition 2
+-- the same of edition 3
 abbrev unknown : ℕ → ℕ → List ℕ → Network
-unknown version S cs = netIn version 2 noChannel 0 S 3 1 cs []
+unknown version S cs = netIn version 3 noChannel 0 S 3 1 cs []
 
 pub networks : List (Network × ℕ)
 networks =
@@ -40,12 +40,18 @@ networks =
     ∷ (one 255 1, 2)
     -- "17, an edition unknown or not 1 in version 1"
     ∷ (one 2 0, 17)
-    ∷ (one 2 2, 17)
+    ∷ (one 2 3, 17)
     ∷ (one 2 255, 17)
     ∷ (one 1 0, 17)
     ∷ (one 1 2, 17)
+    ∷ (one 1 3, 17)
+    -- L6: "17 accepts edition 2"
+    ∷ (one 2 2, 0)
+    ∷ (netIn 2 2 noChannel 0 65 3 1 (65534 ∷ []) [], 3)
+    ∷ (netIn 1 2 noChannel 0 17 3 1 (65534 ∷ []) [], 17)
     -- 2 before 17, 17 before 3
     ∷ (one 3 2, 2)
+    ∷ (one 0 2, 2)
     ∷ (unknown 3 65 (65534 ∷ []), 2)
     ∷ (unknown 2 65 (65534 ∷ []), 17)
     ∷ (unknown 1 17 (65534 ∷ []), 17)

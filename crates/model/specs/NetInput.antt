@@ -11,7 +11,7 @@ use Rattle.base.specs.All.{all}
 use Rattle.base.specs.Over.{over}
 use Rattle.model.specs.Types.{Connection, Unicast, Passthru, AllRemote, SomeLocal, Handed, Received, gotEnd, gotAbort}
 use Rattle.model.specs.Types.{Terminator, tNone, tEnd, tAbort, tKeep, Phase, Free, Seek, Open, Wait, Done, Last, Aborted, FinAbort}
-use Rattle.model.specs.Types.{Input, Output, Network, noMarks, noInput, outOf, mark, inPhase, outTerm}
+use Rattle.model.specs.Types.{Input, Output, Network, noMarks, noInput, outOf, mark, carries, inPhase, outTerm}
 use Rattle.types.specs.Phases.{listening, asTerminator}
 use Rattle.model.specs.Router.{Choice, Chosen, Unserved, route, isEmpty, isChosen, unchosen}
 
@@ -21,14 +21,14 @@ pub data Turn (A B : Type 0) : Type 0 where
   To : A → B → Turn A B
 
 -- "An output is ready when it is in use, its head is taken, and either it is output 0 or its channel's input is open or abort.
--- Outputs 1 to 4 without a channel are never ready": output j of os; there j tells whether output j has a channel, far j is the
--- input at its end
+-- Outputs 1 to 4 without a channel are never ready", nor is one that has nothing to pass on any more (L6): output j of os; there j
+-- tells whether output j has a channel, far j is the input at its end
 unfoldable pub hears : (ℕ → Bool) → (ℕ → Input) → ℕ → Bool
 hears there far zero = true
 hears there far (suc j) = there (suc j) && listening (far (suc j) .phase)
 
 abbrev pub ready : (ℕ → Bool) → (ℕ → Input) → List Output → ℕ → Bool
-ready there far os j = outOf os j .used && outOf os j .head && hears there far j
+ready there far os j = carries (outOf os j) && outOf os j .head && hears there far j
 
 -- all outputs that are marked are ready
 abbrev pub allReady : (ℕ → Bool) → List Bool → Bool
@@ -54,7 +54,7 @@ give given bs os = over (λ j. cond (mark bs j) (outTerm (outOf os j) (given j))
 -- "Success puts the net-input in open and its outputs in use, head not taken, no terminator." Packet q, input i, each chosen
 -- output with its set
 abbrev pub taken : ℕ → ℕ → ℕ → Output
-taken q i X = record { set = X; terminator = tNone; packet = q; input = i; used = true; head = false }
+taken q i X = record { set = X; terminator = tNone; packet = q; input = i; used = true; head = false; closing = false }
 
 unfoldable pub occupy : ℕ → ℕ → List ℕ → List Output → List Output
 occupy q i sets os = over (λ j. cond (isChosen sets j) (taken q i (getD sets j 0)) (outOf os j)) outputCount os

@@ -48,9 +48,13 @@ listOf n s t = choices (routeOf n s t)
 abbrev pub versionOk : Network → Bool
 versionOk n = eqb (n .version) 1 || eqb (n .version) 2
 
--- L4: "17, an edition unknown or not 1 in version 1": edition 1 is the only one, in both versions
+-- L4: "17, an edition unknown or not 1 in version 1"; L6: "17 accepts edition 2"
 abbrev pub editionOk : Network → Bool
-editionOk n = eqb (n .edition) 1
+editionOk n = eqb (n .edition) 1 || eqb (n .edition) 2 && eqb (n .version) 2
+
+-- L6: "Edition 2 follows the report for channels 1 to 4": whether an output holds its channel after delivery
+abbrev pub holds : ℕ → Bool
+holds edition = eqb edition 2
 
 -- L4: "both precede 3": 2, 17, or what comes after them
 abbrev pub kindThen : Network → ℕ → ℕ

@@ -8,9 +8,10 @@ use Rattle.sets.specs.Sets.{has, minus}
 use Rattle.model.specs.Types.{Received, gotEnd, gotAbort, Terminator, tNone, tEnd, tAbort, tKeep}
 use Rattle.model.specs.Types.{Phase, Free, Seek, Open, Wait, Done, Last, Aborted, FinAbort}
 use Rattle.model.specs.Types.{Input, Output, OutEntry, InEntry, OutQueue, InQueue, noMarks, noOutput, outOf, mark, outEntry, inEntry}
-use Rattle.model.specs.Types.{outHead, entryStarted, entryTerm, pushOut, popOut, pushIn, popIn}
+use Rattle.model.specs.Types.{awaits, outHead, outClosing, entryStarted, entryTerm, pushOut, popOut, pushIn, popIn}
 use Rattle.types.specs.Phases.{isFree, listening, splits, isNone}
 use Rattle.model.specs.Types.{received}
+use Rattle.model.specs.Network.{holds}
 use Rattle.model.specs.NetInput.{Turn, Stay, To, give}
 
 -- an input that "goes to seek with no tries"
@@ -48,17 +49,28 @@ localOutput D o iq = cond (o .used) (cond (o .head) (cond (isNone (o .terminator
 abbrev pub headOn : Bool → Output → Input → Turn Output Input
 headOn there o y = cond (there && isFree (y .phase)) (To (outHead o) (seeking (o .packet) (o .set))) Stay
 
-abbrev pub termOn : Bool → Input → Received → Turn Output Input
-termOn there y r = cond (there && listening (y .phase)) (To noOutput (received r y)) Stay
+-- what delivery leaves: "become empty", L6, edition 2: "after delivery the output is closing"
+abbrev pub delivered : ℕ → Output → Output
+delivered edition o = cond (holds edition) (outClosing o) noOutput
 
-unfoldable pub deliver : Bool → Input → Terminator → Turn Output Input
-deliver there y tNone = Stay
-deliver there y tEnd = termOn there y gotEnd
-deliver there y tAbort = termOn there y gotAbort
-deliver there y tKeep = Stay
+abbrev pub termOn : ℕ → Bool → Output → Input → Received → Turn Output Input
+termOn edition there o y r = cond (there && listening (y .phase)) (To (delivered edition o) (received r y)) Stay
 
-unfoldable pub channelOutput : Bool → Output → Input → Turn Output Input
-channelOutput there o y = cond (o .used) (cond (o .head) (deliver there y (o .terminator)) (headOn there o y)) Stay
+unfoldable pub deliver : ℕ → Bool → Output → Input → Terminator → Turn Output Input
+deliver edition there o y tNone = Stay
+deliver edition there o y tEnd = termOn edition there o y gotEnd
+deliver edition there o y tAbort = termOn edition there o y gotAbort
+deliver edition there o y tKeep = Stay
+
+-- L6, a closing output: "its next step empties it if that input is free", which stays as it is
+abbrev pub giveUp : Bool → Input → Turn Output Input
+giveUp there y = cond (there && isFree (y .phase)) (To noOutput y) Stay
+
+unfoldable pub channelOutput : ℕ → Bool → Output → Input → Turn Output Input
+channelOutput edition there o y =
+    cond (o .used)
+    (cond (o .head) (cond (o .closing) (giveUp there y) (deliver edition there o y (o .terminator))) (headOn there o y))
+    Stay
 
 -- "Front not started: net-input 0, if free, takes it into seek. Started: if net-input 0 is open or abort, it receives end as above
 -- and the entry leaves." y is net-input 0
@@ -130,7 +142,7 @@ cutAt y os (FinAbort c r) = Stay
 -- "If the last in-queue entry lacks a terminator, output 0 is in use with head taken and no terminator, and the input feeding it
 -- is .. Otherwise ignored." y is the input that feeds output 0
 abbrev pub stalled : Output → Bool
-stalled o = o .used && o .head && isNone (o .terminator)
+stalled o = awaits o && o .head
 
 abbrev pub timeout : InQueue → List Output → Input → Turn Input (List Output)
 timeout iq os y = cond (lastLacks iq && stalled (outOf os 0)) (cutAt y os (y .phase)) Stay

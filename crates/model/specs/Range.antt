@@ -1,4 +1,4 @@
--- Document 01, "In range means: ..", clause by clause, and no more than it says. Tests are joined without a branch, place by place.
+-- Document 01, "In range means: ..", with L6's mark, clause by clause, and no more than they say. Tests are joined without a branch, place by place.
 -- What a type already says is no clause: packets, tries, feeders and the counter are bytes; a connection exists exactly in the
 -- states 2 to 7, a received terminator exactly in 4, 5 and 7; arrays have their lengths.
 use Prim.Native.Nat.{ℕ, suc}
@@ -10,7 +10,8 @@ use Rattle.base.specs.Bools.{implies, pick, alike}
 use Rattle.base.specs.All.{all, any}
 use Rattle.sets.specs.Sets.{targets}
 use Rattle.model.specs.Types.{Input, Output, OutEntry, InEntry, OutQueue, InQueue, Site, State, Network}
-use Rattle.model.specs.Types.{siteAt, inAt, outOf, outAt, mark, outEntry, inEntry}
+use Rattle.model.specs.Types.{siteAt, inAt, outOf, outAt, mark, outEntry, inEntry, awaits}
+use Rattle.model.specs.Network.{holds}
 use Rattle.types.specs.Phases.{isFree, connected, splitting, aborting, isNone, isKeep}
 
 -- "sets non-empty and within S wherever a place is used, packets below the counter". S sites; k is the counter
@@ -28,7 +29,14 @@ abbrev pub zeroInput : Input → Bool
 zeroInput y = isFree (y .phase) && eqb (y .packet) 0 && eqb (y .set) 0 && not (anyMark (y .outputs)) && eqb (y .tries) 0
 
 abbrev pub zeroOutput : Output → Bool
-zeroOutput o = not (o .used) && eqb (o .packet) 0 && eqb (o .set) 0 && eqb (o .input) 0 && not (o .head) && isNone (o .terminator)
+zeroOutput o =
+    not (o .used)
+    && eqb (o .packet) 0
+    && eqb (o .set) 0
+    && eqb (o .input) 0
+    && not (o .head)
+    && isNone (o .terminator)
+    && not (o .closing)
 
 abbrev pub zeroOutEntry : OutEntry → Bool
 zeroOutEntry u = eqb (u .packet) 0 && eqb (u .set) 0 && not (u .started)
@@ -36,9 +44,9 @@ zeroOutEntry u = eqb (u .packet) 0 && eqb (u .set) 0 && not (u .started)
 abbrev pub zeroInEntry : InEntry → Bool
 zeroInEntry a = eqb (a .packet) 0 && eqb (a .set) 0 && isNone (a .terminator)
 
--- "each connected output in use, fed by that input and without a terminator"
+-- "each connected output in use, fed by that input and without a terminator"; L6: one that is closing is "connected to no input"
 abbrev pub fedBy : ℕ → Output → Bool
-fedBy i o = o .used && eqb (o .input) i && isNone (o .terminator)
+fedBy i o = awaits o && eqb (o .input) i
 
 -- net-input i, with the site's outputs os; T limits tries
 abbrev pub inputOk : ℕ → ℕ → ℕ → List Output → ℕ → Input → Bool
@@ -51,11 +59,19 @@ inputOk S T k os i y =
     -- "and alone, with one of those two, in abort and fin-abort"
     && implies (aborting (y .phase)) (splitting (y .phase) && not (anyRemote (y .outputs)))
 
+-- L6: "The state gains this mark, in range only for outputs 1 to 4 that are in use, head taken, without a terminator", in an edition
+-- that holds its channels: output j, in use
+abbrev pub closingOk : ℕ → ℕ → Output → Bool
+closingOk edition j o = holds edition && not (eqb j 0) && o .head && isNone (o .terminator)
+
 -- net-output j: "input that feeds it", 0 to 4; "keep-local only at output 0 and in in-queues"
-abbrev pub outputOk : ℕ → ℕ → ℕ → Output → Bool
-outputOk S k j o =
+abbrev pub outputOk : ℕ → ℕ → ℕ → ℕ → Output → Bool
+outputOk edition S k j o =
     pick (o .used)
-    (tagOk S k (o .packet) (o .set) && ltb (o .input) inputCount && implies (isKeep (o .terminator)) (eqb j 0))
+    (tagOk S k (o .packet) (o .set)
+    && ltb (o .input) inputCount
+    && implies (isKeep (o .terminator)) (eqb j 0)
+    && implies (o .closing) (closingOk edition j o))
     (zeroOutput o)
 
 -- entry m of a queue of which so many places are filled: "only the front may be started"; "room beyond a queue's count" is zero
@@ -72,10 +88,10 @@ outQueueOk S D k oq = leb (oq .count) D && all (λ m. outEntryOk S k (oq .count)
 abbrev pub inQueueOk : ℕ → ℕ → ℕ → InQueue → Bool
 inQueueOk S D k iq = leb (iq .count) D && all (λ m. inEntryOk S k (iq .count) m (inEntry iq m)) queueRoom
 
-abbrev pub siteOk : ℕ → ℕ → ℕ → ℕ → Site → Bool
-siteOk S T D k x =
+abbrev pub siteOk : ℕ → ℕ → ℕ → ℕ → ℕ → Site → Bool
+siteOk edition S T D k x =
     all (λ i. inputOk S T k (x .outputs) i (inAt x i)) inputCount
-    && all (λ j. outputOk S k j (outAt x j)) outputCount
+    && all (λ j. outputOk edition S k j (outAt x j)) outputCount
     && outQueueOk S D k (x .outgoing)
     && inQueueOk S D k (x .incoming)
 
@@ -87,8 +103,9 @@ zeroSite x =
     && (eqb (x .outgoing .count) 0 && all (λ m. zeroOutEntry (outEntry (x .outgoing) m)) queueRoom)
     && (eqb (x .incoming .count) 0 && all (λ m. zeroInEntry (inEntry (x .incoming) m)) queueRoom)
 
-abbrev pub placeOk : ℕ → ℕ → ℕ → ℕ → ℕ → Site → Bool
-placeOk S T D k s x = pick (ltb s S) (siteOk S T D k x) (zeroSite x)
+abbrev pub placeOk : ℕ → ℕ → ℕ → ℕ → ℕ → ℕ → Site → Bool
+placeOk edition S T D k s x = pick (ltb s S) (siteOk edition S T D k x) (zeroSite x)
 
 unfoldable pub inRange : Network → State → Bool
-inRange n st = all (λ s. placeOk (n .sites) (n .tries) (n .depth) (st .counter) s (siteAt (st .sites) s)) sitesMost
+inRange n st =
+    all (λ s. placeOk (n .edition) (n .sites) (n .tries) (n .depth) (st .counter) s (siteAt (st .sites) s)) sitesMost

@@ -49,7 +49,7 @@ setBoth x i y os = withInputs (withOutputs x os) (set (x .inputs) i y)
 -- net-output j of site x; far j is the input at the end of its channel
 unfoldable pub netOutput : Network → ℕ → Site → (ℕ → Input) → ℕ → Act
 netOutput n s x far zero = ownTurn (λ o iq. setOut (withInQueue x iq) 0 o) (localOutput (n .depth) (outAt x 0) (x .incoming))
-netOutput n s x far (suc j) = passTurn x (suc j) (channelOutput (joined n s (suc j)) (outAt x (suc j)) (far (suc j)))
+netOutput n s x far (suc j) = passTurn x (suc j) (channelOutput (n .edition) (joined n s (suc j)) (outAt x (suc j)) (far (suc j)))
 
 -- "Codes 0 to 4 are the net-inputs, 5 to 9 the net-outputs 0 to 4, 10 the out-queue, 11 the operator, 12 the timeout."
 unfoldable pub act : Network → ℕ → Site → (ℕ → Input) → ℕ → Act

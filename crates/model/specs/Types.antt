@@ -14,10 +14,10 @@
 --   e, es  events, and what stands for one: a stored send, a service
 use Prim.Native.Nat.{ℕ, _+_, _-_}
 use mathlib.Core.List.{List, [], _∷_, _++_}
-use mathlib.Core.Bool.{Bool, true, false}
+use mathlib.Core.Bool.{Bool, true, false, not, _&&_}
 use lib.ListN.{getD, set, drop, replicate}
 use Rattle.base.specs.Sizes.{sitesMost, inputCount, outputCount, queueRoom}
-use Rattle.types.specs.Phases.{receive}
+use Rattle.types.specs.Phases.{receive, isNone}
 pub use Rattle.types.specs.declared.Connection.the-variants.{the-data as Connection, Unicast, Passthru, AllRemote, SomeLocal, Handed}
 pub use Rattle.types.specs.declared.Received.the-variants.{the-data as Received, End as gotEnd, Abort as gotAbort}
 pub use Rattle.types.specs.declared.Terminator.the-variants.{the-data as Terminator, None as tNone, End as tEnd}
@@ -49,7 +49,7 @@ abbrev pub noInput : Input
 noInput = record { set = 0; phase = Free; outputs = noMarks; packet = 0; tries = 0 }
 
 abbrev pub noOutput : Output
-noOutput = record { set = 0; terminator = tNone; packet = 0; input = 0; used = false; head = false }
+noOutput = record { set = 0; terminator = tNone; packet = 0; input = 0; used = false; head = false; closing = false }
 
 abbrev pub noOutEntry : OutEntry
 noOutEntry = record { set = 0; packet = 0; started = false }
@@ -104,6 +104,14 @@ inEntry iq m = getD (iq .entries) m noInEntry
 abbrev pub sendAt : Run → ℕ → StoredSend
 sendAt R m = getD (R .sends) m sendD
 
+-- What an output is. It has something to pass on: it is in use and not closing (L6: "owes nothing, serves nobody", "connected to no
+-- input"); its terminator is still to come: it has something to pass on and holds none yet
+abbrev pub carries : Output → Bool
+carries o = o .used && not (o .closing)
+
+abbrev pub awaits : Output → Bool
+awaits o = carries o && isNone (o .terminator)
+
 -- a place with a field changed
 abbrev pub inPhase : Input → Phase → Input
 inPhase y ph = record { set = y .set; phase = ph; outputs = y .outputs; packet = y .packet; tries = y .tries }
@@ -113,10 +121,25 @@ abbrev pub received : Received → Input → Input
 received r y = inPhase y (receive r (y .phase))
 
 abbrev pub outTerm : Output → Terminator → Output
-outTerm o h = record { set = o .set; terminator = h; packet = o .packet; input = o .input; used = o .used; head = o .head }
+outTerm o h =
+    record { set = o .set; terminator = h; packet = o .packet; input = o .input; used = o .used; head = o .head; closing = o .closing }
 
 abbrev pub outHead : Output → Output
-outHead o = record { set = o .set; terminator = o .terminator; packet = o .packet; input = o .input; used = o .used; head = true }
+outHead o =
+    record {
+      set = o .set;
+      terminator = o .terminator;
+      packet = o .packet;
+      input = o .input;
+      used = o .used;
+      head = true;
+      closing = o .closing;
+    }
+
+-- L6: "after delivery the output is closing, holds no terminator"; in use, its head taken, its packet, set and feeder as they were
+abbrev pub outClosing : Output → Output
+outClosing o =
+    record { set = o .set; terminator = tNone; packet = o .packet; input = o .input; used = true; head = true; closing = true }
 
 abbrev pub entryStarted : OutEntry → OutEntry
 entryStarted u = record { set = u .set; packet = u .packet; started = true }

@@ -1,4 +1,4 @@
-// The types of edition 1 (document 01, "Network and state"), and the document's number for each case of an enum.
+// The types (document 01, "Network and state", with what L4 and L6 add), and the document's number for each case of an enum.
 // First variants are the zero ones. specs/ has the numbers and what a state and a terminator tell; document 01's other
 // definitions over these types are in crate model.
 mod phases;
@@ -53,7 +53,8 @@ pub struct Input {
     pub tries: u8,
 }
 
-// A net-output. input is the net-input that feeds it; head tells whether its head is taken.
+// A net-output. input is the net-input that feeds it; head tells whether its head is taken; closing whether its terminator is
+// delivered and its channel still held.
 pub struct Output {
     pub set: u64,
     pub terminator: Terminator,
@@ -61,6 +62,7 @@ pub struct Output {
     pub input: u8,
     pub used: bool,
     pub head: bool,
+    pub closing: bool,
 }
 
 pub struct OutEntry {
