@@ -3,25 +3,26 @@
 use Prim.Native.Nat.{ℕ, suc, _<_, _%_}
 use mathlib.Core.Path.{_≡_, refl, sym, ap, _∙_, subst, subst₂}
 use mathlib.Core.List.{List}
-use mathlib.Core.Bool.{true, false, _&&_}
+use mathlib.Core.Bool.{true, false, cond, _&&_}
 use native.Mathlib.Omega.{arith}
+use lib.Seq.{set-getD}
 use Rattle.base.specs.Sizes.{sitesMost, portCount}
 use Rattle.base.specs.Bools.{clash, cond-ok, both}
 use Rattle.base.specs.Lists.{proj-set, modify-swap}
 use Rattle.theorems.specs.Names.{Received, gotEnd, gotAbort, Terminator, tNone, tEnd, tAbort, tKeep, Free, Input, Output}
 use Rattle.theorems.specs.Names.{Site, Network}
-use Rattle.model.specs.Types.{siteD, noOutput, siteAt, inAt, outAt, outHead, setSite, setIn, setOut}
-use Rattle.model.specs.Network.{channel, joined, endSite, endPort}
+use Rattle.model.specs.Types.{inputD, siteD, noOutput, siteAt, inAt, outAt, outHead, outClosing, withInputs, setSite, setIn, setOut}
+use Rattle.model.specs.Network.{holds, channel, joined, endSite, endPort}
 use Rattle.types.specs.Phases.{isFree, listening, isNone, asTerminator}
 use Rattle.model.specs.Types.{received}
 use Rattle.model.specs.NetInput.{Turn}
-use Rattle.model.specs.Places.{seeking, headOn, termOn, deliver, channelOutput}
+use Rattle.model.specs.Places.{seeking, headOn, delivered, termOn, deliver, giveUp, channelOutput}
 use Rattle.model.specs.Steps.{farEnd, setFar, passTurn, patch}
 use Rattle.model.specs.Owing.{owesAs, owesOutput}
 use Rattle.theorems.proofs.Networks.{Valid}
-use Rattle.theorems.proofs.Invariant.{tagOut, claim, due, Fed, Inv, Kept, StepOk, good-kept, still}
+use Rattle.theorems.proofs.Invariant.{tagOut, claim, due, closing-idle, Fed, Inv, Kept, StepOk, good-kept, still}
 use Rattle.theorems.proofs.ConnectionLaws.{tag-owes, no-claim, phase-owes, phase-claim, in-good, listening-claim, free-is}
-use Rattle.theorems.proofs.OutputLaws.{unfed-term, gone-good}
+use Rattle.theorems.proofs.OutputLaws.{unfed-term, unfed-closing, gone-good}
 use Rattle.theorems.proofs.ChannelEnds.{in-same, out-same, told-inv, told-owed, headed-kept}
 
 -- what end and abort owe does not depend on the site
@@ -33,6 +34,19 @@ terminator-site gotAbort s u p t q X = refl
 terminator-some : (r : Received) → isNone (asTerminator r) ≡ false
 terminator-some gotEnd = refl
 terminator-some gotAbort = refl
+
+-- an input written back as it was
+far-set : (st : List Site) (b : ℕ) → setFar st b (farEnd st b) ≡ st
+far-set st b =
+    let x = siteAt st (endSite b) in
+    ap (λ ys. setSite st (endSite b) (withInputs x ys)) (set-getD (x .inputs) (endPort b) inputD)
+    ∙ set-getD st (endSite b) siteD
+
+-- what delivery leaves, in any edition: no terminator, and none to come
+delivered-ok : (edition : ℕ) (o : Output) → (delivered edition o .terminator ≡ tNone) × (due (delivered edition o) ≡ false)
+delivered-ok edition o =
+    cond-ok (λ (v : Output). (v .terminator ≡ tNone) × (due v ≡ false)) (holds edition) (outClosing o) noOutput
+    (λ h. (refl, refl)) (λ h. (refl, refl))
 
 module _ (n : Network) (val : Valid n) (st : List Site) (inv : Inv n st) (s j : ℕ) (hs : s < n .sites)
     (hj : j < portCount) where
@@ -122,15 +136,18 @@ module _ (n : Network) (val : Valid n) (st : List Site) (inv : Inv n st) (s j : 
     abbrev TurnOk : Turn Output Input → Type 0
     TurnOk r = StepOk n st (patch n st s (passTurn x (suc j) r))
 
-    termOn-ok : (r : Received) → due o ≡ true → o .terminator ≡ asTerminator r → TurnOk (termOn (joined n s (suc j)) y r)
+    termOn-ok : (r : Received) → due o ≡ true → o .terminator ≡ asTerminator r
+        → TurnOk (termOn (n .edition) (joined n s (suc j)) o y r)
     termOn-ok r hh hk =
         cond-ok TurnOk (joined n s (suc j) && listening (y .phase)) _ _
         (λ h.
         let w = both (joined n s (suc j)) (listening (y .phase)) h in
         let e = ye (w .0) in
         let l : listening (farEnd st b .phase) ≡ true = rw (← e) (w .1) in
-        subst (λ (z : Input). Kept n st (setFar (setSite st s (setOut x (suc j) noOutput)) b (received r z)) (λ p t. 0))
-        (sym e) (term-kept (w .0) r noOutput hh hk l refl refl))
+        let v = delivered (n .edition) o in
+        let d = delivered-ok (n .edition) o in
+        subst (λ (z : Input). Kept n st (setFar (setSite st s (setOut x (suc j) v)) b (received r z)) (λ p t. 0))
+        (sym e) (term-kept (w .0) r v hh hk l (d .0) (d .1)))
         (λ h. still n st inv)
 
     headOn-ok : TurnOk (headOn (joined n s (suc j)) o y)
@@ -146,16 +163,39 @@ module _ (n : Network) (val : Valid n) (st : List Site) (inv : Inv n st) (s j : 
         (head-kept (w .0) (rw (← ye (w .0)) (w .1))))
         (λ h. still n st inv)
 
-    deliver-ok : (k : Terminator) → due o ≡ true → o .terminator ≡ k → TurnOk (deliver (joined n s (suc j)) y k)
+    deliver-ok : (k : Terminator) → due o ≡ true → o .terminator ≡ k
+        → TurnOk (deliver (n .edition) (joined n s (suc j)) o y k)
     unfolding deliver
     deliver-ok tNone hh e = still n st inv
     deliver-ok tEnd hh e = termOn-ok gotEnd hh e
     deliver-ok tAbort hh e = termOn-ok gotAbort hh e
     deliver-ok tKeep hh e = still n st inv
 
-    pub channelOutput-ok : TurnOk (channelOutput (joined n s (suc j)) o y)
+    -- a closing output, which no input feeds and which owes nothing, is emptied; the input stays as it is
+    giveUp-ok : o .closing ≡ true → TurnOk (giveUp (joined n s (suc j)) y)
+    giveUp-ok c =
+        cond-ok TurnOk (joined n s (suc j) && isFree (y .phase)) _ _
+        (λ h.
+        let st₁ = setSite st s (setOut x (suc j) noOutput) in
+        let e = ye (both (joined n s (suc j)) (isFree (y .phase)) h .0) ∙ sym (far-same noOutput) in
+        let gone =
+        good-kept n st s _ inv (λ p t. owesOutput s p t o) s16
+        (gone-good s x j noOutput (inv .site s s16) (omega arith) (λ i. unfed-closing c) refl refl) in
+        let none = inv .site s s16 .quiet (suc j) (closing-idle o c) in
+        subst (λ (l : List Site). Kept n st l (λ p t. 0)) (sym (ap (setFar st₁ b) e ∙ far-set st₁ b))
+        (record {
+          inv = gone .inv;
+          total =
+              λ p t. omega (arith, gone .total p t, ap (λ (k : Terminator). owesAs k s p t (o .packet) (o .set)) none);
+        }))
+        (λ h. still n st inv)
+
+    pub channelOutput-ok : TurnOk (channelOutput (n .edition) (joined n s (suc j)) o y)
     unfolding channelOutput
     channelOutput-ok =
         cond-ok TurnOk (o .used) _ _
-        (λ a. cond-ok TurnOk (o .head) _ _ (λ h. deliver-ok (o .terminator) h refl) (λ h. headOn-ok))
+        (λ a.
+        cond-ok TurnOk (o .head) _ _
+        (λ h. cond-ok TurnOk (o .closing) _ _ giveUp-ok (λ c. deliver-ok (o .terminator) (rw (a, h, c) refl) refl))
+        (λ h. headOn-ok))
         (λ a. still n st inv)

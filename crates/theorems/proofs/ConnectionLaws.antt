@@ -53,6 +53,7 @@ core o =
       input = o .input;
       used = o .used;
       head = false;
+      closing = o .closing;
     }
 
 fed-core : {i : ℕ} {o o′ : Output} → core o′ ≡ core o → Fed i o → Fed i o′
@@ -61,10 +62,11 @@ fed-core e h =
       used = ap (λ (o : Output). o .used) e ∙ h .used;
       from = ap (λ (o : Output). o .input) e ∙ h .from;
       bare = ap (λ (o : Output). o .terminator) e ∙ h .bare;
+      stays = ap (λ (o : Output). o .closing) e ∙ h .stays;
     }
 
 pub not-idle : {i : ℕ} {o : Output} → Fed i o → idle o ≡ true → ⊥
-not-idle h e = clash (sym e ∙ ap not (h .used))
+not-idle h e = clash (sym e ∙ rw (h .used, h .stays) refl)
 
 pub fed-owes : {i : ℕ} {o : Output} (s p t : ℕ) → Fed i o → owesOutput s p t o ≡ 0
 fed-owes {o = o} s p t h = ap (λ (k : Terminator). owesAs k s p t (o .packet) (o .set)) (h .bare)

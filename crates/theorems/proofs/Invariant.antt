@@ -2,9 +2,9 @@
 -- channel, a terminator that is to come, and the place that waits for it, speak of the same packet and set.
 -- Assumes nothing.
 use Prim.Native.Nat.{ℕ, suc, _+_, _≤_, _<_, _%_}
-use mathlib.Core.Path.{_≡_, refl, _∙_}
+use mathlib.Core.Path.{_≡_, refl, ap, _∙_}
 use mathlib.Core.List.{List, [], _∷_}
-use mathlib.Core.Bool.{Bool, true, false, cond, not}
+use mathlib.Core.Bool.{Bool, true, false, cond, not, _&&_, and-false}
 use native.Mathlib.Omega.{arith}
 use lib.ListN.{getD, length, length-set}
 use Rattle.base.specs.Sizes.{sitesMost, inputCount, outputCount, portCount, queueRoom}
@@ -12,7 +12,7 @@ use Rattle.base.specs.Lists.{all-set, rel-set}
 use Rattle.base.specs.Sums.{upto, isum-set}
 use Rattle.theorems.specs.Names.{Connection, gotEnd, Terminator, tNone, tEnd, Phase, Free, Seek, Open, Wait, Done, Last}
 use Rattle.theorems.specs.Names.{Aborted, FinAbort, Input, Output, OutQueue, InQueue, Site, Network, Serviced}
-use Rattle.model.specs.Types.{inputD, siteD, noOutput, siteAt, inAt, outAt, mark, outEntry, setSite}
+use Rattle.model.specs.Types.{inputD, siteD, noOutput, siteAt, inAt, outAt, mark, outEntry, carries, setSite}
 use Rattle.model.specs.Network.{channel, joined, endSite}
 use Rattle.types.specs.Phases.{splits}
 use Rattle.model.specs.NetInput.{table}
@@ -48,24 +48,31 @@ claim y = claimOf (y .phase) (y .packet) (y .set)
 abbrev pub waiting : InQueue → List ℕ
 waiting q = cond (lastLacks q) (tag (lastOf q .packet) (lastOf q .set)) []
 
--- an output whose head is taken: its terminator is still to be delivered
+-- an output whose head is taken and whose terminator is still to be delivered
 abbrev pub due : Output → Bool
-due o = o .head
+due o = carries o && o .head
 
--- an output that has nothing to pass on
+-- an output that has nothing to pass on: empty or closing
 abbrev pub idle : Output → Bool
-idle o = not (o .used)
+idle o = not (carries o)
+
+pub empty-idle : (o : Output) → o .used ≡ false → idle o ≡ true
+empty-idle o e = rw e refl
+
+pub closing-idle : (o : Output) → o .closing ≡ true → idle o ≡ true
+closing-idle o e = rw e (ap not (and-false (o .used)))
 
 abbrev pub Quiet : Output → Type 0
 Quiet o = idle o ≡ true → o .terminator ≡ tNone
 
 -- ---- an input and its outputs
 
--- an output in use that input i feeds and that has no terminator
+-- an output in use that input i feeds, that has no terminator and is not closing
 pub record Fed (i : ℕ) (o : Output) : Type 0 where
   pub used : o .used ≡ true
   pub from : o .input ≡ i
   pub bare : o .terminator ≡ tNone
+  pub stays : o .closing ≡ false
 
 -- output 0 fed by input i with the packet q and the whole set X
 pub record Whole (i q X : ℕ) (o : ℕ → Output) : Type 0 where

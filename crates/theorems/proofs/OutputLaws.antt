@@ -10,7 +10,7 @@ use lib.Dec.{ltb}
 use lib.ListN.{set, length, length-set}
 use lib.Seq.{getD-set-same, getD-set-other}
 use Rattle.base.specs.Sizes.{outputCount, queueRoom}
-use Rattle.base.specs.Bools.{clash, cond-ok}
+use Rattle.base.specs.Bools.{clash, cond-ok, either-way}
 use Rattle.base.specs.Lists.{all-set, rel-set, proj-set}
 use Rattle.base.specs.Sums.{sum-set}
 use Rattle.theorems.specs.Names.{Terminator, tNone, Output, InEntry, InQueue, Site}
@@ -20,7 +20,7 @@ use Rattle.model.specs.NetInput.{Turn}
 use Rattle.model.specs.Places.{lastOf, lastLacks, endLast, headIn, termIn, localOutput}
 use Rattle.model.specs.Steps.{ownTurn}
 use Rattle.model.specs.Owing.{owesAs, owesOutput, owesInEntry, owesInQueue}
-use Rattle.theorems.proofs.Invariant.{tag, tagOut, due, idle, Quiet, Fed, Conn, Landing, SiteOk, SameHead, Good, OwnOk}
+use Rattle.theorems.proofs.Invariant.{tag, tagOut, due, idle, closing-idle, Quiet, Fed, Conn, Landing, SiteOk, SameHead, Good, OwnOk}
 use Rattle.theorems.proofs.ConnectionLaws.{tag-owes, core, conn-frame}
 use Rattle.theorems.proofs.QueueLaws.{fits-push, fits-set, sum-pushed, push-waiting, end-owes}
 
@@ -55,6 +55,10 @@ module _ (s : ℕ) (x : Site) (j : ℕ) (v : Output) (ok : SiteOk s x) where
 -- an output with a terminator is fed by none
 pub unfed-term : {i : ℕ} {o : Output} → isNone (o .terminator) ≡ false → Fed i o → ⊥
 unfed-term e f = clash (sym (ap isNone (f .bare)) ∙ e)
+
+-- and so is one that is closing
+pub unfed-closing : {i : ℕ} {o : Output} → o .closing ≡ true → Fed i o → ⊥
+unfed-closing e f = clash (sym e ∙ f .stays)
 
 -- ---- output j + 1 alone
 
@@ -166,11 +170,17 @@ module _ (s : ℕ) (x : Site) (ok : SiteOk s x) where
       (λ p t. omega (arith, end-owes s p t q (o .terminator) fits w, tag-owes (o .terminator) s p t tags)))
       (λ w. tt)
 
+  -- with a terminator it is not closing
+  is-due : o .used ≡ true → o .head ≡ true → isNone (o .terminator) ≡ false → due o ≡ true
+  is-due a h e =
+      either-way (o .closing) (λ c. absurd (clash (sym (ap isNone (ok .quiet 0 (closing-idle o c))) ∙ e)))
+      (λ c. rw (a, h, c) refl)
+
   pub localOutput-ok : (D : ℕ) → D ≤ queueRoom → TurnOk (localOutput D o q)
   unfolding localOutput
   localOutput-ok D deep =
       cond-ok TurnOk (o .used) _ _
       (λ a.
       cond-ok TurnOk (o .head) _ _
-      (λ h. cond-ok TurnOk (isNone (o .terminator)) _ _ (λ e. tt) (λ e. termIn-ok h e)) (λ h. headIn-ok D deep))
+      (λ h. cond-ok TurnOk (isNone (o .terminator)) _ _ (λ e. tt) (λ e. termIn-ok (is-due a h e) e)) (λ h. headIn-ok D deep))
       (λ a. tt)

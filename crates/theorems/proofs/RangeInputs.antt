@@ -92,6 +92,7 @@ module _ (n : Network) (k i : ℕ) (y : Input) (os : List Output) (hi : i < inpu
   term-out j t f kp =
       let u = f .used in
       used-out n k j (outTerm (outOf os j) t) u (outs j .tagged u) (outs j .from u) kp
+      (λ c. absurd (clash (sym c ∙ f .stays)))
 
   give-outs : (f : ℕ → Terminator) (bs : List Bool)
       → ((j : ℕ) → j < outputCount → mark bs j ≡ true → Fed i (outOf os j))
@@ -132,7 +133,7 @@ module _ (n : Network) (k i : ℕ) (y : Input) (os : List Output) (hi : i < inpu
                   (λ l a.
                   used-out n k j (taken q i (getD sets j 0)) refl
                   (record { under = tag .under; some = omega (arith, chosen-at sets j a); within = low j }) hi
-                  (λ z. absurd (clash (sym z))))
+                  (λ z. absurd (clash (sym z))) (λ z. absurd (clash (sym z))))
                   (outs j);
               others =
                   λ m ne j f.
@@ -154,7 +155,7 @@ module _ (n : Network) (k i : ℕ) (y : Input) (os : List Output) (hi : i < inpu
               fed =
                   λ j l m.
                   rw (occupy-at q i sets os five j l, sym (mark-at sets j l) ∙ m)
-                  (record { used = refl; from = refl; bare = refl });
+                  (record { used = refl; from = refl; bare = refl; stays = refl });
               zeroth =
                   λ sp. mark-at sets 0 (omega arith) ∙ chosen 0 (λ z. let x = r .zeroth sp in omega (arith, tag .some));
               sole = λ z. absurd (clash (sym z));

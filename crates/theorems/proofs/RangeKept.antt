@@ -60,18 +60,18 @@ zero-site : zeroSite noSite ≡ true
 unfolding all any
 zero-site = refl
 
-zero-ok : (S T D k : ℕ) → siteOk S T D k noSite ≡ true
+zero-ok : (E S T D k : ℕ) → siteOk E S T D k noSite ≡ true
 unfolding all any
-zero-ok S T D k = rw (le-leb 0 D (omega arith), le-leb 0 T (omega arith)) refl
+zero-ok E S T D k = rw (le-leb 0 D (omega arith), le-leb 0 T (omega arith)) refl
 
 pub empty-in-range : (n : Network) → inRange n noState ≡ true
 unfolding inRange
 empty-in-range n =
-    all-by (λ s. placeOk (n .sites) (n .tries) (n .depth) 0 s (siteAt (noState .sites) s)) sitesMost
+    all-by (λ s. placeOk (n .edition) (n .sites) (n .tries) (n .depth) 0 s (siteAt (noState .sites) s)) sitesMost
     (λ s l.
     rw (getD-replicate sitesMost s noSite siteD l)
-    (pick-by (ltb s (n .sites)) (siteOk (n .sites) (n .tries) (n .depth) 0 noSite) (zeroSite noSite)
-    (λ e. zero-ok (n .sites) (n .tries) (n .depth) 0) (λ e. zero-site)))
+    (pick-by (ltb s (n .sites)) (siteOk (n .edition) (n .sites) (n .tries) (n .depth) 0 noSite) (zeroSite noSite)
+    (λ e. zero-ok (n .edition) (n .sites) (n .tries) (n .depth) 0) (λ e. zero-site)))
 
 -- ---- one event
 

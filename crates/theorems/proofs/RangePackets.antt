@@ -8,7 +8,7 @@ use native.Mathlib.Omega.{arith}
 use borrow.Author.Tests.{eqb-true}
 use lib.Dec.{eqb}
 use Rattle.base.specs.Sizes.{sitesMost, inputCount, outputCount, queueRoom}
-use Rattle.base.specs.Bools.{either-way, both, both3}
+use Rattle.base.specs.Bools.{either-way, both, both3, both6}
 use Rattle.base.specs.All.{all, all-at}
 use Rattle.base.specs.Lists.{beyond}
 use Rattle.theorems.specs.Names.{Input, Output, OutEntry, InEntry, Site, State, Network}
@@ -33,10 +33,9 @@ input-zero y h =
 output-zero : (o : Output) → zeroOutput o ≡ true → o .packet ≡ 0
 output-zero o h =
     let a =
-    both3 (not (o .used) && eqb (o .packet) 0 && eqb (o .set) 0 && eqb (o .input) 0) (not (o .head))
-    (isNone (o .terminator)) h in
-    let b = both3 (not (o .used) && eqb (o .packet) 0) (eqb (o .set) 0) (eqb (o .input) 0) (a .0) in
-    eqb-true (o .packet) 0 (both (not (o .used)) (eqb (o .packet) 0) (b .0) .1)
+    both6 (not (o .used) && eqb (o .packet) 0) (eqb (o .set) 0) (eqb (o .input) 0) (not (o .head))
+    (isNone (o .terminator)) (not (o .closing)) h in
+    eqb-true (o .packet) 0 (both (not (o .used)) (eqb (o .packet) 0) (a .0) .1)
 
 out-entry-zero : (d : OutEntry) → zeroOutEntry d ≡ true → d .packet ≡ 0
 out-entry-zero d h = eqb-true (d .packet) 0 (both3 (eqb (d .packet) 0) (eqb (d .set) 0) (not (d .started)) h .0)

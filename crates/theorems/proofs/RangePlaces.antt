@@ -1,26 +1,29 @@
 -- The rules of net-outputs, the out-queue and the operator keep in range the places that they change, and change one.
 -- Each is a fact of a rule's answer: nothing is said of Stay and Rest. Assumes nothing.
-use Prim.Native.Nat.{ℕ, _-_, _≤_, _<_}
+use Prim.Native.Nat.{ℕ, suc, _-_, _≤_, _<_}
 use mathlib.Core.Path.{_≡_, refl, sym, ap, _∙_}
 use mathlib.Core.List.{List}
-use mathlib.Core.Bool.{Bool, true, false, _&&_}
+use mathlib.Core.Bool.{Bool, true, false, not, _&&_}
 use native.Mathlib.Omega.{arith}
 use borrow.Author.Tests.{ltb-true, eqb-false}
-use lib.Dec.{eqb, ltb}
+use lib.Dec.{eqb, ltb, eqb·suc-zero}
 use Rattle.base.specs.Sizes.{inputCount, queueRoom}
-use Rattle.base.specs.Bools.{clash, cond-ok, both}
+use Rattle.base.specs.Bools.{clash, cond-ok, both, both3}
 use Rattle.sets.specs.Sets.{has, minus}
 use Rattle.sets.proofs.Laws.{minus-le}
 use Rattle.theorems.specs.Names.{Received, gotEnd, gotAbort, Terminator, tNone, tEnd, tAbort, tKeep, Phase, Free, Seek, Open}
 use Rattle.theorems.specs.Names.{Wait, Done, Last, Aborted, FinAbort, Input, Output, OutQueue, InQueue, Network}
 use Rattle.model.specs.Types.{noMarks, noOutput, noOutEntry, noInEntry, outEntry, inEntry, outHead, entryStarted, entryTerm, popIn}
+use Rattle.model.specs.Types.{outClosing}
+use Rattle.model.specs.Network.{holds}
 use Rattle.types.specs.Phases.{isFree, listening, isNone, isKeep, receive}
 use Rattle.model.specs.Types.{received}
-use Rattle.model.specs.Range.{zeroOutEntry, zeroInEntry}
+use Rattle.model.specs.Range.{closingOk, zeroOutEntry, zeroInEntry}
 use Rattle.model.specs.NetInput.{Turn, Stay, To}
-use Rattle.model.specs.Places.{seeking, lastOf, lastLacks, localOutput, deliver, channelOutput, outQueue, Work, Rest, Cleared}
-use Rattle.model.specs.Places.{Service, serviceIf, operate, operator}
+use Rattle.model.specs.Places.{seeking, lastOf, lastLacks, localOutput, headOn, delivered, termOn, deliver, giveUp, channelOutput}
+use Rattle.model.specs.Places.{outQueue, Work, Rest, Cleared, Service, serviceIf, operate, operator}
 use Rattle.theorems.proofs.Invariant.{Fed}
+use Rattle.theorems.proofs.OutputLaws.{unfed-term, unfed-closing}
 use Rattle.theorems.proofs.RangeTests.{Tagged, InputBy, InputIn, OutputIn, OutEntryIn, InEntryIn, OutQueueIn, InQueueIn}
 use Rattle.theorems.proofs.RangeTests.{no-marks, output-at}
 use Rattle.theorems.proofs.RangeSites.{queue-push, queue-pop, queue-set, seek-in}
@@ -56,29 +59,51 @@ module _ (n : Network) (k : ℕ) where
   -- ---- places
 
   pub used-out : (j : ℕ) (o : Output) → o .used ≡ true → Tagged n k (o .packet) (o .set) → o .input < inputCount
-      → (isKeep (o .terminator) ≡ true → j ≡ 0) → OutputIn n k j o
-  used-out j o u t f h =
-      record { tagged = λ e. t; from = λ e. f; keep = λ e. h; blank = λ e. absurd (clash (sym u ∙ e)) }
+      → (isKeep (o .terminator) ≡ true → j ≡ 0) → (o .closing ≡ true → closingOk (n .edition) j o ≡ true)
+      → OutputIn n k j o
+  used-out j o u t f h c =
+      record { tagged = λ e. t; from = λ e. f; keep = λ e. h; closing = λ e. c; blank = λ e. absurd (clash (sym u ∙ e)) }
 
   pub empty-out : (j : ℕ) → OutputIn n k j noOutput
   empty-out j = output-at n k j noOutput refl
 
-  -- its head taken; its terminator delivered
+  -- a closing output's head is taken
+  closing-head : (j : ℕ) (o : Output) → closingOk (n .edition) j o ≡ true → o .head ≡ true
+  closing-head j o h =
+      both3 (holds (n .edition) && not (eqb j 0)) (o .head) (isNone (o .terminator)) h .1
+
+  -- its head taken; emptied; its terminator delivered
   head-to : (j : ℕ) (o : Output) → o .used ≡ true → o .head ≡ false → OutputIn n k j o → OutputTo n k j o (outHead o)
   head-to j o u h ok =
       record {
-        inn = used-out j (outHead o) u (ok .tagged u) (ok .from u) (ok .keep u);
-        fed = λ i f. record { used = f .used; from = f .from; bare = f .bare };
+        inn =
+            used-out j (outHead o) u (ok .tagged u) (ok .from u) (ok .keep u)
+            (λ c. absurd (clash (sym (closing-head j o (ok .closing u c)) ∙ h)));
+        fed = λ i f. record { used = f .used; from = f .from; bare = f .bare; stays = f .stays };
         moved = λ e. clash (ap (λ (w : Output). w .head) e ∙ h);
       }
 
-  gone-to : (j : ℕ) (o : Output) → o .used ≡ true → isNone (o .terminator) ≡ false → OutputTo n k j o noOutput
-  gone-to j o u h =
+  gone-to : (j : ℕ) (o : Output) → o .used ≡ true → ((i : ℕ) → Fed i o → ⊥) → OutputTo n k j o noOutput
+  gone-to j o u unfed =
       record {
         inn = empty-out j;
-        fed = λ i f. absurd (clash (sym (ap isNone (f .bare)) ∙ h));
+        fed = λ i f. absurd (unfed i f);
         moved = λ e. clash (sym u ∙ sym (ap (λ (w : Output). w .used) e));
       }
+
+  delivered-to : (j : ℕ) (o : Output) → o .used ≡ true → isNone (o .terminator) ≡ false → OutputIn n k (suc j) o
+      → OutputTo n k (suc j) o (delivered (n .edition) o)
+  delivered-to j o u h ok =
+      cond-ok (OutputTo n k (suc j) o) (holds (n .edition)) (outClosing o) noOutput
+      (λ e.
+      record {
+        inn =
+            used-out (suc j) (outClosing o) refl (ok .tagged u) (ok .from u) (λ z. absurd (clash (sym z)))
+            (λ c. rw (e, eqb·suc-zero j) refl);
+        fed = λ i f. absurd (unfed-term h f);
+        moved = λ z. clash (ap (λ (w : Output). isNone (w .terminator)) z ∙ h);
+      })
+      (λ e. gone-to (suc j) o u (λ i. unfed-term h))
 
   seeking-to : (y : Input) (q z : ℕ) → Tagged n k q z → InputTo n k y (seeking q z)
   seeking-to y q z t i o h = seek-in n k i q z 0 noMarks o (λ l. refl) no-marks t (omega arith)
@@ -103,30 +128,47 @@ module _ (n : Network) (k : ℕ) where
   abbrev PassedOn : Bool → ℕ → Output → Input → Output → Input → Type 0
   PassedOn there j o y v z = (there ≡ true) × OutputTo n k j o v × InputTo n k y z
 
-  deliver-in : (there : Bool) (j : ℕ) (o : Output) (y : Input) (t : Terminator) → o .used ≡ true → o .terminator ≡ t
-      → TurnIn (PassedOn there j o y) (deliver there y t)
-  unfolding deliver
-  deliver-in there j o y tNone u e = tt
-  deliver-in there j o y tEnd u e =
-      cond-ok (TurnIn (PassedOn there j o y)) (there && listening (y .phase)) _ _
-      (λ a. (both there (listening (y .phase)) a .0, gone-to j o u (ap isNone e), received-to gotEnd y)) (λ a. tt)
-  deliver-in there j o y tAbort u e =
-      cond-ok (TurnIn (PassedOn there j o y)) (there && listening (y .phase)) _ _
-      (λ a. (both there (listening (y .phase)) a .0, gone-to j o u (ap isNone e), received-to gotAbort y)) (λ a. tt)
-  deliver-in there j o y tKeep u e = tt
+  -- output j + 1
+  module _ (there : Bool) (j : ℕ) (o : Output) (y : Input) (ok : OutputIn n k (suc j) o) where
+    abbrev Moved : Turn Output Input → Type 0
+    Moved = TurnIn (PassedOn there (suc j) o y)
 
-  pub channelOutput-in : (there : Bool) (j : ℕ) (o : Output) (y : Input) → OutputIn n k j o
-      → TurnIn (PassedOn there j o y) (channelOutput there o y)
-  unfolding channelOutput
-  channelOutput-in there j o y ok =
-      cond-ok (TurnIn (PassedOn there j o y)) (o .used) _ _
-      (λ u.
-      cond-ok (TurnIn (PassedOn there j o y)) (o .head) _ _ (λ h. deliver-in there j o y (o .terminator) u refl)
-      (λ h.
-      cond-ok (TurnIn (PassedOn there j o y)) (there && isFree (y .phase)) _ _
-      (λ a. (both there (isFree (y .phase)) a .0, head-to j o u h ok, seeking-to y (o .packet) (o .set) (ok .tagged u)))
-      (λ a. tt)))
-      (λ u. tt)
+    termOn-in : (r : Received) → o .used ≡ true → isNone (o .terminator) ≡ false
+        → Moved (termOn (n .edition) there o y r)
+    termOn-in r u h =
+        cond-ok Moved (there && listening (y .phase)) _ _
+        (λ a. (both there (listening (y .phase)) a .0, delivered-to j o u h ok, received-to r y)) (λ a. tt)
+
+    deliver-in : (t : Terminator) → o .used ≡ true → o .terminator ≡ t → Moved (deliver (n .edition) there o y t)
+    unfolding deliver
+    deliver-in tNone u e = tt
+    deliver-in tEnd u e = termOn-in gotEnd u (ap isNone e)
+    deliver-in tAbort u e = termOn-in gotAbort u (ap isNone e)
+    deliver-in tKeep u e = tt
+
+    giveUp-in : o .used ≡ true → o .closing ≡ true → Moved (giveUp there y)
+    giveUp-in u c =
+        cond-ok Moved (there && isFree (y .phase)) _ _
+        (λ a. (both there (isFree (y .phase)) a .0, gone-to (suc j) o u (λ i. unfed-closing c), λ i os h. h)) (λ a. tt)
+
+    headOn-in : o .used ≡ true → o .head ≡ false → Moved (headOn there o y)
+    headOn-in u h =
+        cond-ok Moved (there && isFree (y .phase)) _ _
+        (λ a. (
+          both there (isFree (y .phase)) a .0,
+          head-to (suc j) o u h ok,
+          seeking-to y (o .packet) (o .set) (ok .tagged u),
+        ))
+        (λ a. tt)
+
+    pub channelOutput-in : Moved (channelOutput (n .edition) there o y)
+    unfolding channelOutput
+    channelOutput-in =
+        cond-ok Moved (o .used) _ _
+        (λ u.
+        cond-ok Moved (o .head) _ _
+        (λ h. cond-ok Moved (o .closing) _ _ (giveUp-in u) (λ c. deliver-in (o .terminator) u refl)) (headOn-in u))
+        (λ u. tt)
 
 module _ (n : Network) (k : ℕ) (deep : n .depth ≤ queueRoom) where
   -- ---- net-output 0
@@ -147,7 +189,7 @@ module _ (n : Network) (k : ℕ) (deep : n .depth ≤ queueRoom) where
       cond-ok (TurnIn (Landed o)) (lastLacks q) _ _
       (λ c.
       let pos = ltb-true 0 (q .count) (both (ltb 0 (q .count)) (isNone (lastOf q .terminator)) c .0) in (
-        gone-to n k 0 o u b,
+        gone-to n k 0 o u (λ i. unfed-term b),
         queue-set (InEntryIn n k) zeroInEntry noInEntry (q .count - 1) (entryTerm (lastOf q) (o .terminator))
             (omega arith) (h .each (q .count - 1) .0 (omega arith)) h,
       ))

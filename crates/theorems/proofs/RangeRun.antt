@@ -3,7 +3,7 @@
 use Prim.Native.Nat.{ℕ, zero, suc, _+_, _-_, _^_, _≤_, _<_}
 use mathlib.Core.Path.{_≡_, refl, sym, ap, _∙_, subst}
 use mathlib.Core.List.{List}
-use mathlib.Core.Bool.{Bool, true, false, _&&_}
+use mathlib.Core.Bool.{Bool, true, false, not, _&&_}
 use native.Mathlib.Nat.{le-of-suc-le-suc}
 use native.Mathlib.Omega.{arith}
 use borrow.Author.Tests.{ltb-true, le-leb}
@@ -15,7 +15,7 @@ use Rattle.base.specs.Bools.{cond-ok, clash, both, both3}
 use Rattle.base.specs.Lists.{all-but, proj-set}
 use Rattle.theorems.specs.Names.{Input, Output, OutQueue, InQueue, Site, Network, Ran, Nothing, Changed, Serviced, RunRefused}
 use Rattle.model.specs.Types.{inputD, noOutput, noOutEntry, siteD, siteAt, inAt, outOf, outAt, withOutQueue, withInQueue, setIn}
-use Rattle.model.specs.Types.{setOut, setSite}
+use Rattle.model.specs.Types.{carries, setOut, setSite}
 use Rattle.model.specs.Network.{channel, joined, endSite, endPort}
 use Rattle.types.specs.Phases.{isNone}
 use Rattle.model.specs.Range.{zeroOutEntry}
@@ -94,8 +94,9 @@ module _ (n : Network) (val : Valid n) (s : ℕ) (hs : s < n .sites) (k : ℕ) (
       cond-ok (λ r. Decided (ownTurn (setBoth x i) r)) (lastLacks (x .incoming) && stalled (outAt x 0)) _ _
       (λ a.
       let b = both (lastLacks (x .incoming)) (stalled (outAt x 0)) a in
-      let u = both3 (outAt x 0 .used) (outAt x 0 .head) (isNone (outAt x 0 .terminator)) (b .1) .0 in
-      let hi = ok .outs 0 .from u in
+      let o = outAt x 0 in
+      let c = both3 (carries o) (isNone (o .terminator)) (o .head) (b .1) .0 in
+      let hi = ok .outs 0 .from (both (o .used) (not (o .closing)) c .0) in
       both-act i hi (cutAt (inAt x i) (x .outputs) (inAt x i .phase))
       (cutAt-in n k i (inAt x i) (x .outputs) hi (ok .outputs) (ok .ins i) (ok .outs) (inAt x i .phase) refl))
       (λ a. tt)
@@ -135,8 +136,8 @@ module _ (n : Network) (val : Valid n) (s : ℕ) (hs : s < n .sites) (k : ℕ) (
       local-act (localOutput (n .depth) (outAt x 0) (x .incoming))
       (localOutput-in n k (val .deep) (outAt x 0) (x .incoming) (ok .outs 0) (ok .incoming))
   output-act (suc j) hj =
-      pass-act j (le-of-suc-le-suc hj) (channelOutput (joined n s (suc j)) (outAt x (suc j)) (far (suc j)))
-      (channelOutput-in n k (joined n s (suc j)) (suc j) (outAt x (suc j)) (far (suc j)) (ok .outs (suc j)))
+      pass-act j (le-of-suc-le-suc hj) (channelOutput (n .edition) (joined n s (suc j)) (outAt x (suc j)) (far (suc j)))
+      (channelOutput-in n k (joined n s (suc j)) j (outAt x (suc j)) (far (suc j)) (ok .outs (suc j)))
 
   -- queues changed
   queue-act : (r : Turn OutQueue Input)
@@ -281,7 +282,13 @@ module _ (n : Network) (k : ℕ) where
         outs =
             λ j.
             let o = h .outs j in
-            record { tagged = λ e. tag-more (o .tagged e); from = o .from; keep = o .keep; blank = o .blank };
+            record {
+              tagged = λ e. tag-more (o .tagged e);
+              from = o .from;
+              keep = o .keep;
+              closing = o .closing;
+              blank = o .blank;
+            };
         outgoing = queue-map _ _ _ (OutEntryIn n (k + 1)) (λ m d u. (tag-more (u .0), u .1)) (h .outgoing);
         incoming = queue-map _ _ _ (InEntryIn n (k + 1)) (λ m d u. tag-more u) (h .incoming);
       }

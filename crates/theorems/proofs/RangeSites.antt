@@ -140,9 +140,9 @@ module _ (n : Network) (k : ℕ) (x : Site) where
   inputTest i = inputOk (n .sites) (n .tries) k (x .outputs) i (inAt x i)
 
   abbrev outputTest : ℕ → Bool
-  outputTest j = outputOk (n .sites) k j (outAt x j)
+  outputTest j = outputOk (n .edition) (n .sites) k j (outAt x j)
 
-  pub site-at : SiteShaped x → n .depth ≤ queueRoom → siteOk (n .sites) (n .tries) (n .depth) k x ≡ true → SiteIn n k x
+  pub site-at : SiteShaped x → n .depth ≤ queueRoom → siteOk (n .edition) (n .sites) (n .tries) (n .depth) k x ≡ true → SiteIn n k x
   site-at len deep h =
       let w =
       both3 (all inputTest inputCount && all outputTest outputCount) (outQueueOk (n .sites) (n .depth) k (x .outgoing))
@@ -163,7 +163,7 @@ module _ (n : Network) (k : ℕ) (x : Site) where
         incoming = in-queue-at n k (x .incoming) (len .incoming) deep (w .2);
       }
 
-  pub site-by : SiteIn n k x → siteOk (n .sites) (n .tries) (n .depth) k x ≡ true
+  pub site-by : SiteIn n k x → siteOk (n .edition) (n .sites) (n .tries) (n .depth) k x ≡ true
   site-by h =
       and3 (all inputTest inputCount && all outputTest outputCount) (outQueueOk (n .sites) (n .depth) k (x .outgoing))
       (inQueueOk (n .sites) (n .depth) k (x .incoming))
@@ -231,10 +231,10 @@ pub record SitesIn (n : Network) (k : ℕ) (st : List Site) : Type 0 where
 
 module _ (n : Network) (k : ℕ) (st : List Site) where
   abbrev siteTest : ℕ → Bool
-  siteTest s = siteOk (n .sites) (n .tries) (n .depth) k (siteAt st s)
+  siteTest s = siteOk (n .edition) (n .sites) (n .tries) (n .depth) k (siteAt st s)
 
   abbrev placeTest : ℕ → Bool
-  placeTest s = placeOk (n .sites) (n .tries) (n .depth) k s (siteAt st s)
+  placeTest s = placeOk (n .edition) (n .sites) (n .tries) (n .depth) k s (siteAt st s)
 
   pub sites-at : length st ≡ sitesMost → ((s : ℕ) → s < sitesMost → SiteShaped (siteAt st s)) → n .sites ≤ sitesMost
       → n .depth ≤ queueRoom → all placeTest sitesMost ≡ true → SitesIn n k st

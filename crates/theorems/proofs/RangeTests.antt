@@ -17,10 +17,10 @@ use Rattle.sets.specs.Sets.{targets}
 use Rattle.sets.proofs.Laws.{targets-at, targets-by}
 use Rattle.theorems.specs.Names.{Terminator, tNone, tEnd, tAbort, tKeep, Phase, Input, Output, OutEntry, InEntry, OutQueue}
 use Rattle.theorems.specs.Names.{InQueue, Network}
-use Rattle.model.specs.Types.{noMarks, noOutEntry, noInEntry, outOf, mark}
+use Rattle.model.specs.Types.{noMarks, noOutEntry, noInEntry, outOf, mark, carries}
 use Rattle.types.specs.Phases.{isFree, connected, splitting, aborting, isNone, isKeep}
-use Rattle.model.specs.Range.{tagOk, anyMark, anyRemote, zeroInput, zeroOutput, zeroOutEntry, zeroInEntry, fedBy, inputOk, outputOk}
-use Rattle.model.specs.Range.{outQueueOk, inQueueOk}
+use Rattle.model.specs.Range.{tagOk, anyMark, anyRemote, zeroInput, zeroOutput, zeroOutEntry, zeroInEntry, fedBy, inputOk}
+use Rattle.model.specs.Range.{closingOk, outputOk, outQueueOk, inQueueOk}
 use Rattle.theorems.proofs.Invariant.{Fed}
 use Rattle.theorems.proofs.ConnectionLaws.{free-is}
 
@@ -55,6 +55,7 @@ pub record OutputIn (n : Network) (k j : ℕ) (o : Output) : Type 0 where
   pub tagged : o .used ≡ true → Tagged n k (o .packet) (o .set)
   pub from : o .used ≡ true → o .input < inputCount
   pub keep : o .used ≡ true → isKeep (o .terminator) ≡ true → j ≡ 0
+  pub closing : o .used ≡ true → o .closing ≡ true → closingOk (n .edition) j o ≡ true
   pub blank : o .used ≡ false → zeroOutput o ≡ true
 
 -- a queue of at most D in an array: it has c entries, U holds of each, Z of the room beyond
@@ -97,13 +98,20 @@ none-is tKeep h = absurd (clash (sym h))
 
 fed-at : (i : ℕ) (o : Output) → fedBy i o ≡ true → Fed i o
 fed-at i o h =
-    let a = both3 (o .used) (eqb (o .input) i) (isNone (o .terminator)) h in
-    record { used = a .0; from = eqb-true (o .input) i (a .1); bare = none-is (o .terminator) (a .2) }
+    let a = both3 (carries o) (isNone (o .terminator)) (eqb (o .input) i) h in
+    let b = both (o .used) (not (o .closing)) (a .0) in
+    record {
+      used = b .0;
+      from = eqb-true (o .input) i (a .2);
+      bare = none-is (o .terminator) (a .1);
+      stays = not-true (o .closing) (b .1);
+    }
 
 fed-by : (i : ℕ) (o : Output) → Fed i o → fedBy i o ≡ true
 fed-by i o h =
-    and3 (o .used) (eqb (o .input) i) (isNone (o .terminator)) (h .used) (eq-eqb (o .input) i (h .from))
-    (ap isNone (h .bare))
+    and3 (carries o) (isNone (o .terminator)) (eqb (o .input) i)
+    (and (o .used) (not (o .closing)) (h .used) (ap not (h .stays))) (ap isNone (h .bare))
+    (eq-eqb (o .input) i (h .from))
 
 -- ---- marks
 
@@ -199,28 +207,36 @@ module _ (n : Network) (k j : ℕ) (o : Output) where
   abbrev keepOk : Bool
   keepOk = implies (isKeep (o .terminator)) (eqb j 0)
 
-  abbrev usedOk : Bool
-  usedOk = tagged && ltb (o .input) inputCount && keepOk
+  abbrev heldOk : Bool
+  heldOk = implies (o .closing) (closingOk (n .edition) j o)
 
-  pub output-at : outputOk (n .sites) k j o ≡ true → OutputIn n k j o
+  abbrev usedOk : Bool
+  usedOk = tagged && ltb (o .input) inputCount && keepOk && heldOk
+
+  pub output-at : outputOk (n .edition) (n .sites) k j o ≡ true → OutputIn n k j o
   output-at h =
       let c = pick-at (o .used) usedOk (zeroOutput o) h in
+      let w : o .used ≡ true → (tagged && ltb (o .input) inputCount && keepOk ≡ true) × (heldOk ≡ true) =
+      λ e. both (tagged && ltb (o .input) inputCount && keepOk) heldOk (c .0 e) in
       let u : o .used ≡ true → (tagged ≡ true) × (ltb (o .input) inputCount ≡ true) × (keepOk ≡ true) =
-      λ e. both3 tagged (ltb (o .input) inputCount) keepOk (c .0 e) in
+      λ e. both3 tagged (ltb (o .input) inputCount) keepOk (w e .0) in
       record {
         tagged = λ e. tag-at n k (o .packet) (o .set) (u e .0);
         from = λ e. ltb-true (o .input) inputCount (u e .1);
         keep = λ e m. eqb-true j 0 (implies-at (isKeep (o .terminator)) (eqb j 0) (u e .2) m);
+        closing = λ e. implies-at (o .closing) (closingOk (n .edition) j o) (w e .1);
         blank = c .1;
       }
 
-  pub output-by : OutputIn n k j o → outputOk (n .sites) k j o ≡ true
+  pub output-by : OutputIn n k j o → outputOk (n .edition) (n .sites) k j o ≡ true
   output-by h =
       pick-by (o .used) usedOk (zeroOutput o)
       (λ e.
-      and3 tagged (ltb (o .input) inputCount) keepOk (tag-by n k (o .packet) (o .set) (h .tagged e))
+      and (tagged && ltb (o .input) inputCount && keepOk) heldOk
+      (and3 tagged (ltb (o .input) inputCount) keepOk (tag-by n k (o .packet) (o .set) (h .tagged e))
       (lt-ltb (o .input) inputCount (h .from e))
       (implies-by (isKeep (o .terminator)) (eqb j 0) (λ m. eq-eqb j 0 (h .keep e m))))
+      (implies-by (o .closing) (closingOk (n .edition) j o) (h .closing e)))
       (h .blank)
 
 -- ---- queues

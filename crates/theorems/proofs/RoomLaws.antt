@@ -19,7 +19,7 @@ use Rattle.sets.proofs.LawsLowest.{lowest-lt}
 use Rattle.sets.proofs.LawsSize.{minus-pos, size-within}
 use Rattle.theorems.specs.Names.{Phase, Free, Seek, Open, Wait, Done, Last, Aborted, FinAbort}
 use Rattle.theorems.specs.Names.{Input, Output, Site, Network}
-use Rattle.model.specs.Types.{noInput, siteAt, inAt, outOf, outAt, withOutQueue, withInQueue, setIn, setOut}
+use Rattle.model.specs.Types.{noInput, siteAt, inAt, outOf, outAt, carries, withOutQueue, withInQueue, setIn, setOut}
 use Rattle.model.specs.Network.{channelAt, channel, joined, routeOf, choices, listOf, channelOk, channelsOk}
 use Rattle.model.specs.Network.{choice, portOk, listOk, routeOk, routesOk, joinsThen}
 use Rattle.types.specs.Phases.{listening}
@@ -55,7 +55,7 @@ output-on : (n : Network) (s : ℕ) (x : Site) (far : ℕ → Input) (j : ℕ) �
 unfolding netOutput
 output-on n s x far zero hj =
     own-on (λ o iq. setOut (withInQueue x iq) 0 o) (localOutput (n .depth) (outAt x 0) (x .incoming))
-output-on n s x far (suc j) hj = pass-on x j hj (channelOutput (joined n s (suc j)) (outAt x (suc j)) (far (suc j)))
+output-on n s x far (suc j) hj = pass-on x j hj (channelOutput (n .edition) (joined n s (suc j)) (outAt x (suc j)) (far (suc j)))
 
 act-on : (n : Network) (s : ℕ) (x : Site) (far : ℕ → Input) (code : ℕ) → OnPort (act n s x far code)
 unfolding act
@@ -194,7 +194,7 @@ module _ (n : Network) (v : ℕ) (cs rs : List ℕ) (hc : (m : ℕ) → m < port
             → ready (joined other s) (ends other xs s) os ≡ ready (joined n s) (ends n xs s) os
         ready-same os =
             ap (λ (far : ℕ → Input). ready (joined other s) far os) (fun-ext ends-same)
-            ∙ fun-ext (λ j. ap (λ (b : Bool). outOf os j .used && outOf os j .head && b) (hears-same j))
+            ∙ fun-ext (λ j. ap (λ (b : Bool). carries (outOf os j) && outOf os j .head && b) (hears-same j))
 
         -- the state of a net-input matters to the router alone
         state-same : (i : ℕ) (y : Input) (os : List Output) (isReady : ℕ → Bool) (ph : Phase)

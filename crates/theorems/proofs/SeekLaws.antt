@@ -5,7 +5,7 @@ use mathlib.Core.Path.{_≡_, refl, sym, ap, _∙_}
 use mathlib.Core.List.{List}
 use mathlib.Core.Bool.{Bool, true, false, cond, not}
 use native.Mathlib.Omega.{arith}
-use borrow.Author.Tests.{ne-eqb, eqb-true, not-false}
+use borrow.Author.Tests.{ne-eqb, eqb-true, not-true, not-false}
 use lib.Dec.{eqb, ltb}
 use lib.ListN.{getD, set, length}
 use Rattle.base.specs.Sizes.{inputCount, outputCount}
@@ -20,7 +20,7 @@ use Rattle.model.specs.Owing.{owesAs, owesOutput}
 use Rattle.theorems.proofs.RouterGather.{chosen-at}
 use Rattle.theorems.proofs.RouterLaws.{Routed, ChoiceOk, owes-none, only-ok}
 use Rattle.theorems.proofs.OutputReads.{length-occupy, occupy-at, occupy-ok, mark-at}
-use Rattle.theorems.proofs.Invariant.{tag, tagOut, idle, Fed, Joined, SiteOk, OwnOk}
+use Rattle.theorems.proofs.Invariant.{tag, tagOut, idle, empty-idle, Fed, Joined, SiteOk, OwnOk}
 use Rattle.theorems.proofs.ConnectionLaws.{Renewed, renewed-refl, not-idle, phase-owes, phase-claim, both-good, in-good}
 
 -- an output that was empty, taken into use
@@ -48,7 +48,7 @@ module _ (s : ℕ) (x : Site) (i : ℕ) (ok : SiteOk s x) (hi : i < inputCount) 
     unused j h = eqb-true (getD sets j 0) 0 (not-false (eqb (getD sets j 0) 0) h)
 
     was-idle : (j : ℕ) → isChosen sets j ≡ true → idle (outAt x j) ≡ true
-    was-idle j h = r .free j (chosen-at sets j h)
+    was-idle j h = empty-idle (outAt x j) (not-true (outAt x j .used) (r .free j (chosen-at sets j h)))
 
     taken-at : (j : ℕ) → j < outputCount → isChosen sets j ≡ true → outOf os j ≡ new j
     taken-at j l h =
@@ -60,7 +60,7 @@ module _ (s : ℕ) (x : Site) (i : ℕ) (ok : SiteOk s x) (hi : i < inputCount) 
         (λ l h. taken-renewed i q (getD sets j 0) (outAt x j) (was-idle j h)) (renewed-refl i (outAt x j))
 
     fed-at : (j : ℕ) → j < outputCount → isChosen sets j ≡ true → Fed i (outOf os j)
-    fed-at j l h = rw (taken-at j l h) (record { used = refl; from = refl; bare = refl })
+    fed-at j l h = rw (taken-at j l h) (record { used = refl; from = refl; bare = refl; stays = refl })
 
     -- the router's choice is a connection of the input
     joined : Joined s i c (marksOf sets) q (y .set) (outOf os)
