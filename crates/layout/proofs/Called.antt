@@ -48,7 +48,8 @@ zero-tries y h =
 zero-fed : (o : Output) → zeroOutput o ≡ true → o .input < 256
 zero-fed o h =
     let e =
-    both6 (not (o .used)) (eqb (o .packet) 0) (eqb (o .set) 0) (eqb (o .input) 0) (not (o .head)) (isNone (o .terminator)) h .3 in
+    both6 (not (o .used) && eqb (o .packet) 0) (eqb (o .set) 0) (eqb (o .input) 0) (not (o .head)) (isNone (o .terminator))
+    (not (o .closing)) h .2 in
     omega (arith, eqb-true (o .input) 0 e)
 
 zero-ports : (x : Site) → zeroSite x ≡ true

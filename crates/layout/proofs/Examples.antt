@@ -40,7 +40,7 @@ finished-back = refl
 
 -- ---- a net-output: in use, head taken, keep-local, fed by input 4, packet 9: 09 04 0f
 abbrev passed : Output
-passed = record { set = 32768; terminator = tKeep; packet = 9; input = 4; used = true; head = true }
+passed = record { set = 32768; terminator = tKeep; packet = 9; input = 4; used = true; head = true; closing = false }
 
 passed-word : outputWord passed ≡ 590863
 unfolding outputWord
@@ -50,8 +50,20 @@ passed-back : outputFrom 32768 590863 ≡ passed
 unfolding outputFrom
 passed-back = refl
 
+-- in use, head taken, closing, fed by input 1, packet 7: 07 01 13
+abbrev closed : Output
+closed = record { set = 6; terminator = tNone; packet = 7; input = 1; used = true; head = true; closing = true }
+
+closed-word : outputWord closed ≡ 459027
+unfolding outputWord
+closed-word = refl
+
+closed-back : outputFrom 6 459027 ≡ closed
+unfolding outputFrom
+closed-back = refl
+
 -- in use, head not taken: 03 02 01
-waiting-back : outputFrom 5 197121 ≡ record { set = 5; terminator = tNone; packet = 3; input = 2; used = true; head = false }
+waiting-back : outputFrom 5 197121 ≡ record { set = 5; terminator = tNone; packet = 3; input = 2; used = true; head = false; closing = false }
 unfolding outputFrom
 waiting-back = refl
 
@@ -78,8 +90,8 @@ arrived-back : inEntryFrom 8 1282 ≡ arrived
 unfolding inEntryFrom
 arrived-back = refl
 
--- ---- words that no place packs to: a connection of a free input, a bit between the marks and the packet, a bit of an out-queue's
--- entry beside the started one
+-- ---- words that no place packs to: a connection of a free input, a bit between the marks and the packet, a bit of an output behind
+-- the mark closing, a bit of an out-queue's entry beside the started one
 stray-connection : repacked 0 0 24 ≡ 0
 unfolding repacked inputWord inputFrom
 stray-connection = refl
@@ -87,6 +99,10 @@ stray-connection = refl
 stray-input : repacked 4 0 8192 ≡ 0
 unfolding repacked inputWord inputFrom
 stray-input = refl
+
+stray-output : repacked 5 0 63 ≡ 31
+unfolding repacked outputWord outputFrom
+stray-output = refl
 
 stray-leaving : repacked 10 0 3 ≡ 1
 unfolding repacked outEntryWord outEntryFrom

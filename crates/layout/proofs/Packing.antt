@@ -158,10 +158,11 @@ input-back y hq ht hl =
 
 -- ---- a net-output
 
-same-output : (X : ℕ) (h h′ : Terminator) (q q′ i i′ : ℕ) (u u′ b b′ : Bool) → h ≡ h′ → q ≡ q′ → i ≡ i′ → u ≡ u′ → b ≡ b′
-    → _≡_ {A = Output} (record { set = X; terminator = h; packet = q; input = i; used = u; head = b })
-    (record { set = X; terminator = h′; packet = q′; input = i′; used = u′; head = b′ })
-same-output X h h′ q q′ i i′ u u′ b b′ a c d e f = rw (a, c, d, e, f) refl
+same-output : (X : ℕ) (h h′ : Terminator) (q q′ i i′ : ℕ) (u u′ b b′ c c′ : Bool)
+    → h ≡ h′ → q ≡ q′ → i ≡ i′ → u ≡ u′ → b ≡ b′ → c ≡ c′
+    → _≡_ {A = Output} (record { set = X; terminator = h; packet = q; input = i; used = u; head = b; closing = c })
+    (record { set = X; terminator = h′; packet = q′; input = i′; used = u′; head = b′; closing = c′ })
+same-output X h h′ q q′ i i′ u u′ b b′ c c′ d e f g k l = rw (d, e, f, g, k, l) refl
 
 pub output-back : (o : Output) → o .packet < 256 → o .input < 256 → outputFrom (o .set) (outputWord o) ≡ o
 unfolding outputFrom outputWord
@@ -171,11 +172,14 @@ output-back o hq hi =
     let h = terminatorNumber (o .terminator) in
     let hu : u < 2 = count-below (o .used) in
     let hb : b < 2 = count-below (o .head) in
+    let c = count (o .closing) in
     let hh : h < 4 = terminator-below (o .terminator) in
-    let w = u + 2 * b + 4 * h + 256 * o .input + 65536 * o .packet in
-    same-output (o .set) _ (o .terminator) _ (o .packet) _ (o .input) _ (o .used) _ (o .head)
+    let hc : c < 2 = count-below (o .closing) in
+    let w = u + 2 * b + 4 * h + 16 * c + 256 * o .input + 65536 * o .packet in
+    same-output (o .set) _ (o .terminator) _ (o .packet) _ (o .input) _ (o .used) _ (o .head) _ (o .closing)
     (terminator-from (o .terminator) (w / 4 % 4) (omega arith)) (omega arith) (omega arith)
     (flag-back w 1 (o .used) (omega arith)) (flag-back w 2 (o .head) (omega arith))
+    (flag-back w 16 (o .closing) (omega arith))
 
 -- ---- an entry of the out-queue, of the in-queue
 

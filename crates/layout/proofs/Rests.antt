@@ -7,7 +7,7 @@ use mathlib.Core.Bool.{Bool, true, false, cond, not, _&&_, _||_}
 use native.Mathlib.Omega.{arith}
 use borrow.Author.Tests.{eqb-true, le-ltb, not-true}
 use lib.Dec.{eqb, ltb}
-use Rattle.base.specs.Bools.{clash, either, cond-ok}
+use Rattle.base.specs.Bools.{clash, either, both, both3, cond-ok}
 use Rattle.types.specs.declared.Phase.the-variants.{the-data as Phase, Free, Seek, Open, Wait, Done, Last, Abort as Aborted, FinAbort}
 use Rattle.types.specs.declared.Terminator.the-variants.{the-data as Terminator, None as tNone, End as tEnd, Abort as tAbort, KeepLocal as tKeep}
 use Rattle.types.specs.declared.Input.{Input}
@@ -17,9 +17,9 @@ use Rattle.types.specs.declared.InQueue.{InQueue}
 use Rattle.types.specs.declared.Network.{Network}
 use Rattle.types.specs.Phases.{isNone}
 use Rattle.types.specs.Numbers.{stateNumber}
-use Rattle.model.specs.Types.{outOf, inEntry}
+use Rattle.model.specs.Types.{outOf, inEntry, carries}
 use Rattle.model.specs.NetInput.{Stay, allReady, inState}
-use Rattle.model.specs.Places.{Work, Rest, localOutput, termIn, headIn, deliver, headOn, channelOutput, outQueue}
+use Rattle.model.specs.Places.{Work, Rest, localOutput, deliver, giveUp, headOn, channelOutput, outQueue}
 use Rattle.model.specs.Places.{operate, operator, lastLacks, stalled, cutAt, timeout}
 use Rattle.layout.specs.Idle.{atRest, stands}
 
@@ -36,32 +36,38 @@ quiet-stays n s i y os f (Last c r) h = absurd (clash (sym h))
 quiet-stays n s i y os f (Aborted c) h = refl
 quiet-stays n s i y os f (FinAbort c r) h = absurd (clash (sym h))
 
+-- an output at rest: empty, or in use, not closing, without a terminator, its head taken
+rest-by : {P : Type 0} (o : Output) → atRest o ≡ true → (o .used ≡ false → P)
+    → (o .used ≡ true → o .closing ≡ false → isNone (o .terminator) ≡ true → o .head ≡ true → P) → P
+rest-by o h empty waits =
+    ⊎-elim (λ u. empty (not-true (o .used) u))
+    (λ e.
+    let a = both3 (carries o) (isNone (o .terminator)) (o .head) e in
+    let b = both (o .used) (not (o .closing)) (a .0) in
+    waits (b .0) (not-true (o .closing) (b .1)) (a .1) (a .2))
+    (either (not (o .used)) (stalled o) h)
+
 pub local-rests : (D : ℕ) (o : Output) (q : InQueue) → atRest o ≡ true → localOutput D o q ≡ Stay
 unfolding localOutput
-local-rests D o q = go (o .used) (o .head) (isNone (o .terminator))
-  where
-    go : (u h k : Bool) → (not u || u && h && k) ≡ true → cond u (cond h (cond k Stay (termIn o q)) (headIn D o q)) Stay ≡ Stay
-    go true true true e = refl
-    go true true false e = absurd (clash (sym e))
-    go true false k e = absurd (clash (sym e))
-    go false h k e = refl
+local-rests D o q h = rest-by o h (λ u. rw u refl) (λ u c k e. rw (u, e, k) refl)
 
-none-stays : (there : Bool) (y : Input) (k : Terminator) → isNone k ≡ true → deliver there y k ≡ Stay
+none-stays : (edition : ℕ) (there : Bool) (o : Output) (y : Input) (k : Terminator) → isNone k ≡ true
+    → deliver edition there o y k ≡ Stay
 unfolding deliver
-none-stays there y tNone h = refl
-none-stays there y tEnd h = absurd (clash (sym h))
-none-stays there y tAbort h = absurd (clash (sym h))
-none-stays there y tKeep h = absurd (clash (sym h))
+none-stays edition there o y tNone h = refl
+none-stays edition there o y tEnd h = absurd (clash (sym h))
+none-stays edition there o y tAbort h = absurd (clash (sym h))
+none-stays edition there o y tKeep h = absurd (clash (sym h))
 
-pub channel-rests : (there : Bool) (o : Output) (y : Input) → atRest o ≡ true → channelOutput there o y ≡ Stay
+pub channel-rests : (edition : ℕ) (there : Bool) (o : Output) (y : Input) → atRest o ≡ true
+    → channelOutput edition there o y ≡ Stay
 unfolding channelOutput
-channel-rests there o y = go (o .used) (o .head)
+channel-rests edition there o y h =
+    rest-by o h (λ u. rw u refl) (λ u c k e. go (o .used) (o .head) (o .closing) u e c k)
   where
-    go : (u h : Bool) → (not u || u && h && isNone (o .terminator)) ≡ true
-        → cond u (cond h (deliver there y (o .terminator)) (headOn there o y)) Stay ≡ Stay
-    go true true e = none-stays there y (o .terminator) e
-    go true false e = absurd (clash (sym e))
-    go false h e = refl
+    go : (u h c : Bool) → u ≡ true → h ≡ true → c ≡ false → isNone (o .terminator) ≡ true
+        → cond u (cond h (cond c (giveUp there y) (deliver edition there o y (o .terminator))) (headOn there o y)) Stay ≡ Stay
+    go u h c a b d k = rw (a, b, d) (none-stays edition there o y (o .terminator) k)
 
 pub queue-rests : (q : OutQueue) (y : Input) → eqb (q .count) 0 ≡ true → outQueue q y ≡ Stay
 unfolding outQueue

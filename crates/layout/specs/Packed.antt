@@ -1,6 +1,6 @@
 -- A place's small fields as one number, and the place that a set X and such a number w stand for. Assumes nothing.
 --   net-input     bits 0-2 state number, 3-5 connection, 6-7 terminator received, 8-12 the marks of outputs 0 to 4, byte 2 packet, byte 3 tries
---   net-output    bit 0 in use, 1 head taken, 2-3 terminator, byte 1 the input that feeds it, byte 2 packet
+--   net-output    bit 0 in use, 1 head taken, 2-3 terminator, 4 closing, byte 1 the input that feeds it, byte 2 packet
 --   out-queue     bit 0 started, byte 1 packet
 --   in-queue      bits 0-1 terminator, byte 1 packet
 use Prim.Native.Nat.{ℕ, _+_, _*_, _/_, _%_}
@@ -87,10 +87,13 @@ outputFrom X w =
       input = w / 256 % 256;
       used = flag w 1;
       head = flag w 2;
+      closing = flag w 16;
     }
 
 unfoldable pub outputWord : Output → ℕ
-outputWord o = count (o .used) + 2 * count (o .head) + 4 * terminatorNumber (o .terminator) + 256 * o .input + 65536 * o .packet
+outputWord o =
+    count (o .used) + 2 * count (o .head) + 4 * terminatorNumber (o .terminator) + 16 * count (o .closing) + 256 * o .input
+    + 65536 * o .packet
 
 -- ---- an entry of the out-queue, of the in-queue
 
