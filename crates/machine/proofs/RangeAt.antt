@@ -66,15 +66,17 @@ sought-at S T k os i y h e =
     (t .0, t .1)
 
 -- an output is fed by one of five inputs
-fed-below : (S k j : ℕ) (o : Output) → outputOk S k j o ≡ true → o .input < 5
-fed-below S k j o h =
+fed-below : (E S k j : ℕ) (o : Output) → outputOk E S k j o ≡ true → o .input < 5
+fed-below E S k j o h =
     let tag = tagOk S k (o .packet) (o .set) in
     let keep = implies (isKeep (o .terminator)) (eqb j 0) in
-    let w = pick-at (o .used) (tag && ltb (o .input) 5 && keep) (zeroOutput o) h in
-    either-way (o .used) (λ u. ltb-true (o .input) 5 (both3 tag (ltb (o .input) 5) keep (w .0 u) .1))
+    let held = implies (o .closing) (closingOk E j o) in
+    let w = pick-at (o .used) (tag && ltb (o .input) 5 && keep && held) (zeroOutput o) h in
+    either-way (o .used) (λ u. ltb-true (o .input) 5 (both tag (ltb (o .input) 5) (both3 (tag && ltb (o .input) 5) keep held (w .0 u) .0) .1))
     (λ u.
     let z =
-    both6 (not (o .used)) (eqb (o .packet) 0) (eqb (o .set) 0) (eqb (o .input) 0) (not (o .head)) (isNone (o .terminator)) (w .1 u) .3 in
+    both6 (not (o .used) && eqb (o .packet) 0) (eqb (o .set) 0) (eqb (o .input) 0) (not (o .head)) (isNone (o .terminator))
+    (not (o .closing)) (w .1 u) .2 in
     omega (arith, eqb-true (o .input) 0 z))
 
 -- ---- a state

@@ -57,7 +57,7 @@ unfolding netOutput
 output-zero n s x far = refl
 
 pub output-other : (n : Network) (s : ℕ) (x : Site) (far : ℕ → Input) (j : ℕ) → (j ≡ 0 → ⊥)
-    → netOutput n s x far j ≡ passTurn x (suc (j - 1)) (channelOutput (joined n s (suc (j - 1))) (outAt x (suc (j - 1))) (far (suc (j - 1))))
+    → netOutput n s x far j ≡ passTurn x (suc (j - 1)) (channelOutput (n .edition) (joined n s (suc (j - 1))) (outAt x (suc (j - 1))) (far (suc (j - 1))))
 unfolding netOutput
 output-other n s x far zero h = absurd (h refl)
 output-other n s x far (suc j) h = let e : suc j - 1 ≡ j = omega arith in rw e refl

@@ -15,28 +15,15 @@ use Rattle.types.specs.declared.Input.{Input}
 use Rattle.types.specs.declared.Output.{Output}
 use Rattle.types.specs.declared.Site.{Site}
 use Rattle.types.specs.declared.Network.{Network}
-use Rattle.model.specs.Types.{noInput, siteAt, inAt, outAt, mark, outOf, setIn, setOut, withInQueue, withOutQueue}
+use Rattle.model.specs.Types.{noInput, siteAt, inAt, outAt, mark, outOf, carries, setIn, setOut, withInQueue, withOutQueue}
 use Rattle.model.specs.Network.{joined, channel, isChannel, endPort}
 use Rattle.types.specs.Phases.{listening}
 use Rattle.model.specs.NetInput.{Turn, Stay, To, allReady, hears, ready, inState, netInput}
 use Rattle.model.specs.Places.{Work, Rest, Cleared, Service, localOutput, deliver, channelOutput, outQueue, operator, timeout}
 use Rattle.model.specs.Steps.{Act, ownTurn, passTurn, workDone, setBoth, netOutput, act, farEnd, ends}
 use Rattle.theorems.proofs.Networks.{Valid}
+use Rattle.theorems.proofs.Editions.{unjoined}
 use Rattle.machine.specs.Step.{ofAct, EndsWithin, Passable, farAt, fourEnds}
-
--- ---- an output without a channel does nothing
-
-pub unjoined : (o : Output) (y : Input) → channelOutput false o y ≡ Stay
-unfolding channelOutput deliver
-unjoined o y =
-    cond-ok (λ (t : Turn Output Input). t ≡ Stay) (o .used) _ _
-    (λ a. cond-ok (λ (t : Turn Output Input). t ≡ Stay) (o .head) _ _ (λ b. told (o .terminator)) (λ b. refl)) (λ a. refl)
-  where
-    told : (k : Terminator) → deliver false y k ≡ Stay
-    told tNone = refl
-    told tEnd = refl
-    told tAbort = refl
-    told tKeep = refl
 
 -- ---- two ways to see the far ends that agree on the channels that there are
 
@@ -46,7 +33,7 @@ module _ (n : Network) (s : ℕ) (x : Site) (f g : ℕ → Input)
   unfolding hears
   ready-same os zero h = refl
   ready-same os (suc j) h =
-      ap (λ (b : Bool). outOf os (suc j) .used && outOf os (suc j) .head && b) (go (joined n s (suc j)) refl)
+      ap (λ (b : Bool). carries (outOf os (suc j)) && outOf os (suc j) .head && b) (go (joined n s (suc j)) refl)
     where
       go : (b : Bool) → joined n s (suc j) ≡ b → (b && listening (f (suc j) .phase)) ≡ (b && listening (g (suc j) .phase))
       go true e = ap (λ (y : Input). listening (y .phase)) (same j (omega arith) e)
@@ -80,9 +67,9 @@ module _ (n : Network) (s : ℕ) (x : Site) (f g : ℕ → Input)
       o : Output
       o = outAt x (suc j)
 
-      go : (b : Bool) → joined n s (suc j) ≡ b → channelOutput b o (f (suc j)) ≡ channelOutput b o (g (suc j))
-      go true e = ap (channelOutput true o) (same j (omega arith) e)
-      go false e = unjoined o (f (suc j)) ∙ sym (unjoined o (g (suc j)))
+      go : (b : Bool) → joined n s (suc j) ≡ b → channelOutput (n .edition) b o (f (suc j)) ≡ channelOutput (n .edition) b o (g (suc j))
+      go true e = ap (channelOutput (n .edition) true o) (same j (omega arith) e)
+      go false e = unjoined (n .edition) o (f (suc j)) ∙ sym (unjoined (n .edition) o (g (suc j)))
 
   pub act-same : (code : ℕ) → act n s x f code ≡ act n s x g code
   unfolding act
@@ -120,12 +107,12 @@ module _ (n : Network) (val : Valid n) (s : ℕ) (x : Site) (hs : s < n .sites) 
   along j Stay l h = absurd (clash (sym h))
   along j (To o y) l h = l
 
-  channel-ok : (j : ℕ) (o : Output) (y : Input) → j < 4 → PassOk (passTurn x (suc j) (channelOutput (joined n s (suc j)) o y))
+  channel-ok : (j : ℕ) (o : Output) (y : Input) → j < 4 → PassOk (passTurn x (suc j) (channelOutput (n .edition) (joined n s (suc j)) o y))
   channel-ok j o y hj = go (joined n s (suc j)) refl
     where
-      go : (b : Bool) → joined n s (suc j) ≡ b → PassOk (passTurn x (suc j) (channelOutput b o y))
-      go true e = along j (channelOutput true o y) (omega (arith, val .ends s j hs hj e, val .few))
-      go false e = rw (unjoined o y) (λ h. absurd (clash (sym h)))
+      go : (b : Bool) → joined n s (suc j) ≡ b → PassOk (passTurn x (suc j) (channelOutput (n .edition) b o y))
+      go true e = along j (channelOutput (n .edition) true o y) (omega (arith, val .ends s j hs hj e, val .few))
+      go false e = rw (unjoined (n .edition) o y) (λ h. absurd (clash (sym h)))
 
   output-ok : (far : ℕ → Input) (j : ℕ) → j < 5 → PassOk (netOutput n s x far j)
   unfolding netOutput

@@ -4,6 +4,7 @@ ghost use Prim.Native.Nat.{suc, _<_};
 ghost use mathlib.Core.Bool.{true, _&&_};
 ghost use Rattle.base.specs.Sizes.{sitesMost, portCount};
 ghost use Rattle.model.specs.Network as net;
+ghost use Rattle.model.specs.Types.{carries};
 ghost use Rattle.model.specs.NetInput as rule;
 ghost use Rattle.machine.specs.Step.{farAt, thereAt, flags, fourFlags};
 use rules::is_listening;
@@ -18,11 +19,18 @@ pub(crate) fn is_channel(channel: u16) -> bool
     channel != base::NO_CHANNEL
 }
 
-// Whether output 0 is ready: in use with its head taken.
-fn is_ready(output: Output) -> bool
-    ensures { λ r. ⌜ r ≡ (output .used && output .head && true) ⌝ }
+// Whether an output is in use, not closing, with its head taken.
+fn is_taken(output: Output) -> bool
+    ensures { λ r. ⌜ r ≡ (carries output && output .head) ⌝ }
 {
-    output.used & output.head & true
+    output.used & !output.closing & output.head
+}
+
+// Whether output 0 is ready.
+fn is_ready(output: Output) -> bool
+    ensures { λ r. ⌜ r ≡ (carries output && output .head && true) ⌝ }
+{
+    is_taken(output) & true
 }
 
 // The channel of output j + 1 of site s.
@@ -70,7 +78,8 @@ fn is_heard(
     let input = far[j];
     let phase = input.phase;
     let open = is_listening(phase);
-    output.used & output.head & (there[j] & open)
+    let taken = is_taken(output);
+    taken & (there[j] & open)
 }
 
 // Which outputs are ready; there tells which of 1 to 4 have a channel, far has the inputs at their ends.

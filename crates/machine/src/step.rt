@@ -121,7 +121,7 @@ fn channel_step(
     let input = far[j];
     let channel = channel_at(network, s, j);
     let there = is_channel(channel);
-    let turn = channel_output(there, output, input);
+    let turn = channel_output(network.edition, there, output, input);
     let now = turn.output;
     let after = turn.input;
     if turn.changed {

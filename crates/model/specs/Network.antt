@@ -135,6 +135,19 @@ trimmedNetwork n =
       routes = over (λ m. getD (n .routes) m 0) (n .sites * n .sites) noRoutes;
     }
 
+-- L6: the same network, to go by the rules of edition e
+unfoldable pub byEdition : ℕ → Network → Network
+byEdition e n =
+    record {
+      sites = n .sites;
+      depth = n .depth;
+      tries = n .tries;
+      version = n .version;
+      edition = e;
+      channels = n .channels;
+      routes = n .routes;
+    }
+
 -- L5: the same network, to be stored in version v
 unfoldable pub networkUnder : ℕ → Network → Network
 networkUnder v n =

@@ -14,7 +14,7 @@ use Rattle.model.specs.Types.{State, Network, StoredSend, Run as StoredR
 use Rattle.model.specs.Types.{AfterRun, Counts}
 use Rattle.model.specs.Types.{noState, sendD, sendAt}
 use Rattle.types.specs.Numbers.{answerOf, ranPacket, ranSite}
-use Rattle.model.specs.Network.{kindThen, sizesOk, joinsThen, trimmedNetwork, networkUnder}
+use Rattle.model.specs.Network.{kindThen, sizesOk, joinsThen, trimmedNetwork, networkUnder, byEdition}
 use Rattle.model.specs.Events.{Event, Send, Run, sendFault, runs, sends, ran, sent}
 use Rattle.model.specs.Owing.{owedPairs}
 
@@ -56,6 +56,17 @@ trimmed R =
       draws = R .draws;
       count = R .count;
       sends = over (sendAt R) (R .count) noSends;
+    }
+
+-- L6: the same run, to be played by edition e
+unfoldable pub runBy : ℕ → StoredRun → StoredRun
+runBy e R =
+    record {
+      network = byEdition e (R .network);
+      seed = R .seed;
+      draws = R .draws;
+      count = R .count;
+      sends = R .sends;
     }
 
 -- L5: the same run, to be stored in version v

@@ -1,4 +1,4 @@
--- The theorems about the definitions of edition 1, and what they rest on. docs/PROMISES.md says which to read first.
+-- The theorems about the definitions of the model, and what they rest on. docs/PROMISES.md says which to read first.
 pub mod Examples
 pub mod Counted
 pub mod Networks
@@ -34,3 +34,4 @@ pub mod RoomLaws
 pub mod Alike
 pub mod Trimmed
 pub mod Versions
+pub mod Editions

@@ -114,7 +114,7 @@ module _ (n : Network) (a t : ℕ) where
 
 -- ---- the events of a run: what a draw names lies within the network
 
-abbrev Named : ℕ → Event → Type 0
+abbrev pub Named : ℕ → Event → Type 0
 Named S (Send s X) = Unit {0}
 Named S (Run s code) = (s < S) × (code < codeCount)
 

@@ -56,7 +56,7 @@ returns c =
     let a = k .before .before .before .before .before .args in
     let o = outAt (a .t3) (suc (a .j)) in
     let y = farAt (a .t4) (suc (a .j)) in
-    let t = channelOutput (joined (a .network) (a .s) (suc (a .j))) o y in
+    let t = channelOutput (a .network .edition) (joined (a .network) (a .s) (suc (a .j))) o y in
     let e = rw (k .before .is-channel .ensures, byte, add-one (a .j)) at (k .channel-output .ensures) in
     rw (byte, add-one (a .j)) (rw (c .if1 .taken) at (channel-took (a .network) (a .s) (a .t3) (suc (a .j)) o y t e))
 
@@ -70,7 +70,7 @@ returns-2 c =
     let a = k .before .before .before .before .before .args in
     let o = outAt (a .t3) (suc (a .j)) in
     let y = farAt (a .t4) (suc (a .j)) in
-    let t = channelOutput (joined (a .network) (a .s) (suc (a .j))) o y in
+    let t = channelOutput (a .network .edition) (joined (a .network) (a .s) (suc (a .j))) o y in
     let e = rw (k .before .is-channel .ensures, byte, add-one (a .j)) at (k .channel-output .ensures) in
     c .stays .ensures ∙ (rw (c .before .if1 .left) at (channel-took (a .network) (a .s) (a .t3) (suc (a .j)) o y t e))
 

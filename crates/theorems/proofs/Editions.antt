@@ -1,0 +1,180 @@
+-- Document 02, L6: where the editions differ, and that nothing else does. A RUN other than that of the net-outputs 1 to 4 is the
+-- same in every edition; so is every RUN where no channel is, and with it a stored run played. Assumes nothing.
+use Prim.Native.Nat.{ℕ, zero, suc, _+_, _-_, _≤_, _<_}
+use mathlib.Core.Path.{_≡_, refl, sym, ap, _∙_, fun-ext}
+use mathlib.Core.List.{List, [], _∷_}
+use mathlib.Core.Bool.{Bool, true, false, cond, _&&_}
+use native.Mathlib.Omega.{arith}
+use native.Mathlib.Decide.{decLt}
+use borrow.Author.Tests.{ltb-true}
+use lib.Dec.{ltb, leb}
+use Rattle.base.specs.Sizes.{portCount}
+use Rattle.base.specs.Bools.{cond-ok, either-way}
+use Rattle.sets.specs.Sets.{minus}
+use Rattle.theorems.specs.Names.{Terminator, tNone, tEnd, tAbort, tKeep, Phase, Free, Seek, Open, Wait, Done, Last, Aborted}
+use Rattle.theorems.specs.Names.{FinAbort, Input, Output, Site, Network, AfterRun, Run as StoredRun}
+use Rattle.model.specs.Types.{noInput, siteAt, inAt, outAt}
+use Rattle.model.specs.Network.{channel, isChannel, joined, listOf, byEdition}
+use Rattle.model.specs.Router.{serves, firstPort, gets, unchosen, gatherFrom, gather, route}
+use Rattle.model.specs.NetInput.{Turn, Stay, ready, inState}
+use Rattle.model.specs.Places.{deliver, channelOutput}
+use Rattle.model.specs.Steps.{farEnd, Act, Idle, Own, Serve, Pass, Stepped, ownTurn, passTurn, setBoth, netOutput, act, ends, patch, run}
+use Rattle.model.specs.Events.{Event, Send, Run}
+use Rattle.model.specs.Runs.{Timed, Played, runBy, scriptTo, script, runPlayed, advance, played, playedRun, unplayed}
+use Rattle.theorems.proofs.Played.{Named, AllNamed, script-named}
+
+not-above : (code : ℕ) → code < 10 → (5 < code → code < 10 → ⊥) → code - 5 ≡ 0
+not-above code l apart = go (decLt 5 code)
+  where
+    go : Dec (5 < code) → code - 5 ≡ 0
+    go (yes h) = absurd (apart h l)
+    go (no h) = omega arith
+
+-- ---- an output without a channel does nothing, closing or not
+
+abbrev Stays : Turn Output Input → Type 0
+Stays t = t ≡ Stay
+
+pub unjoined : (edition : ℕ) (o : Output) (y : Input) → channelOutput edition false o y ≡ Stay
+unfolding channelOutput deliver
+unjoined edition o y =
+    cond-ok Stays (o .used) _ _
+    (λ a.
+    cond-ok Stays (o .head) _ _ (λ b. cond-ok Stays (o .closing) _ _ (λ c. refl) (λ c. told (o .terminator))) (λ b. refl))
+    (λ a. refl)
+  where
+    told : (k : Terminator) → deliver edition false o y k ≡ Stay
+    told tNone = refl
+    told tEnd = refl
+    told tAbort = refl
+    told tKeep = refl
+
+-- ---- the same network by edition e
+
+module _ (e : ℕ) (n : Network) where
+  abbrev other : Network
+  other = byEdition e n
+
+  -- its channels, the inputs at their ends, what is written
+  channel-same : (s j : ℕ) → channel other s j ≡ channel n s j
+  unfolding byEdition
+  channel-same s zero = refl
+  channel-same s (suc j) = refl
+
+  joined-same : (s : ℕ) → joined other s ≡ joined n s
+  joined-same s = fun-ext (λ j. ap isChannel (channel-same s j))
+
+  ends-same : (xs : List Site) (s : ℕ) → ends other xs s ≡ ends n xs s
+  ends-same xs s =
+      fun-ext (λ j. ap (λ (b : ℕ). cond (leb j portCount && isChannel b) (farEnd xs b) noInput) (channel-same s j))
+
+  patch-same : (xs : List Site) (s : ℕ) (a : Act) → patch other xs s a ≡ patch n xs s a
+  patch-same xs s Idle = refl
+  patch-same xs s (Own x) = refl
+  patch-same xs s (Serve x q) = refl
+  patch-same xs s (Pass x j y) = rw (channel-same s j) refl
+
+  -- the router and the net-inputs read sites, routes and tries
+  gather-same : (s : ℕ) (os : List Output) (Y more t : ℕ) (sets : List ℕ)
+      → gatherFrom other s os Y more t sets ≡ gatherFrom n s os Y more t sets
+  unfolding gatherFrom byEdition
+  gather-same s os Y zero t sets = refl
+  gather-same s os Y (suc more) t sets =
+      let found = gets sets (firstPort (serves os sets) (listOf n s t)) t in
+      rw (gather-same s os Y more (t + 1) found, gather-same s os Y more (t + 1) sets) refl
+
+  route-same : (s : ℕ) (os : List Output) (X : ℕ) → route other s os X ≡ route n s os X
+  unfolding route gather byEdition
+  route-same s os X = rw (gather-same s os (minus s X) (n .sites) 0 unchosen) refl
+
+  state-same : (s i : ℕ) (y : Input) (os : List Output) (isReady : ℕ → Bool) (ph : Phase)
+      → inState other s i y os isReady ph ≡ inState n s i y os isReady ph
+  unfolding inState byEdition
+  state-same s i y os isReady Free = refl
+  state-same s i y os isReady Seek = rw (route-same s os (y .set)) refl
+  state-same s i y os isReady (Open c) = refl
+  state-same s i y os isReady (Wait c) = refl
+  state-same s i y os isReady (Done c r) = refl
+  state-same s i y os isReady (Last c r) = refl
+  state-same s i y os isReady (Aborted c) = refl
+  state-same s i y os isReady (FinAbort c r) = refl
+
+  -- what RUN decides, where it decides the same of a net-output
+  act-by : (s : ℕ) (x : Site) (far : ℕ → Input) (code : ℕ)
+      → (ltb code 10 ≡ true → netOutput other s x far (code - 5) ≡ netOutput n s x far (code - 5))
+      → act other s x far code ≡ act n s x far code
+  unfolding act byEdition
+  act-by s x far code h =
+      let isReady = ready (joined n s) far (x .outputs) in
+      either-way (ltb code 5)
+      (λ c.
+      rw (c, joined-same s)
+      (ap (ownTurn (setBoth x code)) (state-same s code (inAt x code) (x .outputs) isReady (inAt x code .phase))))
+      (λ c. either-way (ltb code 10) (λ d. rw (c, d) (h d)) (λ d. rw (c, d) refl))
+
+  -- the editions differ at the codes 6 to 9 alone
+  pub codes-same : (s : ℕ) (x : Site) (far : ℕ → Input) (code : ℕ) → (5 < code → code < 10 → ⊥)
+      → act other s x far code ≡ act n s x far code
+  unfolding netOutput byEdition
+  codes-same s x far code apart =
+      act-by s x far code
+      (λ c. let z : code - 5 ≡ 0 = not-above code (ltb-true code 10 c) apart in rw z refl)
+
+  -- ---- no channel
+
+  module _ (bare : (s j : ℕ) → s < n .sites → j < portCount → joined n s (suc j) ≡ false) where
+    output-same : (s : ℕ) (x : Site) (far : ℕ → Input) (j : ℕ) → s < n .sites → j ≤ portCount
+        → netOutput other s x far j ≡ netOutput n s x far j
+    unfolding netOutput byEdition
+    output-same s x far zero hs hj = refl
+    output-same s x far (suc j) hs hj =
+        let o = outAt x (suc j) in
+        let y = far (suc j) in
+        let same : channelOutput e (joined n s (suc j)) o y ≡ channelOutput (n .edition) (joined n s (suc j)) o y =
+        rw (bare s j hs (omega arith)) (unjoined e o y ∙ sym (unjoined (n .edition) o y)) in
+        ap (passTurn x (suc j)) same
+
+    pub bare-run : (xs : List Site) (s code : ℕ) → s < n .sites → run other xs s code ≡ run n xs s code
+    unfolding run
+    bare-run xs s code hs =
+        let x = siteAt xs s in
+        let far = ends n xs s in
+        let same =
+        act-by s x far code (λ c. output-same s x far (code - 5) hs (omega (arith, ltb-true code 10 c))) in
+        ap (λ (f : ℕ → Input). patch other xs s (act other s x f code)) (ends-same xs s)
+        ∙ ap (patch other xs s) same ∙ patch-same xs s (act n s x far code)
+
+    step-same : (g : Played) (d : ℕ) (v : Event) → Named (n .sites) v → advance other g d v ≡ advance n g d v
+    unfolding byEdition
+    step-same g d (Send s X) m = refl
+    step-same g d (Run s code) m =
+        let left : Stepped → AfterRun =
+        λ w. record { answer = w .answer; state = record { sites = w .sites; counter = g .state .counter } } in
+        ap (λ (w : Stepped). runPlayed g d (left w)) (bare-run (g .state .sites) s code (m .0))
+
+    played-same : (g : Played) (es : List Timed) → AllNamed (n .sites) es → played other g es ≡ played n g es
+    unfolding played
+    played-same g [] m = refl
+    played-same g (v ∷ es) m =
+        ap (λ (w : Played). played other w es) (step-same g (v .draw) (v .event) (m .0))
+        ∙ played-same (advance n g (v .draw) (v .event)) es (m .1)
+
+-- ---- a stored run without a channel, played by edition e: the same book, the same counts, the same state
+
+module _ (e : ℕ) (r : StoredRun) where
+  script-to : (d : ℕ) → scriptTo (runBy e r) d ≡ scriptTo r d
+  unfolding scriptTo runBy byEdition
+  script-to zero = refl
+  script-to (suc d) = rw (script-to d) refl
+
+  same-script : script (runBy e r) ≡ script r
+  unfolding script runBy
+  same-script = rw (script-to (r .draws)) refl
+
+  pub bare-played : 1 ≤ r .network .sites
+      → ((s j : ℕ) → s < r .network .sites → j < portCount → joined (r .network) s (suc j) ≡ false)
+      → playedRun (runBy e r) ≡ playedRun r
+  unfolding playedRun runBy
+  bare-played some bare =
+      ap (played (byEdition e (r .network)) unplayed) same-script
+      ∙ played-same e (r .network) bare unplayed (script r) (script-named r some)
