@@ -19,7 +19,7 @@ localAct D x = ownTurn (λ o q. setOut (withInQueue x q) 0 o) (localOutput D (ou
 
 -- output j + 1
 abbrev pub channelAct : Network → ℕ → Site → (ℕ → Input) → ℕ → Act
-channelAct n s x far j = passTurn x (suc j) (channelOutput (joined n s (suc j)) (outAt x (suc j)) (far (suc j)))
+channelAct n s x far j = passTurn x (suc j) (channelOutput (n .edition) (joined n s (suc j)) (outAt x (suc j)) (far (suc j)))
 
 abbrev pub queueAct : Site → Act
 queueAct x = ownTurn (λ q y. setIn (withOutQueue x q) 0 y) (outQueue (x .outgoing) (inAt x 0))

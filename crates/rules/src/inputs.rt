@@ -57,6 +57,7 @@ fn taken_if(packet: u8, i: u8, set: u64, output: Output) -> Output
         input: i,
         used: true,
         head: false,
+        closing: false,
     }
 }
 

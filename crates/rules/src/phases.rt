@@ -1,7 +1,7 @@
 // What a net-input's state and a terminator tell, and places with a field changed.
 ghost use mathlib.Core.Path.{_≡_};
 ghost use Rattle.model.specs.Types as fields;
-ghost use Rattle.model.specs.Types.{noInput, noOutput, inPhase, outTerm, outHead};
+ghost use Rattle.model.specs.Types.{noInput, noOutput, inPhase, outTerm, outHead, outClosing};
 ghost use Rattle.types.specs.Phases as spec;
 ghost use Rattle.model.specs.Places as places;
 use types::Input;
@@ -118,6 +118,7 @@ pub fn empty_output() -> Output
         input: 0,
         used: false,
         head: false,
+        closing: false,
     }
 }
 
@@ -131,6 +132,7 @@ pub(crate) fn with_terminator(output: Output, terminator: Terminator) -> Output
         input: output.input,
         used: output.used,
         head: output.head,
+        closing: output.closing,
     }
 }
 
@@ -146,5 +148,21 @@ pub(crate) fn with_head(output: Output) -> Output
         input: output.input,
         used: output.used,
         head: true,
+        closing: output.closing,
+    }
+}
+
+// The output when its terminator is delivered and it still holds its channel.
+pub(crate) fn closing_output(output: Output) -> Output
+    ensures { λ r. ⌜ r ≡ outClosing output ⌝ }
+{
+    Output {
+        set: output.set,
+        terminator: Terminator::None,
+        packet: output.packet,
+        input: output.input,
+        used: true,
+        head: true,
+        closing: true,
     }
 }

@@ -5,6 +5,7 @@ ghost use Rattle.types.specs.Phases.{isNone};
 ghost use Rattle.model.specs.Places as spec;
 ghost use Rattle.model.specs.NetInput.{Stay};
 ghost use Rattle.rules.specs.Turns.{ofLocalTurn, ofChannelTurn, ofQueueTurn};
+use crate::phases::closing_output;
 use crate::phases::empty_output;
 use crate::phases::is_listening;
 use crate::phases::seeking_input;
@@ -131,15 +132,31 @@ fn channel_head(there: bool, output: Output, input: Input) -> ChannelTurn
     }
 }
 
+// What delivery leaves of an output 1 to 4: one that is closing in edition 2, else an empty one.
+fn delivered_output(edition: u8, output: Output) -> Output
+    ensures { λ r. ⌜ r ≡ spec.delivered edition output ⌝ }
+{
+    if edition == 2 {
+        return closing_output(output);
+    }
+    empty_output()
+}
+
 // An output 1 to 4 delivers a terminator to the input at the end of its channel, if that is open or abort.
-fn deliver_received(there: bool, output: Output, input: Input, received: Received) -> ChannelTurn
-    ensures { λ r. ⌜ r ≡ ofChannelTurn output input (spec.termOn there input received) ⌝ }
+fn deliver_received(
+    edition: u8,
+    there: bool,
+    output: Output,
+    input: Input,
+    received: Received,
+) -> ChannelTurn
+    ensures { λ r. ⌜ r ≡ ofChannelTurn output input (spec.termOn edition there output input received) ⌝ }
 {
     let phase = input.phase;
     let hears = is_listening(phase);
     if there & hears {
         return ChannelTurn {
-            output: empty_output(),
+            output: delivered_output(edition, output),
             input: with_received(received, input),
             changed: true,
         };
@@ -152,8 +169,8 @@ fn deliver_received(there: bool, output: Output, input: Input, received: Receive
 }
 
 // The terminator of an output 1 to 4, if it has one.
-fn channel_terminator(there: bool, output: Output, input: Input) -> ChannelTurn
-    ensures { λ r. ⌜ r ≡ ofChannelTurn output input (spec.deliver there input (output .terminator)) ⌝ }
+fn channel_terminator(edition: u8, there: bool, output: Output, input: Input) -> ChannelTurn
+    ensures { λ r. ⌜ r ≡ ofChannelTurn output input (spec.deliver edition there output input (output .terminator)) ⌝ }
 {
     let terminator = output.terminator;
     let stays = ChannelTurn {
@@ -163,19 +180,43 @@ fn channel_terminator(there: bool, output: Output, input: Input) -> ChannelTurn
     };
     match terminator {
         Terminator::None => stays,
-        Terminator::End => deliver_received(there, output, input, Received::End),
-        Terminator::Abort => deliver_received(there, output, input, Received::Abort),
+        Terminator::End => deliver_received(edition, there, output, input, Received::End),
+        Terminator::Abort => deliver_received(edition, there, output, input, Received::Abort),
         Terminator::KeepLocal => stays,
     }
 }
 
-// A net-output 1 to 4: its head to the input at the end of its channel, then its terminator.
-pub fn channel_output(there: bool, output: Output, input: Input) -> ChannelTurn
-    ensures { λ r. ⌜ r ≡ ofChannelTurn output input (spec.channelOutput there output input) ⌝ }
+// An output 1 to 4 that is closing gives its channel up, if the input at its end is free.
+fn give_up(there: bool, output: Output, input: Input) -> ChannelTurn
+    ensures { λ r. ⌜ r ≡ ofChannelTurn output input (spec.giveUp there input) ⌝ }
+{
+    let phase = input.phase;
+    let free = types::is_free(phase);
+    if there & free {
+        return ChannelTurn {
+            output: empty_output(),
+            input,
+            changed: true,
+        };
+    }
+    ChannelTurn {
+        output,
+        input,
+        changed: false,
+    }
+}
+
+// A net-output 1 to 4: its head to the input at the end of its channel, then its terminator, then, if it is closing, the
+// channel itself.
+pub fn channel_output(edition: u8, there: bool, output: Output, input: Input) -> ChannelTurn
+    ensures { λ r. ⌜ r ≡ ofChannelTurn output input (spec.channelOutput edition there output input) ⌝ }
 {
     if output.used {
         if output.head {
-            return channel_terminator(there, output, input);
+            if output.closing {
+                return give_up(there, output, input);
+            }
+            return channel_terminator(edition, there, output, input);
         }
         return channel_head(there, output, input);
     }

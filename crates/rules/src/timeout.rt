@@ -65,13 +65,13 @@ fn cut_off(input: Input, outputs: [Output; base::OUTPUTS]) -> InputTurn
     }
 }
 
-// Whether output 0 waits for its terminator: in use with its head taken and none yet.
+// Whether output 0 waits for its terminator: it awaits one and its head is taken.
 fn is_stalled(output: Output) -> bool
     ensures { λ r. ⌜ r ≡ spec.stalled output ⌝ }
 {
     let terminator = output.terminator;
-    let bare = types::is_none(terminator);
-    output.used & output.head & bare
+    let taken = output.head;
+    output.used & !output.closing & types::is_none(terminator) & taken
 }
 
 // The timeout: ignored unless output 0 waits for a terminator that a split withholds.

@@ -10,7 +10,7 @@ is-none-requires : tie.Need-is-none-requires
 is-none-requires c κs = search needs
 
 returns : tie.Need-returns
-returns c = rw (c .before .is-none .ensures) refl
+returns c = rw (c .is-none .ensures) refl
 
 pub is-stalled-spec : {M : Type 1} → statement M
 is-stalled-spec = tie.close (tie.spec is-none-requires returns)
