@@ -21,20 +21,20 @@ use Rattle.types.specs.Numbers.{stateNumber}
 use Rattle.types.specs.Phases.{isFree, connected, splitting, aborting, isNone, isKeep}
 use Rattle.model.specs.Types.{inAt, outAt, siteAt, mark, outOf}
 use Rattle.model.specs.Range.{inputOk, outputOk, outQueueOk, inQueueOk, siteOk, zeroSite, placeOk, inRange}
-use Rattle.model.specs.Range.{tagOk, zeroInput, zeroOutput, anyMark, anyRemote, fedBy}
+use Rattle.model.specs.Range.{tagOk, closingOk, zeroInput, zeroOutput, anyMark, anyRemote, fedBy}
 use Rattle.theorems.proofs.Networks.{Valid}
 use Rattle.machine.specs.Step.{Runnable}
 
 -- ---- the tests of one site, apart
 
-module _ (S T D k : ℕ) (x : Site) where
+module _ (E S T D k : ℕ) (x : Site) where
   abbrev ins : Bool
   ins = all (λ i. inputOk S T k (x .outputs) i (inAt x i)) 5
 
   abbrev outs : Bool
-  outs = all (λ j. outputOk S k j (outAt x j)) 5
+  outs = all (λ j. outputOk E S k j (outAt x j)) 5
 
-  site-parts : siteOk S T D k x ≡ true → (ins ≡ true) × (outs ≡ true)
+  site-parts : siteOk E S T D k x ≡ true → (ins ≡ true) × (outs ≡ true)
   site-parts h =
       let q = outQueueOk S D k (x .outgoing) in
       let b = both3 ins outs q (both (ins && outs && q) (inQueueOk S D k (x .incoming)) h .0) in
@@ -86,24 +86,25 @@ module _ (n : Network) (val : Valid n) (st : State) (h : inRange n st ≡ true) 
   at s = siteAt (st .sites) s
 
   abbrev isOk : ℕ → Bool
-  isOk s = siteOk (n .sites) (n .tries) (n .depth) (st .counter) (at s)
+  isOk s = siteOk (n .edition) (n .sites) (n .tries) (n .depth) (st .counter) (at s)
 
   place-at : (s : ℕ) → s < sitesMost → ltb s (n .sites) ≡ true → isOk s ≡ true
   unfolding inRange
   place-at s hs =
       pick-at (ltb s (n .sites)) (isOk s) (zeroSite (at s))
-      (all-at (λ s. placeOk (n .sites) (n .tries) (n .depth) (st .counter) s (at s)) s sitesMost hs h) .0
+      (all-at (λ s. placeOk (n .edition) (n .sites) (n .tries) (n .depth) (st .counter) s (at s)) s sitesMost hs h) .0
 
   pub range-runnable : (s : ℕ) → s < n .sites → Runnable n s (at s)
   range-runnable s hs =
+      let E = n .edition in
       let S = n .sites in
       let k = st .counter in
       let x = at s in
-      let parts = site-parts S (n .tries) (n .depth) k x (place-at s (omega (arith, hs, val .few)) (lt-ltb s S hs)) in
+      let parts = site-parts E S (n .tries) (n .depth) k x (place-at s (omega (arith, hs, val .few)) (lt-ltb s S hs)) in
       record {
         site = hs;
         few = val .few;
-        feeder = fed-below S k 0 (outAt x 0) (all-at (λ j. outputOk S k j (outAt x j)) 0 5 (omega arith) (parts .1));
+        feeder = fed-below E S k 0 (outAt x 0) (all-at (λ j. outputOk E S k j (outAt x j)) 0 5 (omega arith) (parts .1));
         sought =
             λ i hi.
             sought-at S (n .tries) k (x .outputs) i (inAt x i)

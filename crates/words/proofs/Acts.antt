@@ -35,7 +35,7 @@ use Rattle.layout.specs.Idle.{atRest}
 use Rattle.words.specs.Events.{localBack, channelBack, queueBack, inputBack, workBack}
 use Rattle.layout.proofs.Chained.{stays}
 use Rattle.layout.proofs.Rests.{local-rests, queue-rests, operator-rests, timeout-rests, channel-rests}
-use Rattle.machine.proofs.Seen.{unjoined}
+use Rattle.theorems.proofs.Editions.{unjoined}
 
 -- ---- the arms that have nothing to do
 
@@ -55,8 +55,9 @@ timeout-idle x h =
     (timeout-rests (x .incoming) (x .outputs) (inAt x (outAt x 0 .input)) (ap not h))
 
 -- an output 1 to 4 without a channel
-pub pass-none : (o : Output) (y : Input) (b : ℕ) → isChannel b ≡ false → channelOutput (isChannel b) o y ≡ Stay
-pass-none o y b e = rw e (unjoined o y)
+pub pass-none : (edition : ℕ) (o : Output) (y : Input) (b : ℕ) → isChannel b ≡ false
+    → channelOutput edition (isChannel b) o y ≡ Stay
+pass-none edition o y b e = rw e (unjoined edition o y)
 
 -- ---- what a rule's struct says is what the rule decided
 
@@ -109,15 +110,17 @@ module _ (c d : List ℕ) (s : ℕ) (r : Ran) where
       subst (λ (t : Turn Output InQueue). Did n c d s r (ownTurn (λ o iq. setOut (withInQueue x iq) 0 o) t))
       (ap localBack e ∙ local-back (outAt x 0) (x .incoming) (localOutput D (outAt x 0) (x .incoming))) (p n)
 
-  pub channel-done : (j b : ℕ) (there : isChannel b ≡ true) (w : ChannelTurn)
-      → w ≡ ofChannelTurn (outAt x (suc j)) (farEnd (sitesOf c) b) (channelOutput true (outAt x (suc j)) (farEnd (sitesOf c) b))
-      → DidPass c d s r j b (channelBack w) → DidPass c d s r j b (channelOutput (isChannel b) (outAt x (suc j)) (endOf (sitesOf c) b))
-  channel-done j b there w e p n f =
+  pub channel-done : (edition j b : ℕ) (there : isChannel b ≡ true) (w : ChannelTurn)
+      → let o = outAt x (suc j) in
+      let y = farEnd (sitesOf c) b in
+      w ≡ ofChannelTurn o y (channelOutput edition true o y)
+      → DidPass c d s r j b (channelBack w) → DidPass c d s r j b (channelOutput edition (isChannel b) o (endOf (sitesOf c) b))
+  channel-done edition j b there w e p n f =
+      let o = outAt x (suc j) in
+      let y = farEnd (sitesOf c) b in
       rw there
       (subst (λ (t : Turn Output Input). Did n c d s r (passTurn x (suc j) t))
-      (ap channelBack e
-      ∙ channel-back (outAt x (suc j)) (farEnd (sitesOf c) b) (channelOutput true (outAt x (suc j)) (farEnd (sitesOf c) b)))
-      (p n f))
+      (ap channelBack e ∙ channel-back o y (channelOutput edition true o y)) (p n f))
 
   pub queue-done : (w : QueueTurn) → w ≡ ofQueueTurn (x .outgoing) (inAt x 0) (outQueue (x .outgoing) (inAt x 0))
       → DidOwn c d s r (ownTurn (λ oq y. setIn (withOutQueue x oq) 0 y) (queueBack w)) → DidOwn c d s r (queueAct x)
@@ -166,15 +169,15 @@ module _ (c : List ℕ) (s : ℕ) (h : length c ≡ wordCount) where
   pub timeout-none : stalled (outAt z 0) ≡ false → DidOwn c c s Nothing (timeoutAct z)
   timeout-none e n = did-nothing n c s (timeoutAct z) h (timeout-idle z e)
 
-  module _ (j b : ℕ) where
+  module _ (edition j b : ℕ) where
     abbrev t : Turn Output Input
-    t = channelOutput (isChannel b) (outAt z (suc j)) (endOf (sitesOf c) b)
+    t = channelOutput edition (isChannel b) (outAt z (suc j)) (endOf (sitesOf c) b)
 
     pub pass-rests : atRest (outAt z (j + 1)) ≡ true → DidPass c c s Nothing j b t
     pass-rests e n f =
         did-nothing n c s (passTurn z (suc j) t) h
-        (ap (passTurn z (suc j)) (channel-rests (isChannel b) (outAt z (suc j)) (endOf (sitesOf c) b) (rw (add-one j) at e)))
+        (ap (passTurn z (suc j)) (channel-rests edition (isChannel b) (outAt z (suc j)) (endOf (sitesOf c) b) (rw (add-one j) at e)))
 
     pub pass-never : isChannel b ≡ false → DidPass c c s Nothing j b t
     pass-never e n f =
-        did-nothing n c s (passTurn z (suc j) t) h (ap (passTurn z (suc j)) (pass-none (outAt z (suc j)) (endOf (sitesOf c) b) b e))
+        did-nothing n c s (passTurn z (suc j) t) h (ap (passTurn z (suc j)) (pass-none edition (outAt z (suc j)) (endOf (sitesOf c) b) b e))

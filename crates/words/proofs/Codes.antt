@@ -49,7 +49,8 @@ module _ (n : Network) (c d : List ℕ) (s : ℕ) (r : Ran) (code : ℕ) where
 
   pub by-channel : 5 < code → code < 10
       → DidPass c d s r (code - 6) (channel n s (suc (code - 6)))
-      (channelOutput (isChannel (channel n s (suc (code - 6)))) (outAt x (suc (code - 6))) (endOf (sitesOf c) (channel n s (suc (code - 6)))))
+      (channelOutput (n .edition) (isChannel (channel n s (suc (code - 6)))) (outAt x (suc (code - 6)))
+      (endOf (sitesOf c) (channel n s (suc (code - 6)))))
       → Did n c d s r (act n s x far code)
   unfolding act netOutput
   by-channel h k p =

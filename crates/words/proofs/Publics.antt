@@ -24,16 +24,16 @@ use Rattle.words.proofs.RunLaws.{run-asks}
 
 -- ---- in range
 
--- of a network its sites, depth and tries alone are looked at
-pub in-range-is : (n : Network) (st : State) → inRange (networkBy 0 0 (n .sites) (n .depth) (n .tries) [] []) st ≡ inRange n st
+-- of a network its edition, sites, depth and tries alone are looked at
+pub in-range-is : (n : Network) (st : State) → inRange (networkBy 0 (n .edition) (n .sites) (n .depth) (n .tries) [] []) st ≡ inRange n st
 unfolding inRange
 in-range-is n st = refl
 
 -- the test of all sites, k being the counter
-pub range-found : (S T D k m : ℕ) (c : List ℕ) (ok : Bool) → k ≡ stateOf c .counter → m ≤ sitesMost → sitesMost ≤ m
-    → ok ≡ all (λ t. placeOk S T D k t (siteAt (sitesOf c) t)) m → ok ≡ inRange (networkBy 0 0 S D T [] []) (stateOf c)
+pub range-found : (E S T D k m : ℕ) (c : List ℕ) (ok : Bool) → k ≡ stateOf c .counter → m ≤ sitesMost → sitesMost ≤ m
+    → ok ≡ all (λ t. placeOk E S T D k t (siteAt (sitesOf c) t)) m → ok ≡ inRange (networkBy 0 E S D T [] []) (stateOf c)
 unfolding inRange
-range-found S T D k m c ok e h l f = rw (← e) (all-end (λ t. placeOk S T D k t (siteAt (sitesOf c) t)) sitesMost m ok h l f)
+range-found E S T D k m c ok e h l f = rw (← e) (all-end (λ t. placeOk E S T D k t (siteAt (sitesOf c) t)) sitesMost m ok h l f)
 
 pub sized : (c : List ℕ) → isState c ≡ true → length c ≡ wordCount
 sized c h = eqb-true (length c) wordCount (both (eqb (length c) wordCount) (canonical c) h .0)
@@ -51,7 +51,7 @@ module _ (n : Network) (c : List ℕ) where
   unfolding sharedRefusal
   shared-network k e ne = rw (← e, ne-eqb k 0 ne) refl
 
-  pub shared-fit : (k : ℕ) (a b : Bool) → k ≡ networkRefusal n → k ≡ 0 → b ≡ isState c && inRange (networkBy 0 0 (n .sites) (n .depth) (n .tries) [] []) st
+  pub shared-fit : (k : ℕ) (a b : Bool) → k ≡ networkRefusal n → k ≡ 0 → b ≡ isState c && inRange (networkBy 0 (n .edition) (n .sites) (n .depth) (n .tries) [] []) st
       → b ≡ a → cond a 0 13 ≡ sharedRefusal n c
   unfolding sharedRefusal
   shared-fit k a b e z f g =

@@ -18,7 +18,7 @@ use Rattle.types.specs.declared.Network.{Network}
 use Rattle.types.specs.declared.AfterSend.{AfterSend}
 use Rattle.types.specs.declared.Sent.the-variants.{the-data as Sent}
 use Rattle.types.specs.declared.Ran.the-variants.{the-data as Ran}
-use Rattle.model.specs.Types.{noInput, siteAt, inAt, outAt}
+use Rattle.model.specs.Types.{noInput, siteAt, inAt, outAt, carries}
 use Rattle.model.specs.Network.{channel, joined, isChannel}
 use Rattle.model.specs.NetInput.{Turn, Stay, To, netInput, seek}
 use Rattle.model.specs.Places.{Work, Rest, Cleared, Service}
@@ -113,12 +113,12 @@ workBack r = cond (r .changed) (cond (r .serviced) (Service (r .incoming) (r .ou
 abbrev pub readyAt : List ℕ → List Site → ℕ → ℕ → Bool
 readyAt l xs s j =
     let b = getD l (portCount * s + j) 0 in
-    outAt (siteAt xs s) (j + 1) .used && outAt (siteAt xs s) (j + 1) .head && (isChannel b && listening (endOf xs b .phase))
+    carries (outAt (siteAt xs s) (j + 1)) && outAt (siteAt xs s) (j + 1) .head && (isChannel b && listening (endOf xs b .phase))
 
 -- which outputs of site s are ready
 abbrev pub readyFlags : List ℕ → List Site → ℕ → List Bool
 readyFlags l xs s =
-    (outAt (siteAt xs s) 0 .used && outAt (siteAt xs s) 0 .head && true)
+    (carries (outAt (siteAt xs s) 0) && outAt (siteAt xs s) 0 .head && true)
     ∷ readyAt l xs s 0
     ∷ readyAt l xs s 1
     ∷ readyAt l xs s 2

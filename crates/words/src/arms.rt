@@ -55,11 +55,11 @@ pub(crate) fn local_in_place(depth: usize, words: &mut [u64], s: usize) -> Ran
 }
 
 // Codes 6 to 9: net-output j + 1; its channel is at hand.
-pub(crate) fn channel_in_place(words: &mut [u64], s: usize, j: usize, channel: u16) -> Ran
+pub(crate) fn channel_in_place(edition: u8, words: &mut [u64], s: usize, j: usize, channel: u16) -> Ran
     requires { ⌜ (s < sitesMost) × (j < portCount) × (length (now words) ≡ wordCount) × (isChannel channel ≡ true → channel < endCount) ⌝ }
     ensures { λ r. ⌜
         spec.DidPass (now (words .entry)) (now (words .exit)) s r j channel
-        (channelOutput (isChannel channel) (outAt (siteIn (now (words .entry)) s) (suc j))
+        (channelOutput edition (isChannel channel) (outAt (siteIn (now (words .entry)) s) (suc j))
         (spec.endOf (sitesOf (now (words .entry))) channel))
         ⌝ }
 {
@@ -69,7 +69,7 @@ pub(crate) fn channel_in_place(words: &mut [u64], s: usize, j: usize, channel: u
     if channel == base::NO_CHANNEL {
         return Ran::Nothing;
     }
-    let turn = channel_turn(words, s, j, channel);
+    let turn = channel_turn(edition, words, s, j, channel);
     put_channel(words, s, j, channel, turn)
 }
 

@@ -6,7 +6,7 @@ ghost use lib.ListN.{length};
 ghost use Rattle.base.specs.Sizes.{sitesMost, inputCount, outputCount, queueRoom};
 ghost use Rattle.types.specs.Numbers.{stateNumber};
 ghost use Rattle.types.specs.Phases.{isNone};
-ghost use Rattle.model.specs.Types.{siteAt, inAt, outAt, inEntry};
+ghost use Rattle.model.specs.Types.{siteAt, inAt, outAt, inEntry, carries};
 ghost use Rattle.model.specs.Places.{stalled};
 ghost use Rattle.layout.specs.Layout.{wordCount, sitePlaces};
 ghost use Rattle.layout.specs.Words as spec;
@@ -196,24 +196,25 @@ pub(crate) fn state_of(words: &[u64], s: usize, i: usize) -> u64
     fields_at(words, s, i) % 8
 }
 
-// Whether net-output j is in use with its head taken.
+// Whether net-output j is in use, not closing, with its head taken.
 pub(crate) fn is_taken(words: &[u64], s: usize, j: usize) -> bool
     requires { ⌜ (s < sitesMost) × (j < outputCount) × (length (now words) ≡ wordCount) ⌝ }
     ensures { λ r. ⌜
         r ≡
-        (outAt (siteAt (spec.sitesOf (now (words .entry))) s) j .used && outAt
+        (carries (outAt (siteAt (spec.sitesOf (now (words .entry))) s) j) && outAt
         (siteAt (spec.sitesOf (now (words .entry))) s) j .head)
         ⌝ }
 {
-    fields_at(words, s, OUTPUTS_FROM + j) % 4 == 3
+    let w = fields_at(words, s, OUTPUTS_FROM + j);
+    (w % 4 == 3) & !(w / 16 % 2 == 1)
 }
 
-// Whether net-output j is stalled: in use, its head taken, no terminator.
+// Whether net-output j is stalled: in use, not closing, its head taken, no terminator.
 pub(crate) fn is_stalled(words: &[u64], s: usize, j: usize) -> bool
     requires { ⌜ (s < sitesMost) × (j < outputCount) × (length (now words) ≡ wordCount) ⌝ }
     ensures { λ r. ⌜ r ≡ stalled (outAt (siteAt (spec.sitesOf (now (words .entry))) s) j) ⌝ }
 {
-    fields_at(words, s, OUTPUTS_FROM + j) % 16 == 3
+    fields_at(words, s, OUTPUTS_FROM + j) % 32 == 3
 }
 
 // Whether net-output j is in use.

@@ -186,6 +186,7 @@ pub(crate) fn output_from(set: u64, w: u64) -> Output
         input: (w / 256 % 256) as u8,
         used: w / 1 % 2 == 1,
         head: w / 2 % 2 == 1,
+        closing: w / 16 % 2 == 1,
     }
 }
 
@@ -198,6 +199,7 @@ pub(crate) fn output_word(output: Output) -> u64
     bit(output.used)
         + 2 * bit(output.head)
         + 4 * word(types::terminator_number(terminator))
+        + 16 * bit(output.closing)
         + 256 * word(input)
         + 65536 * word(packet)
 }

@@ -14,17 +14,17 @@ use crate::load::load_counter;
 use crate::load::load_site;
 use types::Network;
 
-// Whether the words' state is in range for a network with these sites, tries and depth.
-pub(crate) fn is_in_range(sites: usize, tries: u8, depth: usize, words: &[u64]) -> bool
+// Whether the words' state is in range for a network with this edition, these sites, tries and depth.
+pub(crate) fn is_in_range(edition: u8, sites: usize, tries: u8, depth: usize, words: &[u64]) -> bool
     requires { ⌜ length (now words) ≡ wordCount ⌝ }
-    ensures { λ r. ⌜ r ≡ inRange (networkBy 0 0 sites depth tries [] []) (stateOf (now (words .entry))) ⌝ }
+    ensures { λ r. ⌜ r ≡ inRange (networkBy 0 edition sites depth tries [] []) (stateOf (now (words .entry))) ⌝ }
 {
     let counter = load_counter(words);
     let mut ok = true;
     let mut s: usize = 0;
     while s < base::SITES {
         let site = load_site(words, s);
-        let one = checks::place_ok(sites, tries, depth, counter, s, site);
+        let one = checks::place_ok(edition, sites, tries, depth, counter, s, site);
         ok = ok & one;
         s += 1;
     }
@@ -32,11 +32,11 @@ pub(crate) fn is_in_range(sites: usize, tries: u8, depth: usize, words: &[u64]) 
 }
 
 // Whether these are the words of a state in range.
-fn is_fit(sites: usize, tries: u8, depth: usize, words: &[u64]) -> bool
-    ensures { λ r. ⌜ r ≡ isState (now (words .entry)) && inRange (networkBy 0 0 sites depth tries [] []) (stateOf (now (words .entry))) ⌝ }
+fn is_fit(edition: u8, sites: usize, tries: u8, depth: usize, words: &[u64]) -> bool
+    ensures { λ r. ⌜ r ≡ isState (now (words .entry)) && inRange (networkBy 0 edition sites depth tries [] []) (stateOf (now (words .entry))) ⌝ }
 {
     if is_state(words) {
-        return is_in_range(sites, tries, depth, words);
+        return is_in_range(edition, sites, tries, depth, words);
     }
     false
 }
@@ -44,6 +44,7 @@ fn is_fit(sites: usize, tries: u8, depth: usize, words: &[u64]) -> bool
 pub(crate) fn shared_refusal(network: Network, words: &[u64]) -> u8
     ensures { λ r. ⌜ r ≡ sharedRefusal network (now (words .entry)) ⌝ }
 {
+    let edition = network.edition;
     let sites = network.sites;
     let tries = network.tries;
     let depth = network.depth;
@@ -51,7 +52,7 @@ pub(crate) fn shared_refusal(network: Network, words: &[u64]) -> u8
     if refusal != 0 {
         return refusal;
     }
-    if is_fit(sites, tries, depth, words) {
+    if is_fit(edition, sites, tries, depth, words) {
         return 0;
     }
     13

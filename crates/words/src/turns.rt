@@ -40,18 +40,18 @@ pub(crate) fn local_turn(depth: usize, words: &[u64], s: usize) -> LocalTurn
 }
 
 // Output j + 1, and the input at the end of its channel, this one.
-pub(crate) fn channel_turn(words: &[u64], s: usize, j: usize, channel: u16) -> ChannelTurn
+pub(crate) fn channel_turn(edition: u8, words: &[u64], s: usize, j: usize, channel: u16) -> ChannelTurn
     requires { ⌜ (s < sitesMost) × (j < portCount) × (length (now words) ≡ wordCount) × (channel < endCount) ⌝ }
     ensures { λ r. ⌜
         r ≡ ofChannelTurn (outAt (siteIn (now (words .entry)) s) (suc j)) (farEnd (sitesOf (now (words .entry))) channel)
-        (places.channelOutput true (outAt (siteIn (now (words .entry)) s) (suc j))
+        (places.channelOutput edition true (outAt (siteIn (now (words .entry)) s) (suc j))
         (farEnd (sitesOf (now (words .entry))) channel))
         ⌝ }
 {
     let b = base::wider(channel);
     let output = load_output(words, s, j + 1);
     let input = load_input(words, b / base::PORTS, b % base::PORTS + 1);
-    channel_output(true, output, input)
+    channel_output(edition, true, output, input)
 }
 
 pub(crate) fn queue_turn(words: &[u64], s: usize) -> QueueTurn

@@ -26,7 +26,7 @@ same-length c = search needs
 
 -- src/arms.rt:60:9
 returns : tie.Need-returns
-returns c = pass-rests _ _ (search needs) _ _ (sym (c .before .is-at-rest .ensures) ∙ c .if1 .taken)
+returns c = pass-rests _ _ (search needs) _ _ _ (sym (c .before .is-at-rest .ensures) ∙ c .if1 .taken)
 
 -- src/arms.rt:63:9
 same-length-2 : tie.Need-same-length-2
@@ -34,7 +34,7 @@ same-length-2 c = search needs
 
 -- src/arms.rt:63:9
 returns-2 : tie.Need-returns-2
-returns-2 c = pass-never _ _ (search needs) _ _ (ap not (eq-eqb _ _ (c .if2 .taken)))
+returns-2 c = pass-never _ _ (search needs) _ _ _ (ap not (eq-eqb _ _ (c .if2 .taken)))
 
 -- src/arms.rt:65:9
 channel-turn-requires : tie.Need-channel-turn-requires
@@ -59,7 +59,7 @@ returns-3 : tie.Need-returns-3
 returns-3 c =
     let channel-turn = c .before .before .before .before .channel-turn in
     let if2 = c .before .before .before .before .before .before .if2 in
-    channel-done _ _ _ _ _ _ (ap not (ne-eqb _ _ (if2 .left))) _ (channel-turn .ensures)
+    channel-done _ _ _ _ _ _ _ (ap not (ne-eqb _ _ (if2 .left))) _ (channel-turn .ensures)
     (c .before .before .put-channel .ensures)
 
 pub channel-in-place-spec : {M : Type 1} → statement M

@@ -43,6 +43,10 @@ mul-result-2 c = search needs
 add-result-2 : tie.Need-add-result-2
 add-result-2 c = search needs
 
+-- src/pack.rt:194:16
+bit-requires-3 : tie.Need-bit-requires-3
+bit-requires-3 c κs = search needs
+
 -- src/pack.rt:194:17
 word-requires-2 : tie.Need-word-requires-2
 word-requires-2 c κs = search needs
@@ -67,18 +71,28 @@ mul-result-4 c = search needs
 add-result-4 : tie.Need-add-result-4
 add-result-4 c = search needs
 
+mul-result-5 : tie.Need-mul-result-5
+mul-result-5 c = search needs
+
+add-result-5 : tie.Need-add-result-5
+add-result-5 c = search needs
+
 -- src/pack.rt:185:1
 returns : tie.Need-returns
 unfolding outputWord
 returns c =
     let word2 = c .before .word2 in
-    let terminator-number = c .before .before .before .terminator-number in
-    let bit2 = c .before .before .before .before .bit2 in
-    let bit = c .before .before .before .before .before .bit in (
+    let bit3 = c .before .before .bit3 in
+    let word = c .before .before .before .word in
+    let past = c .before .before .before .before in
+    let terminator-number = past .terminator-number in
+    let bit2 = past .before .bit2 in
+    let bit = past .before .before .bit in (
       rw (
         c .word3 .ensures .0,
         word2 .ensures .0,
-        c .before .before .word .ensures .0,
+        bit3 .ensures .0,
+        word .ensures .0,
         terminator-number .ensures,
         bit2 .ensures .0,
         bit .ensures .0,
@@ -99,10 +113,13 @@ output-word-spec =
     word-requires
     mul-result-2
     add-result-2
-    word-requires-2
+    bit-requires-3
     mul-result-3
     add-result-3
-    word-requires-3
+    word-requires-2
     mul-result-4
     add-result-4
+    word-requires-3
+    mul-result-5
+    add-result-5
     returns)

@@ -19,10 +19,10 @@ use Rattle.words.proofs.load.load_counter.Reads as load-counter-reads
 use Rattle.words.proofs.load.load_site.Reads as load-site-reads
 
 abbrev Inv-loop : tie.InvT-loop
-Inv-loop sites tries depth words counter ok₀ s₀ ok s = (s ≤ sitesMost) × (ok ≡ all (λ t. placeOk sites tries depth counter t (siteAt (sitesOf words) t)) s)
+Inv-loop edition sites tries depth words counter ok₀ s₀ ok s = (s ≤ sitesMost) × (ok ≡ all (λ t. placeOk edition sites tries depth counter t (siteAt (sitesOf words) t)) s)
 
 abbrev μ-loop : tie.MeasureT-loop
-μ-loop sites tries depth words counter ok₀ s₀ ok s = sitesMost - s
+μ-loop edition sites tries depth words counter ok₀ s₀ ok s = sitesMost - s
 
 -- src/refusals.rt:22:9
 load-counter-requires : tie.Need-load-counter-requires Inv-loop μ-loop
@@ -56,7 +56,7 @@ loop-again c =
 
 -- src/refusals.rt:18:1
 returns : tie.Need-returns Inv-loop μ-loop
-returns c = range-found _ _ _ _ _ _ _ (c .before .before .load-counter .ensures) (c .before .loop .inv .0) (search needs) (c .before .loop .inv .1)
+returns c = range-found _ _ _ _ _ _ _ _ (c .before .before .load-counter .ensures) (c .before .loop .inv .0) (search needs) (c .before .loop .inv .1)
 
 pub is-in-range-spec : {M : Type 1} → statement M
 is-in-range-spec =
