@@ -15,7 +15,7 @@ use Rattle.base.specs.Bools.{both, cond-ok}
 use Rattle.base.specs.All.{all, all-none, all-more, all-next, all-fails, all-same}
 use Rattle.base.specs.Lists.{same-at}
 use Rattle.types.specs.declared.Network.{Network}
-use Rattle.model.specs.Network.{kindThen, sitesIn, sizesOk, portOk, listOk, routeOf, routeOk, choice, choices}
+use Rattle.model.specs.Network.{versionOk, editionOk, kindThen, sitesIn, sizesOk, portOk, listOk, routeOf, routeOk, choice, choices}
 use Rattle.checks.specs.Network.{kindIn, portsOf, listBy, routeBy}
 
 -- ---- version and edition
@@ -27,8 +27,7 @@ both-ways false b next = refl
 
 -- what the test of version and edition answered, k, comes before the next
 pub kind-then : (n : Network) (k next : ℕ) → k ≡ kindIn (n .version) (n .edition) → kindThen n next ≡ orNext k next
-kind-then n k next e =
-    both-ways (eqb (n .version) 1 || eqb (n .version) 2) (eqb (n .edition) 1) next ∙ ap (λ (x : ℕ). orNext x next) (sym e)
+kind-then n k next e = both-ways (versionOk n) (editionOk n) next ∙ ap (λ (x : ℕ). orNext x next) (sym e)
 
 -- ---- S and D of a network within its limits
 

@@ -125,12 +125,13 @@ used-input S T k os i y used =
 
 -- ---- a site
 
-pub site-parts : (S T D k : ℕ) (x : Site)
-    → netPlacesOk S T k (x .inputs) (x .outputs) && (outQueueOk S D k (x .outgoing) && inQueueOk S D k (x .incoming))
-    ≡ siteOk S T D k x
-site-parts S T D k x =
+pub site-parts : (edition S T D k : ℕ) (x : Site)
+    → netPlacesOk edition S T k (x .inputs) (x .outputs)
+    && (outQueueOk S D k (x .outgoing) && inQueueOk S D k (x .incoming))
+    ≡ siteOk edition S T D k x
+site-parts edition S T D k x =
     sym
-    (and-assoc (netPlacesOk S T k (x .inputs) (x .outputs)) (outQueueOk S D k (x .outgoing))
+    (and-assoc (netPlacesOk edition S T k (x .inputs) (x .outputs)) (outQueueOk S D k (x .outgoing))
     (inQueueOk S D k (x .incoming)))
 
 -- ---- room beyond S
@@ -144,8 +145,8 @@ room-input S os i y = either-way (isFree (y .phase)) (λ free. free-input S 0 0 
     used : isFree (y .phase) ≡ false → inputOk S 0 0 os i y ≡ zeroInput y
     used e = used-input S 0 0 os i y e ∙ fails (leb (y .tries) 0) _ (connectionOk os i (y .phase) (y .outputs)) (no-tag S (y .packet) (y .set)) ∙ rw e refl
 
-room-output : (S j : ℕ) (o : Output) → outputOk S 0 j o ≡ zeroOutput o
-room-output S j o = rw (no-tag S (o .packet) (o .set)) (either-way (o .used) (λ e. rw e refl) (λ e. rw e refl))
+room-output : (edition S j : ℕ) (o : Output) → outputOk edition S 0 j o ≡ zeroOutput o
+room-output edition S j o = rw (no-tag S (o .packet) (o .set)) (either-way (o .used) (λ e. rw e refl) (λ e. rw e refl))
 
 -- a queue of depth 0: no entry is in use
 room-queue : (c : ℕ) (f : ℕ → ℕ → Bool) (z : ℕ → Bool) → ((m : ℕ) → f 0 m ≡ z m)
@@ -153,13 +154,13 @@ room-queue : (c : ℕ) (f : ℕ → ℕ → Bool) (z : ℕ → Bool) → ((m : �
 room-queue zero f z h = all-same (f 0) z queueRoom (λ m l. h m)
 room-queue (suc c) f z h = rw (lt-leb (suc c) 0 (omega arith), ne-eqb (suc c) 0 (λ e. omega arith)) refl
 
-pub room : (S : ℕ) (x : Site) → siteOk S 0 0 0 x ≡ zeroSite x
-room S x =
+pub room : (edition S : ℕ) (x : Site) → siteOk edition S 0 0 0 x ≡ zeroSite x
+room edition S x =
     ap₂ _&&_
     (ap₂ _&&_
     (ap₂ _&&_
     (all-same _ _ inputCount (λ i l. room-input S (x .outputs) i (inAt x i)))
-    (all-same _ _ outputCount (λ j l. room-output S j (outAt x j))))
+    (all-same _ _ outputCount (λ j l. room-output edition S j (outAt x j))))
     (room-queue (x .outgoing .count) (λ c m. outEntryOk S 0 c m (outEntry (x .outgoing) m)) _
     (λ m. rw (le-ltb m 0 (omega arith)) refl)))
     (room-queue (x .incoming .count) (λ c m. inEntryOk S 0 c m (inEntry (x .incoming) m)) _

@@ -19,7 +19,7 @@ connectionOk os i ph bs =
     && implies (aborting ph) (splitting ph && not (anyRemote bs))
 
 -- the first two clauses of siteOk
-abbrev pub netPlacesOk : ℕ → ℕ → ℕ → List Input → List Output → Bool
-netPlacesOk S T k is os =
+abbrev pub netPlacesOk : ℕ → ℕ → ℕ → ℕ → List Input → List Output → Bool
+netPlacesOk edition S T k is os =
     all (λ i. inputOk S T k os i (getD is i inputD)) inputCount
-    && all (λ j. outputOk S k j (outOf os j)) outputCount
+    && all (λ j. outputOk edition S k j (outOf os j)) outputCount

@@ -24,13 +24,14 @@ use types::State;
 
 // The net-inputs and the net-outputs of a site: five of each.
 fn net_places_ok(
+    edition: u8,
     sites: usize,
     limit: u8,
     counter: u8,
     inputs: [Input; base::INPUTS],
     outputs: [Output; base::OUTPUTS],
 ) -> bool
-    ensures { λ r. ⌜ r ≡ netPlacesOk sites limit counter inputs outputs ⌝ }
+    ensures { λ r. ⌜ r ≡ netPlacesOk edition sites limit counter inputs outputs ⌝ }
 {
     let mut ok = true;
     let mut i: usize = 0;
@@ -39,7 +40,7 @@ fn net_places_ok(
         let output = outputs[i];
         ok = ok
             & (input_ok(sites, limit, counter, outputs, i, input)
-                & output_ok(sites, counter, i, output));
+                & output_ok(edition, sites, counter, i, output));
         i += 1;
     }
     ok
@@ -65,31 +66,40 @@ fn queues_ok(sites: usize, depth: usize, counter: u8, outgoing: OutQueue, incomi
 }
 
 // A site of the network. With T, D and counter 0 it is the test of room beyond S.
-fn site_ok(sites: usize, limit: u8, depth: usize, counter: u8, site: Site) -> bool
-    ensures { λ r. ⌜ r ≡ spec.siteOk sites limit depth counter site ⌝ }
+fn site_ok(edition: u8, sites: usize, limit: u8, depth: usize, counter: u8, site: Site) -> bool
+    ensures { λ r. ⌜ r ≡ spec.siteOk edition sites limit depth counter site ⌝ }
 {
     let inputs = site.inputs;
     let outputs = site.outputs;
     let outgoing = site.outgoing;
     let incoming = site.incoming;
-    net_places_ok(sites, limit, counter, inputs, outputs)
+    net_places_ok(edition, sites, limit, counter, inputs, outputs)
         & queues_ok(sites, depth, counter, outgoing, incoming)
 }
 
-// Place s of a state's sites, with S, T, D and the counter: a site of the network, or room beyond S.
-pub fn place_ok(sites: usize, tries: u8, depth: usize, counter: u8, s: usize, site: Site) -> bool
-    ensures { λ r. ⌜ r ≡ spec.placeOk sites tries depth counter s site ⌝ }
+// Place s of a state's sites, with the edition, S, T, D and the counter: a site of the network, or room beyond S.
+pub fn place_ok(
+    edition: u8,
+    sites: usize,
+    tries: u8,
+    depth: usize,
+    counter: u8,
+    s: usize,
+    site: Site,
+) -> bool
+    ensures { λ r. ⌜ r ≡ spec.placeOk edition sites tries depth counter s site ⌝ }
 {
     if s < sites {
-        return site_ok(sites, tries, depth, counter, site);
+        return site_ok(edition, sites, tries, depth, counter, site);
     }
-    site_ok(sites, 0, 0, 0, site)
+    site_ok(edition, sites, 0, 0, 0, site)
 }
 
 // Whether the state is in range for the network.
 pub fn is_in_range(network: Network, state: State) -> bool
     ensures { λ r. ⌜ r ≡ spec.inRange network state ⌝ }
 {
+    let edition = network.edition;
     let sites = network.sites;
     let limit = network.tries;
     let depth = network.depth;
@@ -98,7 +108,7 @@ pub fn is_in_range(network: Network, state: State) -> bool
     let mut s: usize = 0;
     while s < base::SITES {
         let site = state.sites[s];
-        ok = ok & place_ok(sites, limit, depth, counter, s, site);
+        ok = ok & place_ok(edition, sites, limit, depth, counter, s, site);
         s += 1;
     }
     ok

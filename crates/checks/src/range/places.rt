@@ -53,12 +53,14 @@ fn zero_output(output: Output) -> bool
     ensures { λ r. ⌜ r ≡ spec.zeroOutput output ⌝ }
 {
     let terminator = output.terminator;
+    let closing = output.closing;
     !output.used
         & (output.packet == 0)
         & (output.set == 0)
         & (output.input == 0)
         & !output.head
         & types::is_none(terminator)
+        & !closing
 }
 
 fn zero_out_entry(entry: OutEntry) -> bool
@@ -74,12 +76,12 @@ fn zero_in_entry(entry: InEntry) -> bool
     (entry.packet == 0) & (entry.set == 0) & types::is_none(terminator)
 }
 
-// In use, fed by net-input i and without a terminator.
+// In use, not closing, without a terminator and fed by net-input i.
 fn fed_by(i: usize, output: Output) -> bool
     ensures { λ r. ⌜ r ≡ spec.fedBy i output ⌝ }
 {
     let terminator = output.terminator;
-    output.used & (base::wide(output.input) == i) & types::is_none(terminator)
+    output.used & !output.closing & types::is_none(terminator) & (base::wide(output.input) == i)
 }
 
 // Each output that net-input i marks is fed by it.
@@ -135,15 +137,24 @@ pub(crate) fn input_ok(
         & connection_ok(outputs, i, phase, marks)
 }
 
+// Net-output j, which is in use, may be closing: edition 2, an output 1 to 4, head taken, without a terminator.
+fn closing_ok(edition: u8, j: usize, output: Output) -> bool
+    ensures { λ r. ⌜ r ≡ spec.closingOk edition j output ⌝ }
+{
+    let terminator = output.terminator;
+    (edition == 2) & (j != 0) & output.head & types::is_none(terminator)
+}
+
 // Net-output j.
-pub(crate) fn output_ok(sites: usize, counter: u8, j: usize, output: Output) -> bool
-    ensures { λ r. ⌜ r ≡ spec.outputOk sites counter j output ⌝ }
+pub(crate) fn output_ok(edition: u8, sites: usize, counter: u8, j: usize, output: Output) -> bool
+    ensures { λ r. ⌜ r ≡ spec.outputOk edition sites counter j output ⌝ }
 {
     let terminator = output.terminator;
     if output.used {
         return tag_ok(sites, counter, output.packet, output.set)
             & (base::wide(output.input) < base::INPUTS)
-            & (!is_keep(terminator) | (j == 0));
+            & (!is_keep(terminator) | (j == 0))
+            & (!output.closing | closing_ok(edition, j, output));
     }
     zero_output(output)
 }

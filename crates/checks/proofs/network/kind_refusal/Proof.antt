@@ -1,16 +1,15 @@
 -- `network::kind_refusal` meets its contract: its tests are the definition's. Assumes nothing.
 use mathlib.Core.Path.{refl}
-use borrow.Author.Tests.{eq-eqb, ne-eqb}
 use Rattle.checks.proofs.network.kind_refusal.Statement.{statement}
 use Rattle.checks.proofs.network.kind_refusal.Tie as tie
 use Rattle.checks.proofs.network.kind_refusal.Reads as reads
 use Rattle.checks.proofs.network.kind_refusal.Lts as lts
 
 returns : tie.Need-returns
-returns c = rw (c .before .if1 .taken, eq-eqb _ _ (c .if2 .taken)) refl
+returns c = rw (c .before .if1 .taken, c .if2 .taken) refl
 
 returns-2 : tie.Need-returns-2
-returns-2 c = rw (c .before .if1 .taken, ne-eqb _ _ (c .if2 .left)) refl
+returns-2 c = rw (c .before .if1 .taken, c .if2 .left) refl
 
 returns-3 : tie.Need-returns-3
 returns-3 c = rw (c .if1 .left) refl

@@ -13,11 +13,11 @@ use Rattle.checks.proofs.range.is_in_range.Lts as lts
 use Rattle.checks.proofs.range.place_ok.Reads as place-ok-reads
 
 abbrev Inv-loop : tie.InvT-loop
-Inv-loop state sites limit depth counter ok₀ s₀ ok s =
-    (s ≤ sitesMost) × (ok ≡ all (λ k. placeOk sites limit depth counter k (siteAt (state .sites) k)) s)
+Inv-loop state edition sites limit depth counter ok₀ s₀ ok s =
+    (s ≤ sitesMost) × (ok ≡ all (λ k. placeOk edition sites limit depth counter k (siteAt (state .sites) k)) s)
 
 abbrev μ-loop : tie.MeasureT-loop
-μ-loop state sites limit depth counter ok₀ s₀ ok s = sitesMost - s
+μ-loop state edition sites limit depth counter ok₀ s₀ ok s = sitesMost - s
 
 loop-holds : tie.Need-loop-holds Inv-loop μ-loop
 loop-holds c = (omega arith, sym (all-none _))

@@ -18,13 +18,13 @@ use Rattle.checks.proofs.range.places.input_ok.Reads as input-ok-reads
 use Rattle.checks.proofs.range.places.output_ok.Reads as output-ok-reads
 
 abbrev Inv-loop : tie.InvT-loop
-Inv-loop sites limit counter inputs outputs ok₀ i₀ ok i =
+Inv-loop edition sites limit counter inputs outputs ok₀ i₀ ok i =
     let first = all (λ k. inputOk sites limit counter outputs k (getD inputs k inputD)) i in
-    let second = all (λ k. outputOk sites counter k (outOf outputs k)) i in
+    let second = all (λ k. outputOk edition sites counter k (outOf outputs k)) i in
     (i ≤ inputCount) × (ok ≡ first && second)
 
 abbrev μ-loop : tie.MeasureT-loop
-μ-loop sites limit counter inputs outputs ok₀ i₀ ok i = inputCount - i
+μ-loop edition sites limit counter inputs outputs ok₀ i₀ ok i = inputCount - i
 
 loop-holds : tie.Need-loop-holds Inv-loop μ-loop
 loop-holds c = (omega arith, all-none-two _ _)

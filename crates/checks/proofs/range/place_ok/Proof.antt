@@ -20,7 +20,7 @@ site-ok-requires-2 c κs = search needs
 returns-2 : tie.Need-returns-2
 returns-2 c =
     let a = c .before .before .args in
-    pick-second _ _ _ _ (le-ltb _ _ (c .before .if1 .left)) (c .site-ok2 .ensures ∙ room (a .sites) (a .site))
+    pick-second _ _ _ _ (le-ltb _ _ (c .before .if1 .left)) (c .site-ok2 .ensures ∙ room (a .edition) (a .sites) (a .site))
 
 pub place-ok-spec : {M : Type 1} → statement M
 place-ok-spec = tie.close (tie.spec site-ok-requires returns site-ok-requires-2 returns-2)

@@ -18,7 +18,7 @@ returns c =
     let args = c .before .before .before .before .before .before .args in
     let a = args in
     rw (c .queues-ok .ensures, c .before .net-places-ok .ensures)
-    (site-parts (a .sites) (a .limit) (a .depth) (a .counter) (a .site))
+    (site-parts (a .edition) (a .sites) (a .limit) (a .depth) (a .counter) (a .site))
 
 pub site-ok-spec : {M : Type 1} → statement M
 site-ok-spec = tie.close (tie.spec net-places-ok-requires queues-ok-requires returns)

@@ -7,6 +7,7 @@ use Rattle.checks.proofs.range.places.output_ok.Reads as reads
 use Rattle.checks.proofs.range.places.output_ok.Lts as lts
 use Rattle.base.proofs.wide.Reads as wide-reads
 use Rattle.checks.proofs.range.phases.is_keep.Reads as is-keep-reads
+use Rattle.checks.proofs.range.places.closing_ok.Reads as closing-ok-reads
 use Rattle.checks.proofs.range.places.tag_ok.Reads as tag-ok-reads
 use Rattle.checks.proofs.range.places.zero_output.Reads as zero-output-reads
 
@@ -19,11 +20,20 @@ wide-requires c κs = search needs
 is-keep-requires : tie.Need-is-keep-requires
 is-keep-requires c κs = search needs
 
+closing-ok-requires : tie.Need-closing-ok-requires
+closing-ok-requires c κs = search needs
+
 returns : tie.Need-returns
 returns c =
-    let if1 = c .before .before .before .if1 in
+    let tag-ok = c .before .before .before .before .tag-ok in
+    let if1 = c .before .before .before .before .before .if1 in
     pick-first _ _ _ _ (if1 .taken)
-    (rw (c .is-keep .ensures, c .before .wide .ensures .0, c .before .before .tag-ok .ensures) refl)
+    (rw (
+      c .closing-ok .ensures,
+      c .before .before .is-keep .ensures,
+      c .before .before .before .wide .ensures .0,
+      tag-ok .ensures,
+    ) refl)
 
 zero-output-requires : tie.Need-zero-output-requires
 zero-output-requires c κs = search needs
@@ -38,6 +48,7 @@ output-ok-spec =
     tag-ok-requires
     wide-requires
     is-keep-requires
+    closing-ok-requires
     returns
     zero-output-requires
     returns-2)
