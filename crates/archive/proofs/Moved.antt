@@ -2,7 +2,7 @@
 -- exactly if it has at most 16 sites and edition 1. All of it is said over the run: the moved file is the encoding of the
 -- same run under the other version. Assumes nothing but that bytes are below 256.
 use mathlib.Core.Path.{_≡_, refl, sym, ap, _∙_}
-use mathlib.Core.Bool.{true, cond, _||_}
+use mathlib.Core.Bool.{Bool, true, false, cond, _&&_, _||_}
 use mathlib.Core.List.{List}
 use Prim.Native.Nat.{ℕ, _≤_}
 use native.Mathlib.Omega.{arith}
@@ -10,7 +10,7 @@ use borrow.Author.Tests.{eq-eqb, eqb-true, le-leb, leb-true, le-ltb, ltb-false}
 use lib.Dec.{eqb, ltb, leb}
 use lib.ListN.{length}
 use Rattle.base.specs.Sizes.{firstSites}
-use Rattle.base.specs.Bools.{both, first-of, second-of}
+use Rattle.base.specs.Bools.{both, clash, first-of, second-of}
 use Rattle.types.specs.declared.Run.{Run}
 use Rattle.model.specs.Network.{editionOk, trimmedNetwork, networkUnder}
 use Rattle.model.specs.Runs.{storedRefusal, trimmed, under}
@@ -59,11 +59,25 @@ module _ (from to : ℕ) (b : List ℕ) where
 
 -- ---- the moved file
 
--- an edition that is known is known in every version that the run goes into
-goes-edition : (v : ℕ) (r : Run) → editionOk (r .network) ≡ true → goesInto v r ≡ true
+second-has : (a b c : Bool) → (a || b && c) ≡ true → (a || b && true) ≡ true
+second-has true b c h = refl
+second-has false true c h = refl
+second-has false false c h = h
+
+-- an edition that is known is known in every version that the run goes into: version 1 takes edition 1 alone, version 2 all
+goes-edition : (v : ℕ) (r : Run) → (eqb v 1 || eqb v 2) ≡ true → editionOk (r .network) ≡ true → goesInto v r ≡ true
     → editionOk (networkUnder v (r .network)) ≡ true
 unfolding networkUnder
-goes-edition v r h goes = h
+goes-edition v r known h goes = go (eqb v 1) (eqb v 2) known goes
+  where
+    E : ℕ
+    E = r .network .edition
+
+    go : (a b : Bool) → (a || b) ≡ true → cond a (leb (r .network .sites) firstSites && eqb E 1) true ≡ true
+        → (eqb E 1 || eqb E 2 && b) ≡ true
+    go true b k g = rw (both (leb (r .network .sites) firstSites) (eqb E 1) g .1) refl
+    go false true k g = second-has (eqb E 1) (eqb E 2) (eqb (r .network .version) 2) h
+    go false false k g = absurd (clash (sym k))
 
 module _ (from to : ℕ) (known : (eqb to 1 || eqb to 2) ≡ true) (b : List ℕ) (w : Bytes b) (m : Moves from to b) where
   was-stored : storedRefusal (runOf b) ≡ 0
@@ -73,7 +87,7 @@ module _ (from to : ℕ) (known : (eqb to 1 || eqb to 2) ≡ true) (b : List ℕ
   unfolding networkUnder
   moved-stored =
       let z = stored-passes (runOf b) was-stored in
-      under-stored to (runOf b) was-stored known (goes-edition to (runOf b) (z .edition) (m .goes))
+      under-stored to (runOf b) was-stored known (goes-edition to (runOf b) known (z .edition) (m .goes))
       (goes-few to (runOf b) (z .sizes) (m .goes))
 
   fits : Fits (runUnder to b)

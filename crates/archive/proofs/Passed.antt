@@ -1,7 +1,7 @@
 -- What a run that passes the tests of the body, and one that passes the writer's, are known by. Assumes nothing.
 use mathlib.Core.Path.{_≡_}
 use mathlib.Core.Logic.{_⊎_, ⊎-elim, inl, inr}
-use mathlib.Core.Bool.{true, not}
+use mathlib.Core.Bool.{true, not, and-false, or-false}
 use mathlib.Core.List.{List}
 use Prim.Native.Nat.{ℕ, _*_, _^_, _≤_, _<_}
 use native.Mathlib.Nat.{mul-le-mul, lt-of-lt-of-le}
@@ -45,6 +45,12 @@ module _ (n : Network) (first : n .version ≡ 1) (h : sizesOk n ≡ true) where
       let c = both _ _ (b .0) in
       let d = both (leb 1 (n .sites)) (leb (n .sites) (sitesIn (n .version))) (c .0) in
       leb-true (n .sites) firstSites (rw (eq-eqb (n .version) 1 first) at (d .1))
+
+-- "and is edition 1"
+pub first-edition : (n : Network) → n .version ≡ 1 → editionOk n ≡ true → n .edition ≡ 1
+first-edition n first h =
+    let e = rw (ne-eqb (n .version) 2 (λ q. omega arith), and-false (eqb (n .edition) 2), or-false (eqb (n .edition) 1)) at h in
+    eqb-true (n .edition) 1 e
 
 -- so that its channels fit their bytes
 pub channels-narrow : (n : Network) → sizesOk n ≡ true → channelsOk n ≡ true

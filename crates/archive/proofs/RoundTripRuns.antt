@@ -31,7 +31,7 @@ use Rattle.archive.proofs.Holds.{Holds, byte-at, holds-own, holds-left,
 use Rattle.archive.proofs.Values.{word-read, quad-read, channel-read, send-read, word-fits, quad-fits}
 use Rattle.archive.proofs.Values.{channel-fits, set-fits}
 use Rattle.archive.proofs.Parts.{Held, held-at, length-encode, most-bytes}
-use Rattle.archive.proofs.Passed.{Stored, stored-passes, stored-read, first-few, set-narrow}
+use Rattle.archive.proofs.Passed.{Stored, stored-passes, stored-read, first-edition, first-few, set-narrow}
 use Rattle.archive.proofs.RoundTripBytes.{write-read}
 
 -- ---- reading what was written
@@ -63,12 +63,12 @@ module _ (l : List ℕ) (r : Run) (held : Held l r) (z : Stored r) (h : Fits r) 
   version = byte-at l 2 v (holds-right l 0 2 (wordBytes (lengthOf r)) (v ∷ []) refl start)
 
   edition : editionOf v (at l editionPlace) ≡ r .network .edition
-  edition = go (eqb v 1) (held .start)
+  edition = go (eqb v 1) refl (held .start)
     where
-      go : (t : Bool) → Holds l 0 (front ++ cond t [] (r .network .edition ∷ []))
+      go : (t : Bool) → eqb v 1 ≡ t → Holds l 0 (front ++ cond t [] (r .network .edition ∷ []))
           → cond t 1 (at l editionPlace) ≡ r .network .edition
-      go true k = sym (eqb-true (r .network .edition) 1 (z .edition))
-      go false k = byte-at l 3 (r .network .edition) (holds-right l 0 3 front (r .network .edition ∷ []) refl k)
+      go true e k = sym (first-edition (r .network) (eqb-true v 1 e) (z .edition))
+      go false e k = byte-at l 3 (r .network .edition) (holds-right l 0 3 front (r .network .edition ∷ []) refl k)
 
   abbrev sizes : List ℕ
   sizes = S ∷ r .network .tries ∷ r .network .depth ∷ []

@@ -9,11 +9,11 @@ use Rattle.base.specs.Sizes.{portCount, queueRoom}
 use Rattle.base.specs.Bools.{implies}
 use Rattle.base.specs.All.{all}
 use Rattle.types.specs.declared.Network.{Network}
-use Rattle.model.specs.Network.{sitesIn, sizesOk, joinsThen, joined, choice, choices, differs}
+use Rattle.model.specs.Network.{editionIn, sitesIn, sizesOk, joinsThen, joined, choice, choices, differs}
 
 -- 2 or 17 of a version and an edition, or 0
 abbrev pub kindIn : ℕ → ℕ → ℕ
-kindIn version edition = cond (eqb version 1 || eqb version 2) (cond (eqb edition 1 || eqb edition 2 && eqb version 2) 0 17) 2
+kindIn version edition = cond (eqb version 1 || eqb version 2) (cond (editionIn version edition) 0 17) 2
 
 -- sizesOk of the version, S, T and D
 abbrev pub sizesIn : ℕ → ℕ → ℕ → ℕ → Bool

@@ -1,4 +1,4 @@
--- Computed examples of the moves (document 02, L5), typed by hand: run R and two sites over and back; every refusal of
+-- Computed examples of the moves (document 02, L5; L6 for edition 2), typed by hand: run R and two sites over and back; every refusal of
 -- both, and their order; which runs go into a version. Assumes nothing.
 use mathlib.Core.Path.{_≡_, refl}
 use mathlib.Core.Bool.{Bool, true, false}
@@ -90,8 +90,8 @@ pub back-2 : back-one 1 36 ∷ back-two 1 36 2 1 ∷ back-one 2 1 ∷ back-one 2
 unfolding moveRefusal under networkUnder readRefusal headThen bodyRefusal runOf networkOf over all
 back-2 = refl
 
--- editions 0, 2 and 255, 17, before S 0; then as over
-pub back-17-8 : back-one 3 0 ∷ back-one 3 2 ∷ back-one 3 255 ∷ back-two 3 2 4 0 ∷ back-one 4 0 ∷ back-two 4 0 10 0 ∷ back-one 10 0
+-- editions 0, 3 and 255, 17, before S 0; then as over
+pub back-17-8 : back-one 3 0 ∷ back-one 3 3 ∷ back-one 3 255 ∷ back-two 3 3 4 0 ∷ back-one 4 0 ∷ back-two 4 0 10 0 ∷ back-one 10 0
     ∷ back-two 10 0 13 0 ∷ back-one 13 0 ∷ back-two 13 0 15 4 ∷ back-two 14 0 15 4 ∷ back-one 14 0 ∷ back-two 14 0 22 16
     ∷ back-one 22 16 ∷ back-two 22 16 34 0 ∷ back-one 34 0 ∷ []
     ≡ 17 ∷ 17 ∷ 17 ∷ 17 ∷ 3 ∷ 3 ∷ 4 ∷ 4 ∷ 5 ∷ 5 ∷ 6 ∷ 6 ∷ 6 ∷ 7 ∷ 7 ∷ 8 ∷ []
@@ -111,6 +111,11 @@ goes-back = refl
 
 pub goes-over : goes 2 1 1 ∷ goes 2 17 1 ∷ goes 2 64 1 ∷ goes 2 16 2 ∷ [] ≡ true ∷ true ∷ true ∷ true ∷ []
 goes-over = refl
+
+-- run R in edition 2 is 15, in no room and in enough; S 0 and the empty set come before it
+pub back-2-15 : back-one 3 2 ∷ backRefusal (set wideR 3 2) 99 ∷ back-two 3 2 4 0 ∷ back-two 3 2 34 0 ∷ [] ≡ 15 ∷ 15 ∷ 3 ∷ 8 ∷ []
+unfolding moveRefusal under networkUnder readRefusal headThen bodyRefusal runOf networkOf over all
+back-2-15 = refl
 
 -- a file that passes the reader's tests and does not go is 15, whatever the room: 15 before 14
 pub back-15 : (b : List ℕ) (room : ℕ) → fileRefusal 2 b ≡ 0 → goesInto 1 (runOf b) ≡ false → backRefusal b room ≡ 15

@@ -48,9 +48,12 @@ listOf n s t = choices (routeOf n s t)
 abbrev pub versionOk : Network → Bool
 versionOk n = eqb (n .version) 1 || eqb (n .version) 2
 
--- L4: "17, an edition unknown or not 1 in version 1"; L6: "17 accepts edition 2"
+-- L4: "17, an edition unknown or not 1 in version 1"; L6: "17 accepts edition 2": which editions a version has
+abbrev pub editionIn : ℕ → ℕ → Bool
+editionIn version edition = eqb edition 1 || eqb edition 2 && eqb version 2
+
 abbrev pub editionOk : Network → Bool
-editionOk n = eqb (n .edition) 1 || eqb (n .edition) 2 && eqb (n .version) 2
+editionOk n = editionIn (n .version) (n .edition)
 
 -- L6: "Edition 2 follows the report for channels 1 to 4": whether an output holds its channel after delivery
 abbrev pub holds : ℕ → Bool

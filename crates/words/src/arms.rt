@@ -55,7 +55,13 @@ pub(crate) fn local_in_place(depth: usize, words: &mut [u64], s: usize) -> Ran
 }
 
 // Codes 6 to 9: net-output j + 1; its channel is at hand.
-pub(crate) fn channel_in_place(edition: u8, words: &mut [u64], s: usize, j: usize, channel: u16) -> Ran
+pub(crate) fn channel_in_place(
+    edition: u8,
+    words: &mut [u64],
+    s: usize,
+    j: usize,
+    channel: u16,
+) -> Ran
     requires { ⌜ (s < sitesMost) × (j < portCount) × (length (now words) ≡ wordCount) × (isChannel channel ≡ true → channel < endCount) ⌝ }
     ensures { λ r. ⌜
         spec.DidPass (now (words .entry)) (now (words .exit)) s r j channel

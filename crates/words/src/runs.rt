@@ -38,7 +38,13 @@ pub(crate) fn run_in_place(
     match code {
         0..=4 => input_in_place(channels, routes, sites, tries, words, s, code),
         5 => local_in_place(depth, words, s),
-        6..=9 => channel_in_place(edition, words, s, code - 6, channels[base::PORTS * s + (code - 6)]),
+        6..=9 => channel_in_place(
+            edition,
+            words,
+            s,
+            code - 6,
+            channels[base::PORTS * s + (code - 6)],
+        ),
         10 => queue_in_place(words, s),
         11 => operator_in_place(depth, words, s),
         12 => timeout_in_place(words, s),

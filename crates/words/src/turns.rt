@@ -40,7 +40,13 @@ pub(crate) fn local_turn(depth: usize, words: &[u64], s: usize) -> LocalTurn
 }
 
 // Output j + 1, and the input at the end of its channel, this one.
-pub(crate) fn channel_turn(edition: u8, words: &[u64], s: usize, j: usize, channel: u16) -> ChannelTurn
+pub(crate) fn channel_turn(
+    edition: u8,
+    words: &[u64],
+    s: usize,
+    j: usize,
+    channel: u16,
+) -> ChannelTurn
     requires { ⌜ (s < sitesMost) × (j < portCount) × (length (now words) ≡ wordCount) × (channel < endCount) ⌝ }
     ensures { λ r. ⌜
         r ≡ ofChannelTurn (outAt (siteIn (now (words .entry)) s) (suc j)) (farEnd (sitesOf (now (words .entry))) channel)
