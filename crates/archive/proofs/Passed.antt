@@ -49,8 +49,8 @@ module _ (n : Network) (first : n .version ≡ 1) (h : sizesOk n ≡ true) where
 -- "and is edition 1"
 pub first-edition : (n : Network) → n .version ≡ 1 → editionOk n ≡ true → n .edition ≡ 1
 first-edition n first h =
-    let e = rw (ne-eqb (n .version) 2 (λ q. omega arith), and-false (eqb (n .edition) 2), or-false (eqb (n .edition) 1)) at h in
-    eqb-true (n .edition) 1 e
+    let E = n .edition in
+    eqb-true E 1 (rw (ne-eqb (n .version) 2 (λ q. omega arith), and-false (eqb E 2), or-false (eqb E 1)) at h)
 
 -- so that its channels fit their bytes
 pub channels-narrow : (n : Network) → sizesOk n ≡ true → channelsOk n ≡ true

@@ -1,5 +1,5 @@
--- Computed examples of the moves (document 02, L5; L6 for edition 2), typed by hand: run R and two sites over and back; every refusal of
--- both, and their order; which runs go into a version. Assumes nothing.
+-- Computed examples of the moves (document 02, L5; L6 for edition 2), typed by hand: run R and two sites over and back;
+-- every refusal of both, and their order; which runs go into a version. Assumes nothing.
 use mathlib.Core.Path.{_≡_, refl}
 use mathlib.Core.Bool.{Bool, true, false}
 use mathlib.Core.List.{List, [], _∷_, _++_, map}

@@ -6,6 +6,7 @@ use Rattle.machine.proofs.heard.is_heard.Statement.{statement}
 use Rattle.machine.proofs.heard.is_heard.Tie as tie
 use Rattle.machine.proofs.heard.is_heard.Reads as reads
 use Rattle.machine.proofs.heard.is_heard.Lts as lts
+use Rattle.machine.proofs.heard.is_taken.Reads as is-taken-reads
 use Rattle.rules.proofs.is_listening.Reads as is-listening-reads
 
 add-output : tie.Need-add-output
@@ -26,12 +27,17 @@ array-copy-out-input c = search needs
 is-listening-requires : tie.Need-is-listening-requires
 is-listening-requires c κs = search needs
 
+is-taken-requires : tie.Need-is-taken-requires
+is-taken-requires c κs = search needs
+
 array-read-result : tie.Need-array-read-result
 array-read-result c = search needs
 
 returns : tie.Need-returns
 unfolding hears
-returns c = rw (c .before .is-listening .ensures, ← add-one (c .before .before .before .before .args .j)) refl
+returns c =
+    let j = c .before .before .before .before .args .j in
+    rw (c .is-taken .ensures, c .before .is-listening .ensures, ← add-one j) refl
 
 pub is-heard-spec : {M : Type 1} → statement M
 is-heard-spec =
@@ -43,5 +49,6 @@ is-heard-spec =
     mul-input
     array-copy-out-input
     is-listening-requires
+    is-taken-requires
     array-read-result
     returns)
