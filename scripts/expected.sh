@@ -23,8 +23,9 @@ list() {
     printf '%s\n%s' .bin ./01-run-r.bin
 }
 
-# The stored cases of `singles` and what comes of them, of seed 193: so many of the first form, so many of the second.
-stored='300 120'
+# The stored cases of `singles` and what comes of them, of seed 193: so many of the first form, so many of the second in
+# edition 1, and behind them so many in edition 2.
+stored='300 120 120'
 cases() {
     "$programs/cases" 193 $stored "$1/stdin" "$1/stdout" > /dev/null
 }
@@ -86,4 +87,5 @@ for file in "$root"/corpus/typed/*.out; do
 done
 
 [ "$bad" = 0 ] || exit 1
-echo "expected: $(tail -n 1 "$outputs"), $typed typed by hand; the $((${stored% *} + ${stored#* })) stored cases of singles"
+sum=$(echo "$stored" | tr ' ' '+')
+echo "expected: $(tail -n 1 "$outputs"), $typed typed by hand; the $(($sum)) stored cases of singles"

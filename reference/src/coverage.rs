@@ -1,17 +1,36 @@
-//! Counters of what archives or cases reach, apart for each version, and the lines that show them.
+//! Counters of what archives or cases reach, apart for each version and edition, and the lines that show them.
 
+use crate::format::{Format, VERSION_AT};
+use crate::network::{Network, EDITION_2};
 use crate::refusal::NUMBERS;
 use crate::watch::{Tally, Watch, RULES};
 
-/// The columns: version 1, version 2, and neither (another number, or no version byte).
-pub const COLUMNS: [&str; 3] = ["version 1", "version 2", "neither"];
+/// The columns: version 1, version 2 in edition 1 or one that there is not, version 2 in edition 2, and neither (another
+/// version, or no version byte).
+pub const COLUMNS: [&str; 4] = ["version 1", "version 2", "edition 2", "neither"];
 
-/// The column of a version.
-pub fn column(version: Option<u8>) -> usize {
-    match version {
-        Some(1) => 0,
-        Some(2) => 1,
-        _ => 2,
+/// The version and the edition of an archive or of a network, as far as it has them.
+pub type Kind = (Option<u8>, Option<u8>);
+
+/// The kind of these bytes.
+pub fn kind_of(bytes: &[u8]) -> Kind {
+    let version = bytes.get(VERSION_AT).copied();
+    let edition = version.and_then(|version| bytes.get(Format::of(version).edition?).copied());
+    (version, edition)
+}
+
+/// The kind of a network.
+pub fn kind(network: &Network) -> Kind {
+    (Some(network.version), Some(network.edition))
+}
+
+/// The column of a kind.
+pub fn column(kind: Kind) -> usize {
+    match kind {
+        (Some(1), _) => 0,
+        (Some(2), Some(EDITION_2)) => 2,
+        (Some(2), _) => 1,
+        _ => 3,
     }
 }
 
@@ -23,14 +42,14 @@ pub struct Coverage {
 }
 
 impl Coverage {
-    /// Where the rules of this version are counted.
-    pub fn rules(&mut self, version: u8) -> &mut impl Watch {
-        &mut self.rules[column(Some(version))]
+    /// Where the rules of this kind are counted.
+    pub fn rules(&mut self, kind: Kind) -> &mut impl Watch {
+        &mut self.rules[column(kind)]
     }
 
     /// Counts a refusal by its number.
-    pub fn refused(&mut self, version: Option<u8>, number: u8, times: u64) {
-        self.refusals[column(version)][number as usize] += times;
+    pub fn refused(&mut self, kind: Kind, number: u8, times: u64) {
+        self.refusals[column(kind)][number as usize] += times;
     }
 
     /// How often this refusal was met, column by column.

@@ -1,4 +1,4 @@
-//! A second model of document 01, edition 1, in versions 1 and 2, written from the document's words.
+//! A second model of document 01 in versions 1 and 2, and of editions 1 and 2, written from the documents' words.
 //!
 //! It is the partner of every comparison: it makes the expected outputs and the single event cases, and it
 //! is the baseline of speed figures. One `State` holds every place in flat arrays and is changed in place.

@@ -6,6 +6,8 @@ pub mod corpus;
 pub mod damage;
 pub mod edges;
 pub mod graphs;
+pub mod held;
+pub mod marks;
 pub mod rng;
 pub mod routes;
 pub mod runs;

@@ -8,8 +8,10 @@ use crate::refusal::Refusal;
 pub const SITES: usize = 64;
 /// Sites that a network of version 1 can have at most.
 pub const SITES_OF_1: usize = 16;
-/// The only edition that there is.
+/// The edition of version 1: an output is empty as soon as its terminator is delivered.
 pub const EDITION: u8 = 1;
+/// The edition, of version 2 alone, in which outputs 1 to 4 are closing after that.
+pub const EDITION_2: u8 = 2;
 /// Net-inputs, and net-outputs, of a site; port 0 is local.
 pub const PORTS: usize = 5;
 /// Places in each queue at most.
@@ -41,6 +43,8 @@ pub struct Wiring {
     pub sites: usize,
     pub tries: u8,
     pub depth: usize,
+    /// Edition 2: an output 1 to 4 that has delivered its terminator is closing.
+    pub closes: bool,
     /// For each output place, the input place that its channel feeds, or `NO_INPUT`.
     pub far: [u16; PORTS * SITES],
     /// At S * from + to: the route list.
@@ -94,9 +98,10 @@ impl Network {
         matches!(self.version, 1 | 2).then_some(()).ok_or(Refusal::Version)
     }
 
-    /// Refusal 17: an edition unknown, or not 1 in version 1.
+    /// Refusal 17, for a known version: an edition unknown, or not 1 in version 1.
     pub fn check_edition(&self) -> Result<(), Refusal> {
-        (self.edition == EDITION).then_some(()).ok_or(Refusal::Edition)
+        let known = self.edition == EDITION || self.edition == EDITION_2 && self.version != 1;
+        known.then_some(()).ok_or(Refusal::Edition)
     }
 
     /// Refusal 3, for a known version: S 1 to 16 or to 64, T 1 to 255, D 1 to 8.
@@ -172,7 +177,7 @@ impl Network {
             }
         }
         lists[..sites * sites].copy_from_slice(&self.routes[..sites * sites]);
-        let (tries, depth) = (self.tries, self.depth as usize);
-        Wiring { sites, tries, depth, far, lists }
+        let (tries, depth, closes) = (self.tries, self.depth as usize, self.edition == EDITION_2);
+        Wiring { sites, tries, depth, closes, far, lists }
     }
 }

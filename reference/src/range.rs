@@ -1,4 +1,5 @@
-//! In range: which states the single events take (refusal 13). Clause by clause as document 01 lists them.
+//! In range: which states the single events take (refusal 13). Clause by clause as document 01 lists them, and the mark
+//! of edition 2.
 
 use crate::network::{Wiring, DEPTH, PORTS, SITES};
 use crate::sets::{is_target_set, Set};
@@ -6,7 +7,8 @@ use crate::state::{Connection, InEntry, Input, OutEntry, Output, Phase, Queue, S
 
 /// Whether the state is in range for the network of this wiring.
 pub fn in_range(wiring: &Wiring, state: &State) -> bool {
-    let bounds = Bounds { sites: wiring.sites, tries: wiring.tries, counter: state.counter };
+    let &Wiring { sites, tries, closes, .. } = wiring;
+    let bounds = Bounds { sites, tries, closes, counter: state.counter };
     (0..SITES).all(|site| {
         if site >= wiring.sites {
             return state.is_zero_site(site);
@@ -22,6 +24,7 @@ pub fn in_range(wiring: &Wiring, state: &State) -> bool {
 struct Bounds {
     sites: usize,
     tries: u8,
+    closes: bool,
     counter: u8,
 }
 
@@ -59,6 +62,13 @@ impl Bounds {
         self.carries(output.packet, output.set)
             && (output.input as usize) < PORTS
             && (port == 0 || output.terminator != Terminator::KeepLocal)
+            && (!output.closing || self.may_close(port, output))
+    }
+
+    /// The mark of an output in use: in edition 2, at outputs 1 to 4, head taken, without a terminator; that no input is
+    /// connected to it says `takes_from`.
+    fn may_close(&self, port: usize, output: &Output) -> bool {
+        self.closes && port != 0 && output.head && output.terminator == Terminator::None
     }
 
     fn out_entry(&self, place: usize, entry: &OutEntry) -> bool {
@@ -70,9 +80,10 @@ impl Bounds {
     }
 }
 
-/// A connected output: in use, fed by that input and without a terminator.
+/// A connected output: in use, fed by that input, without a terminator and not closing.
 fn takes_from(output: &Output, port: usize) -> bool {
-    output.used && output.input as usize == port && output.terminator == Terminator::None
+    let Output { used, input, terminator, closing, .. } = *output;
+    used && input as usize == port && terminator == Terminator::None && !closing
 }
 
 /// The count at most D, every entry good, the room beyond the count zero.

@@ -1,4 +1,4 @@
-//! The state: every net-input, net-output and queue in flat arrays, and the packet counter.
+//! The state: every net-input, net-output and queue in flat arrays, and the packet counter; one state for both editions.
 //!
 //! A state here can hold anything that its types allow, in range or not. The zero value of every type is
 //! the empty place.
@@ -87,6 +87,8 @@ pub struct Output {
     /// Whether its head has been taken.
     pub head: bool,
     pub terminator: Terminator,
+    /// Edition 2: its terminator is delivered, and it is held until its channel's input is free.
+    pub closing: bool,
 }
 
 #[derive(Clone, Copy, PartialEq, Eq, Debug, Default)]

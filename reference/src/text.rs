@@ -157,7 +157,8 @@ fn site_numbers(state: &State, site: usize) -> Vec<u64> {
         numbers.push(i.tries as u64);
     }
     for o in state.outputs_of(site) {
-        numbers.extend([o.used as u64, o.packet as u64, o.set, o.input as u64, o.head as u64]);
+        let used = o.used as u64 + 2 * o.closing as u64;
+        numbers.extend([used, o.packet as u64, o.set, o.input as u64, o.head as u64]);
         numbers.push(o.terminator as u64);
     }
     numbers.push(state.out_queues[site].count);
@@ -276,8 +277,9 @@ impl Reader<'_> {
     }
 
     fn output(&mut self) -> Output {
-        let (used, packet, set) = (self.mark(), self.byte(), self.number());
+        let (marks, packet, set) = (self.number(), self.byte(), self.number());
+        assert!(marks < 4, "in use, and 2 more for closing");
         let (input, head, terminator) = (self.byte(), self.mark(), self.terminator());
-        Output { used, packet, set, input, head, terminator }
+        Output { used: marks % 2 == 1, packet, set, input, head, terminator, closing: marks > 1 }
     }
 }

@@ -125,9 +125,15 @@ impl Seen<'_> {
     }
 
     fn remote_output(&self, port: usize) -> String {
-        let far = self.wiring.far[PORTS * self.site + port] as usize;
-        let (site, input) = (far / PORTS, far % PORTS);
-        format!("{} goes to site {site}, net-input {input}, {}", self.carried(port), self.turn(far))
+        let place = PORTS * self.site + port;
+        let far = self.wiring.far[place] as usize;
+        let end = format!("to site {}, net-input {}", far / PORTS, far % PORTS);
+        let (old, new) = (&self.before.outputs[place], &self.after.outputs[place]);
+        if old.closing {
+            return format!("packet {} gives up its channel {end}", old.packet);
+        }
+        let closing = if new.closing { ", closing" } else { "" };
+        format!("{} goes {end}, {}{closing}", self.carried(port), self.turn(far))
     }
 
     fn out_queue(&self) -> String {

@@ -1,6 +1,7 @@
-//! What happened: every rule of document 01 by name, each way in which it acts or leaves things alone.
+//! What happened: every rule of the documents by name, each way in which it acts or leaves things alone.
 //!
-//! The step tells a `Watch` which rule it took. The watch `()` costs nothing; a `Tally` counts.
+//! The step tells a `Watch` which rule it took. The watch `()` costs nothing; a `Tally` counts. A new rule is added at
+//! the end: the corpus's searches are seeded by a rule's place.
 
 /// Sees each rule as it is taken.
 pub trait Watch {
@@ -111,7 +112,15 @@ rules! {
     TimeoutNoOutput "timeout: ignored, output 0 not in use, head not taken or with terminator"
     TimeoutPhase "timeout: ignored, the feeding input's state"
     TimeoutConnection "timeout: ignored, the feeding input's connection"
+    Closing "net-output: terminator delivered, closing"
+    ClosingHeld "net-output: closing, input not free"
+    ClosingEmptied "net-output: closing, input free, emptied"
+    ClosingNoChannel "net-output: closing, no channel"
 }
+
+/// The rules that edition 2 alone has.
+pub const OF_EDITION_2: [Rule; 4] =
+    [Rule::Closing, Rule::ClosingHeld, Rule::ClosingEmptied, Rule::ClosingNoChannel];
 
 /// Counts every rule.
 #[derive(Clone)]

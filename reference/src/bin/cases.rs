@@ -1,37 +1,46 @@
-//! `cases SEED COUNT WIDE INPUT EXPECTED`: writes single event cases and their outcomes, COUNT of the first form and
-//! then WIDE of the second, of which the first are those of `making::edges`.
+//! `cases SEED COUNT WIDE HELD INPUT EXPECTED`: writes single event cases and their outcomes, COUNT of the first form, then
+//! WIDE of the second in edition 1, of which the first are those of `making::edges`, and behind them HELD of the second in
+//! edition 2, of which the first are those of `making::held`.
 //!
-//! It prints how many cases there are of each kind, and the refusals and rules that they reach, for each version.
+//! It prints how many cases there are of each kind, and the refusals and rules that they reach, for each version and
+//! edition.
 
-use reference::coverage::{line, Coverage};
+use reference::coverage::{kind, line, Coverage};
 use reference::making::cases::{Maker, KINDS};
-use reference::making::edges;
+use reference::making::{edges, held};
 use reference::text::{read_cases, Case, Form, Writer};
 use std::process::exit;
 
-/// So many cases of the form, and how many there are of each kind.
-fn made(seed: u64, form: Form, count: usize) -> (Vec<Case>, [u64; KINDS.len()]) {
-    let mut maker = Maker::new(seed, form);
-    let mut kinds = [0; KINDS.len()];
+/// So many cases, the first of them those that are given, how many of these there are, and how many of each other kind.
+fn made(mut maker: Maker, given: Vec<Case>, count: usize) -> (Vec<Case>, Vec<usize>) {
+    let mut cases = given;
+    cases.truncate(count);
+    let mut kinds = vec![cases.len()];
+    kinds.resize(1 + KINDS.len(), 0);
     let mut case = || {
         let kind = maker.any_kind();
-        kinds[kind] += 1;
+        kinds[1 + kind] += 1;
         maker.any_case(kind)
     };
-    let cases = (0..count).map(|_| case()).collect();
+    while cases.len() < count {
+        cases.push(case());
+    }
     (cases, kinds)
 }
 
 fn main() -> std::io::Result<()> {
     let args: Vec<String> = std::env::args().skip(1).collect();
-    let [seed, count, wide, input, expected] = &args[..] else { usage() };
-    let (Ok(seed), Ok(count), Ok(wide)) = (seed.parse(), count.parse(), wide.parse()) else { usage() };
-    let (mut cases, first) = made(seed, Form::First, count);
-    let edges: Vec<Case> = edges::cases().into_iter().take(wide).collect();
-    let limits = edges.len();
-    let (others, second) = made(seed, Form::Second, wide - limits);
-    cases.extend(edges);
-    cases.extend(others);
+    let [numbers @ .., input, expected] = &args[..] else { usage() };
+    let numbers: Result<Vec<u64>, _> = numbers.iter().map(|word| word.parse()).collect();
+    let Ok([seed, counts @ ..]) = numbers.as_deref() else { usage() };
+    let [count, wide, held] = *counts else { usage() };
+    let parts = [
+        made(Maker::new(*seed, Form::First), Vec::new(), count as usize),
+        made(Maker::new(*seed, Form::Second), edges::cases(), wide as usize),
+        made(Maker::held(*seed), held::cases(), held as usize),
+    ];
+    let kinds = parts.each_ref().map(|(_, kinds)| kinds.clone());
+    let cases = parts.map(|(cases, _)| cases).concat();
     let mut text = Writer::default();
     text.cases(&cases);
     std::fs::write(input, &text.text)?;
@@ -39,16 +48,16 @@ fn main() -> std::io::Result<()> {
     let mut coverage = Coverage::default();
     let mut outcomes = Writer::default();
     for case in read_cases(&text.text) {
-        let version = case.network.version;
-        let outcome = case.outcome(coverage.rules(version));
-        coverage.refused(Some(version), outcome.told.err().map_or(0, |refusal| refusal.number()), 1);
+        let kind = kind(&case.network);
+        let outcome = case.outcome(coverage.rules(kind));
+        coverage.refused(kind, outcome.told.err().map_or(0, |refusal| refusal.number()), 1);
         outcomes.outcome(&outcome);
     }
     std::fs::write(expected, &outcomes.text)?;
-    println!("{:>12}{:>12}", "first form", "second form");
-    println!("{:>12}{limits:>12}  case: at a limit, one by one", 0);
-    for ((words, _), (first, second)) in KINDS.iter().zip(first.into_iter().zip(second)) {
-        println!("{first:>12}{second:>12}  case: {words}");
+    println!("{:>12}{:>12}{:>12}", "first form", "second form", "edition 2");
+    let words = KINDS.iter().map(|(words, _)| *words);
+    for (at, words) in std::iter::once("one by one, at a limit or for a rule").chain(words).enumerate() {
+        println!("{}  case: {words}", kinds.each_ref().map(|kinds| format!("{:>12}", kinds[at])).concat());
     }
     println!("{}", Coverage::heading());
     line(coverage.refusals(0), "not refused");
@@ -57,6 +66,6 @@ fn main() -> std::io::Result<()> {
 }
 
 fn usage() -> ! {
-    eprintln!("usage: cases SEED COUNT WIDE INPUT EXPECTED");
+    eprintln!("usage: cases SEED COUNT WIDE HELD INPUT EXPECTED");
     exit(2);
 }

@@ -1,14 +1,14 @@
-//! `generate SEED COUNT [FOLDER]`: makes COUNT archives of both versions, a third of them damaged, and prints what they
-//! reach, for each version.
+//! `generate SEED COUNT [FOLDER]`: makes COUNT archives of both versions and editions, a third of them damaged, and prints
+//! what they reach, for each version and edition. One in three of version 2 is followed by itself in the other edition.
 //!
 //! With a folder each archive becomes a file there; their names, sorted, are in the order of making.
 
 use reference::archive::{self, Run};
-use reference::coverage::{column, line, Coverage, COLUMNS};
-use reference::format::VERSION_AT;
-use reference::making::{damage::damaged, rng::Rng, runs::either_run};
+use reference::coverage::{column, kind, kind_of, line, Coverage, COLUMNS};
+use reference::making::rng::Rng;
+use reference::making::{damage::damaged, runs};
 use reference::owing::{self, DEBTS};
-use reference::player::{play, play_run, BOOK};
+use reference::player::{play, play_run, Service, BOOK};
 use reference::refusal::Refusal;
 use std::path::PathBuf;
 use std::process::exit;
@@ -19,27 +19,50 @@ struct Reached {
     coverage: Coverage,
     debts: [[u64; COLUMNS.len()]; DEBTS.len()],
     played: [u64; COLUMNS.len()],
+    /// Runs that are made in the other edition too, and those of them whose books differ.
+    twins: [u64; COLUMNS.len()],
+    differ: [u64; COLUMNS.len()],
+}
+
+/// The services of a valid run.
+fn book(run: &Run) -> Vec<Service> {
+    let wiring = run.network.wiring().expect("a valid network");
+    let mut services = Vec::new();
+    play_run(run, &wiring, (), |service| services.push(service));
+    services
 }
 
 impl Reached {
     fn archive(&mut self, bytes: &[u8]) {
         match archive::read(bytes) {
             Ok(run) => self.run(&run, bytes),
-            Err(refusal) => self.coverage.refused(bytes.get(VERSION_AT).copied(), refusal.number(), 1),
+            Err(refusal) => self.coverage.refused(kind_of(bytes), refusal.number(), 1),
         }
     }
 
     fn run(&mut self, run: &Run, bytes: &[u8]) {
-        let version = run.network.version;
-        let column = column(Some(version));
+        let kind = kind(&run.network);
+        let column = column(kind);
         self.played[column] += 1;
         let wiring = run.network.wiring().expect("read archives have valid networks");
-        let (counts, state) = play_run(run, &wiring, self.coverage.rules(version), |_| ());
+        let (counts, state) = play_run(run, &wiring, self.coverage.rules(kind), |_| ());
         assert_eq!(counts.pairs, counts.serviced + counts.owed, "pairs are serviced or owed");
         let refused = run.sends.len() as u64 - u64::from(counts.accepted);
-        self.coverage.refused(Some(version), Refusal::Full.number(), refused);
+        self.coverage.refused(kind, Refusal::Full.number(), refused);
         owing::each(&state, |kind, _, _| self.debts[kind as usize][column] += 1);
         self.short_room(run, bytes);
+    }
+
+    /// The run in the other edition, of one in three of version 2.
+    fn twin(&mut self, rng: &mut Rng, run: &Run) -> Option<Run> {
+        if run.network.version == 1 || !rng.one_in(3) {
+            return None;
+        }
+        let twin = runs::twin(run);
+        let column = column(kind(&run.network));
+        self.twins[column] += 1;
+        self.differ[column] += u64::from(book(run) != book(&twin));
+        Some(twin)
     }
 
     /// Refusal 14, at one byte too few.
@@ -47,13 +70,15 @@ impl Reached {
         let most = run.sends.iter().map(|s| 4 * s.set.count_ones() as usize).sum::<usize>();
         let mut book = [0; BOOK];
         if most > 0 && play(bytes, &mut book[..most - 1]) == Err(Refusal::Room) {
-            self.coverage.refused(Some(run.network.version), Refusal::Room.number(), 1);
+            self.coverage.refused(kind(&run.network), Refusal::Room.number(), 1);
         }
     }
 
     fn print(&self) {
         println!("{}", Coverage::heading());
         line(self.played, "played");
+        line(self.twins, "played in the other edition too");
+        line(self.differ, "of these with another book there");
         self.coverage.print(&[1, 2, 17, 3, 4, 5, 6, 7, 8, 11, 14]);
         for (kind, words) in DEBTS {
             line(self.debts[kind as usize], &format!("owes at the end: {words}"));
@@ -71,8 +96,17 @@ fn main() {
     let folder = args.get(2).map(PathBuf::from);
     let mut rng = Rng::new(seed);
     let mut reached = Reached::default();
+    let mut twin = None;
     for at in 0..count {
-        let mut bytes = either_run(&mut rng, true).bytes();
+        let run = match twin.take() {
+            Some(run) => run,
+            None => {
+                let run = runs::either_run(&mut rng, true);
+                twin = reached.twin(&mut rng, &run);
+                run
+            }
+        };
+        let mut bytes = run.bytes();
         if rng.one_in(3) {
             bytes = damaged(&mut rng, &bytes);
         }

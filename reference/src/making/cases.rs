@@ -2,13 +2,13 @@
 //!
 //! Of the events that a state allows, those whose rules the cases so far show least are preferred.
 
-use super::{clauses, graphs, rng::Rng, runs, spoil, states};
-use crate::network::{Network, CODES, SITES, SITES_OF_1};
+use super::{clauses, graphs, marks, rng::Rng, runs, spoil, states};
+use crate::network::{Network, CODES, EDITION_2, SITES, SITES_OF_1};
 use crate::single::Event;
 use crate::state::State;
 use crate::step::Machine;
 use crate::text::{Case, Form};
-use crate::watch::{Rule, Tally};
+use crate::watch::{Rule, Tally, OF_EDITION_2};
 
 /// The kinds of case, with the share of each in a hundred.
 pub const KINDS: [(&str, usize); 6] = [
@@ -23,16 +23,28 @@ pub const KINDS: [(&str, usize); 6] = [
 /// States looked at for one case.
 const TURNS: usize = 14;
 
+/// How much oftener than others the rules of edition 2 are shown in its cases.
+const OFTENER: u64 = 5;
+
 pub struct Maker {
     rng: Rng,
     form: Form,
-    /// The rules that the cases so far take, of the second form those in version 2.
+    /// Whether the cases are of edition 2.
+    held: bool,
+    /// The rules that the cases so far take, of the second form those in version 2, of edition 2 those in it.
     pub shown: Tally,
 }
 
 impl Maker {
+    /// Cases of edition 1, in the first form of version 1, in the second of both versions.
     pub fn new(seed: u64, form: Form) -> Maker {
-        Maker { rng: Rng::new(seed), form, shown: Tally::default() }
+        Maker { rng: Rng::new(seed), form, held: false, shown: Tally::default() }
+    }
+
+    /// Cases of edition 2, in the second form, from numbers of their own.
+    pub fn held(seed: u64) -> Maker {
+        let rng = Rng::new(seed ^ u64::from(EDITION_2) << 32);
+        Maker { rng, form: Form::Second, held: true, shown: Tally::default() }
     }
 
     /// Draws a kind of case, its place in `KINDS`, by its share.
@@ -52,7 +64,9 @@ impl Maker {
             let mut case = self.telling_case(kind == 1, if kind < 2 { TURNS } else { 1 });
             let (rng, form) = (&mut self.rng, self.form);
             match kind {
+                2 if self.held && rng.one_in(3) => marks::spoil_edition(rng, &mut case.network),
                 2 => spoil::spoil_network(rng, form, &mut case.network),
+                3 if self.held && rng.one_in(2) => marks::break_mark(rng, &mut case),
                 3 if rng.one_in(3) => clauses::break_clause(rng, &case.network, form.room(), &mut case.state),
                 3 => spoil::spoil_state(rng, form, &case.network, &mut case.state),
                 4 => case.event = spoil::stray_event(rng, form, case.network.sites as usize),
@@ -63,11 +77,20 @@ impl Maker {
                 spoil::junk_beyond(rng, form, &mut case.network);
             }
             if case.is_representable() {
-                if self.form == Form::First || case.network.version == 2 {
+                if self.counts(&case.network) {
                     case.outcome(&mut self.shown);
                 }
                 return case;
             }
+        }
+    }
+
+    /// Whether the rules that a case on this network takes are counted as shown.
+    fn counts(&self, network: &Network) -> bool {
+        match self.form {
+            Form::First => true,
+            Form::Second if self.held => network.version == 2 && network.edition == EDITION_2,
+            Form::Second => network.version == 2,
         }
     }
 
@@ -103,8 +126,8 @@ impl Maker {
         }
     }
 
-    /// A network of up to 64 sites, in version 2 or, where it can, sometimes 1, and a state of it. Most have few sites,
-    /// and of many few hold anything, so that the texts stay small.
+    /// A network of up to 64 sites, in version 2 or, where it can, sometimes 1, or in edition 2, and a state of it. Most
+    /// have few sites, and of many few hold anything, so that the texts stay small.
     fn wide(&mut self, reached: bool) -> (Network, State) {
         let rng = &mut self.rng;
         let sites = match rng.below(24) {
@@ -115,7 +138,9 @@ impl Maker {
         };
         let network = graphs::of_size(rng, sites);
         let mut network = runs::furnished(rng, network);
-        if sites <= SITES_OF_1 && rng.one_in(6) {
+        if self.held {
+            network.edition = EDITION_2;
+        } else if sites <= SITES_OF_1 && rng.one_in(6) {
             network.version = 1;
         }
         if reached {
@@ -123,7 +148,10 @@ impl Maker {
             run.sends.truncate(4);
             return states::end_of(run);
         }
-        let state = states::sparse_state(rng, &network);
+        let mut state = states::sparse_state(rng, &network);
+        if self.held {
+            marks::close_some(rng, &network, &mut state);
+        }
         (network, state)
     }
 
@@ -178,7 +206,9 @@ impl Maker {
     }
 
     fn least(&self, rules: &[Rule]) -> u64 {
-        rules.iter().map(|rule| self.shown.count(*rule)).min().unwrap_or(u64::MAX)
+        let shown =
+            |rule: &Rule| self.shown.count(*rule) / if OF_EDITION_2.contains(rule) { OFTENER } else { 1 };
+        rules.iter().map(shown).min().unwrap_or(u64::MAX)
     }
 }
 

@@ -1,14 +1,15 @@
 //! The corpus: archives by name, made anew from the recipes here. A name says what its file is about; one that begins
-//! with `v2-` is laid out as version 2.
+//! with `v2-` is laid out as version 2 in edition 1, one that begins with `e2-` as version 2 in edition 2.
 
 mod bounds;
 mod faults;
+mod held;
 mod loads;
 mod searched;
 mod wide_bounds;
 mod wide_loads;
 
-pub use searched::UNREACHED;
+pub use searched::{UNREACHED, UNREACHED_IN_EDITION_2};
 
 use crate::archive::{Run, Send};
 use crate::making::{graphs, routes};
@@ -24,6 +25,7 @@ pub fn all() -> Vec<Named> {
     all.extend(searched::all());
     all.extend(wide_bounds::all());
     all.extend(wide_loads::all());
+    all.extend(held::all());
     all.sort();
     all
 }
@@ -31,6 +33,11 @@ pub fn all() -> Vec<Named> {
 /// The run with its network in another version.
 fn in_version(version: u8, run: Run) -> Run {
     Run { network: run.network.in_version(version), ..run }
+}
+
+/// The run with its network in version 2 and this edition.
+fn in_edition(edition: u8, run: Run) -> Run {
+    Run { network: run.network.in_edition(edition), ..run }
 }
 
 /// Run R of document 01.

@@ -1,4 +1,4 @@
-//! Damaged archives: each of the reader's refusals in many ways, on the bytes of a valid run of either version.
+//! Damaged archives: each of the reader's refusals in many ways, on the bytes of a valid run of any version and edition.
 //!
 //! A fault changes bytes only; which refusal comes out with several faults is for the reader to say.
 
@@ -42,7 +42,7 @@ fn fault(refusal: usize, rng: &mut Rng, whole: &[u8], bytes: &mut Vec<u8>) -> bo
         1 => wrong_length(rng, bytes),
         2 => bytes[VERSION_AT] = rng.pick(&[0, 3, 4, 255, 3 - at.version]),
         17 => match at.format.edition {
-            Some(place) => bytes[place] = rng.pick(&[0, 2, 2, 3, 255]),
+            Some(place) => bytes[place] = rng.pick(&[0, 3, 3, 9, 255]),
             None => bytes[VERSION_AT] = 2,
         },
         3 => wrong_limit(rng, &at, bytes),

@@ -16,6 +16,11 @@ impl Network {
         Network { version, ..self }
     }
 
+    /// The same in version 2 and this edition.
+    pub fn in_edition(self, edition: u8) -> Network {
+        Network { version: 2, edition, ..self }
+    }
+
     /// A channel from an output to an input, both 1 to 4.
     pub fn join(&mut self, from: (usize, usize), to: (usize, usize)) {
         self.channels[4 * from.0 + from.1 - 1] = (4 * to.0 + to.1 - 1) as u16;

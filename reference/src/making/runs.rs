@@ -2,7 +2,7 @@
 
 use super::{graphs, rng::Rng, routes};
 use crate::archive::{Run, Send};
-use crate::network::Network;
+use crate::network::{Network, EDITION, EDITION_2};
 use crate::owing::{self, Debt, DEBTS};
 use crate::player::Play;
 use crate::step::Answer;
@@ -13,9 +13,9 @@ pub fn any_network(rng: &mut Rng) -> Network {
     furnished(rng, network)
 }
 
-/// The same in version 2, of up to 64 sites.
+/// The same in version 2, of up to 64 sites, in either edition.
 pub fn wide_network(rng: &mut Rng) -> Network {
-    let network = graphs::any_wide(rng);
+    let network = graphs::any_wide(rng).in_edition(rng.pick(&[EDITION, EDITION_2]));
     furnished(rng, network)
 }
 
@@ -55,19 +55,25 @@ pub fn any_run(rng: &mut Rng, long: bool) -> Run {
     run_on(rng, network, long)
 }
 
-/// The same in version 2.
+/// The same in version 2, in either edition.
 pub fn wide_run(rng: &mut Rng, long: bool) -> Run {
     let network = wide_network(rng);
     run_on(rng, network, long)
 }
 
-/// A valid run of either version.
+/// A valid run of either version and edition.
 pub fn either_run(rng: &mut Rng, long: bool) -> Run {
     if rng.one_in(2) {
         any_run(rng, long)
     } else {
         wide_run(rng, long)
     }
+}
+
+/// The run of version 2 in the other edition.
+pub fn twin(run: &Run) -> Run {
+    let edition = EDITION + EDITION_2 - run.network.edition;
+    Run { network: run.network.clone().in_edition(edition), ..run.clone() }
 }
 
 /// A run on the network.

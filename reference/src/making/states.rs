@@ -89,7 +89,7 @@ impl Filling<'_> {
     fn output(&mut self, terminator: Terminator) -> Output {
         let (packet, set) = (self.packet(), self.set());
         let (input, head) = (self.rng.below(PORTS) as u8, !self.rng.one_in(3));
-        Output { used: true, packet, set, input, head, terminator }
+        Output { used: true, packet, set, input, head, terminator, closing: false }
     }
 
     fn outputs(&mut self, outputs: &mut [Output]) {

@@ -1,4 +1,5 @@
-//! The rules of a net-output, codes 5 to 9: the head first, the terminator at a later step.
+//! The rules of a net-output, codes 5 to 9: the head first, the terminator at a later step. In edition 2 outputs 1 to 4 are
+//! closing after that, and a step later on empties them.
 
 use super::{deliver, take_packet, takes_terminator, Answer, Machine};
 use crate::network::{NO_INPUT, PORTS};
@@ -39,13 +40,13 @@ impl<W: Watch> Machine<'_, W> {
     /// Outputs 1 to 4, which end at an input, of any site, if they have a channel.
     pub(super) fn remote_output(&mut self, site: usize, port: usize) -> Answer {
         let place = PORTS * site + port;
-        let Output { used, head, packet, set, terminator, .. } = self.state.outputs[place];
+        let Output { used, head, packet, set, terminator, closing, .. } = self.state.outputs[place];
         if !used {
             return self.nothing(Rule::OutputEmpty);
         }
         let far = self.wiring.far[place];
         if far == NO_INPUT {
-            return self.nothing(Rule::OutputNoChannel);
+            return self.nothing(if closing { Rule::ClosingNoChannel } else { Rule::OutputNoChannel });
         }
         let input = &mut self.state.inputs[far as usize];
         if !head {
@@ -61,19 +62,40 @@ impl<W: Watch> Machine<'_, W> {
             return self.changed(if own { Rule::HeadPassedSelf } else { Rule::HeadPassed });
         }
         if terminator == Terminator::None {
-            return self.nothing(Rule::TerminatorNone);
+            return if closing { self.closing(place, far) } else { self.nothing(Rule::TerminatorNone) };
         }
         if !takes_terminator(input) {
             return self.nothing(Rule::TerminatorNotReady);
         }
         let open = input.phase == Phase::Open;
         deliver(input, terminator);
-        self.state.outputs[place] = Output::default();
+        self.delivered(place);
         self.changed(match (terminator, open) {
             (Terminator::End, true) => Rule::EndToOpen,
             (Terminator::End, false) => Rule::EndToAbort,
             (_, true) => Rule::AbortToOpen,
             (_, false) => Rule::AbortToAbort,
         })
+    }
+
+    /// The terminator of this output, 1 to 4, is delivered: edition 1 empties it, in edition 2 it is closing, holds no
+    /// terminator and keeps all else.
+    fn delivered(&mut self, place: usize) {
+        let output = &mut self.state.outputs[place];
+        if self.wiring.closes {
+            (output.terminator, output.closing) = (Terminator::None, true);
+            self.watch.saw(Rule::Closing);
+        } else {
+            *output = Output::default();
+        }
+    }
+
+    /// Closing: emptied if the input at the end of its channel is free.
+    fn closing(&mut self, place: usize, far: u16) -> Answer {
+        if self.state.inputs[far as usize].phase != Phase::Free {
+            return self.nothing(Rule::ClosingHeld);
+        }
+        self.state.outputs[place] = Output::default();
+        self.changed(Rule::ClosingEmptied)
     }
 }

@@ -2,8 +2,9 @@
 
 use reference::archive::{read, write, Run, LONGEST};
 use reference::draws::{event, Draws};
+use reference::making::corpus::{UNREACHED, UNREACHED_IN_EDITION_2};
 use reference::making::runs::{any_network, any_run, either_run, wide_network, wide_run};
-use reference::making::{cases::Maker, corpus::UNREACHED, rng::Rng, states::any_state};
+use reference::making::{cases::Maker, marks::close_some, rng::Rng, states::any_state};
 use reference::network::{Network, CODES, SITES, SITES_OF_1};
 use reference::owing;
 use reference::player::{play_run, Play, Service};
@@ -14,7 +15,7 @@ use reference::single::{run, send};
 use reference::state::State;
 use reference::step::Answer;
 use reference::text::Form;
-use reference::watch::{Tally, RULES};
+use reference::watch::{Tally, OF_EDITION_2, RULES};
 use std::collections::HashMap;
 
 type Pairs = HashMap<(u8, usize), u32>;
@@ -64,19 +65,27 @@ fn every_step_of_a_run_keeps_the_count() {
 #[test]
 fn from_any_state_in_range_the_answer_is_0_exactly_if_nothing_changed() {
     let mut rng = Rng::new(33);
+    let mut closed = 0;
     for turn in 0..900 {
-        let network = if turn % 3 == 0 { wide_network(&mut rng) } else { any_network(&mut rng) };
+        let network = if turn % 2 == 0 { wide_network(&mut rng) } else { any_network(&mut rng) };
         let wiring = network.wiring().expect("valid");
-        let state = any_state(&mut rng, &network);
+        let mut state = any_state(&mut rng, &network);
+        if wiring.closes {
+            close_some(&mut rng, &network, &mut state);
+        }
         assert!(in_range(&wiring, &state), "made in range");
         for code in 0..CODES as u64 {
             let mut next = state.clone();
             let site = rng.below(wiring.sites) as u64;
             let answer = run(&network, &mut next, site, code).expect("not refused");
             assert_eq!(answer == Answer::Nothing, next == state, "site {site} code {code}");
+            if wiring.closes && state.outputs != next.outputs {
+                closed += next.outputs.iter().filter(|output| output.closing).count();
+            }
             assert!(in_range(&wiring, &next), "site {site} code {code}");
         }
     }
+    assert!(closed > 100, "closing outputs among those that a step changed: {closed}");
 }
 
 #[test]
@@ -108,10 +117,10 @@ fn a_played_run_is_its_single_events_in_order() {
 #[test]
 fn round_trips() {
     let mut rng = Rng::new(35);
-    let mut versions = [0; 3];
+    let mut kinds = [[0; 3]; 3];
     for _ in 0..800 {
         let stored = either_run(&mut rng, true);
-        versions[stored.network.version as usize] += 1;
+        kinds[stored.network.version as usize][stored.network.edition as usize] += 1;
         let mut room = [7; LONGEST + 9];
         let length = write(&stored, &mut room).expect("written");
         assert_eq!(read(&room[..length]).as_ref(), Ok(&stored));
@@ -121,7 +130,7 @@ fn round_trips() {
         assert_eq!(again[..length], room[..length]);
         assert_eq!(write(&stored, &mut again[..length - 1]), Err(Refusal::Room));
     }
-    assert!(versions[1] > 300 && versions[2] > 300);
+    assert!(kinds[1][1] > 300 && kinds[2][1] > 150 && kinds[2][2] > 150);
 }
 
 #[test]
@@ -159,22 +168,34 @@ fn reached(count: usize, mut made: impl FnMut() -> Run) -> Tally {
 
 #[test]
 fn made_runs_and_cases_reach_every_rule() {
-    let (mut rng, mut other) = (Rng::new(37), Rng::new(38));
-    let runs = [reached(3_000, || any_run(&mut rng, false)), reached(2_000, || wide_run(&mut other, false))];
-    for (form, turns) in [(Form::First, 1_000), (Form::Second, 800)] {
-        let mut maker = Maker::new(37, form);
+    let makers = [Maker::new(37, Form::First), Maker::new(37, Form::Second), Maker::held(37)];
+    for (at, (mut maker, turns)) in makers.into_iter().zip([1_000, 800, 800]).enumerate() {
         for _ in 0..turns {
             let kind = maker.any_kind();
             maker.any_case(kind);
         }
         for (rule, words) in RULES {
-            assert!(maker.shown.count(*rule) > 0, "by cases of the {form:?} form: {words}");
+            let there = at == 2 || !OF_EDITION_2.contains(rule);
+            assert_eq!(maker.shown.count(*rule) > 0, there, "by cases of maker {at}: {words}");
         }
     }
-    for (version, seen) in [1, 2].into_iter().zip(runs) {
-        for (rule, words) in RULES {
-            let unreached = UNREACHED.contains(rule);
-            assert_eq!(seen.count(*rule) == 0, unreached, "by runs of version {version}: {words}");
-        }
+    let mut rng = Rng::new(37);
+    check_reached("version 1", false, reached(3_000, || any_run(&mut rng, false)));
+    for edition in [1, 2] {
+        let mut rng = Rng::new(38);
+        let made = || {
+            let run = wide_run(&mut rng, false);
+            Run { network: run.network.in_edition(edition), ..run }
+        };
+        check_reached(&format!("edition {edition}"), edition == 2, reached(2_000, made));
+    }
+}
+
+/// Every rule but those that no run reaches, and those of edition 2 in it alone.
+fn check_reached(what: &str, held: bool, seen: Tally) {
+    let elsewhere = if held { &UNREACHED_IN_EDITION_2[..] } else { &OF_EDITION_2 };
+    for (rule, words) in RULES {
+        let there = !UNREACHED.contains(rule) && !elsewhere.contains(rule);
+        assert_eq!(seen.count(*rule) > 0, there, "by runs of {what}: {words}");
     }
 }

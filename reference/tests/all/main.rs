@@ -2,9 +2,11 @@
 
 mod bounds;
 mod counters;
+mod editions;
 mod examples;
 mod helpers;
 mod kept;
+mod marked;
 mod moved;
 mod moves;
 mod orders;

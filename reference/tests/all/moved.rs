@@ -37,12 +37,12 @@ impl Way {
         Way { go: back, other: over, from: 2, met: Met::default() }
     }
 
-    /// The run that moves, or the number, by the reader's answer and the file's version and sites.
+    /// The run that moves, or the number, by the reader's answer and the file's version, sites and edition.
     fn judged(&self, file: &[u8]) -> Result<Run, u8> {
         match read(file) {
             Err(Refusal::Length) => Err(1),
             _ if file[VERSION_AT] != self.from => Err(2),
-            Ok(run) if self.from == 2 && run.network.sites > 16 => Err(15),
+            Ok(run) if self.from == 2 && (run.network.sites > 16 || run.network.edition != 1) => Err(15),
             judged => judged.map_err(Refusal::number),
         }
     }

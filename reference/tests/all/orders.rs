@@ -1,22 +1,28 @@
-//! The order of the refusals in both versions: reader, writer, player and single events, each pair of neighbours.
+//! The order of the refusals in both versions, edition 2 in version 2: reader, writer, player and single events, each pair
+//! of neighbours.
 
 use crate::helpers::{one_site, two_sites};
 use reference::archive::{read, write, Run, Send};
-use reference::network::NO_CHANNEL;
+use reference::network::{Network, NO_CHANNEL};
 use reference::player::play;
 use reference::refusal::Refusal::{self, *};
 use reference::single::{run, send};
 use reference::state::{OutEntry, State};
 
-/// A run of this version with one fault for each refusal of `faults` that it can hold (2, 17, 3, 4, 5, 6, 7, 8).
+/// An edition that this version has not.
+fn unknown(version: u8) -> u8 {
+    version + 1
+}
+
+/// A run of this version, and of the edition of the same number, with one fault for each refusal of `faults` that it can hold (2, 17, 3, 4, 5, 6, 7, 8).
 fn faulty(version: u8, faults: &[Refusal]) -> Run {
     let send = Send { draw: 0, site: 0, set: 1 };
-    let network = two_sites().in_version(version);
+    let network = Network { version, edition: version, ..two_sites() };
     let mut run = Run { network, seed: 1, draws: 2, sends: vec![send; 3] };
     for fault in faults {
         match fault {
             Version => run.network.version = 3,
-            Edition => run.network.edition = 2,
+            Edition => run.network.edition = unknown(version),
             Limits => run.network.tries = 0,
             Seed => run.seed = 0,
             Size => run.sends.resize(256, send),
@@ -108,7 +114,7 @@ fn single_send() {
     }
 }
 
-/// SEND in this version with every fault but those that are absent.
+/// SEND in this version, and in the edition of the same number, with every fault but those that are absent.
 fn send_without(version: u8, absent: impl Fn(Refusal) -> bool) -> Result<u8, Refusal> {
     let mut network = two_sites().in_version(version);
     let mut state = State { counter: 1, ..State::empty() };
@@ -117,7 +123,7 @@ fn send_without(version: u8, absent: impl Fn(Refusal) -> bool) -> Result<u8, Ref
     if here(Version) {
         network.version = 0;
     }
-    network.edition = if here(Edition) { 2 } else { 1 };
+    network.edition = if here(Edition) { unknown(version) } else { version };
     network.tries = if here(Limits) { 0 } else { 1 };
     network.channels[7] = if here(Channel) { 8 } else { NO_CHANNEL };
     network.routes[0] = here(Route) as u16;

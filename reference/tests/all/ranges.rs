@@ -26,7 +26,10 @@ fn good() -> Bench {
     *bench.input(0, 2) = input(Phase::Done, Connection::Unicast, End, 0b01000);
     *bench.input(0, 3) = input(Phase::Seek, Connection::None, None, 0);
     *bench.input(1, 1) = input(Phase::Open, Connection::SomeLocal, None, 0b00011);
-    let output = |input, terminator| Output { used: true, packet: 4, set: 2, input, head: true, terminator };
+    let output = |input, terminator| {
+        let (used, head, closing) = (true, true, false);
+        Output { used, packet: 4, set: 2, input, head, terminator, closing }
+    };
     for (site, port, feeder, terminator) in [
         (0, 0, 0, None),
         (0, 1, 1, None),

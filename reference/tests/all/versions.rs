@@ -83,7 +83,8 @@ fn thirteen_bytes() {
     for (place, value, refused) in [
         (1, 12, Refusal::Length),
         (2, 3, Refusal::Version),
-        (3, 2, Refusal::Edition),
+        (3, 3, Refusal::Edition),
+        (3, 2, Refusal::Size),
         (4, 65, Refusal::Limits),
         (5, 0, Refusal::Limits),
         (6, 9, Refusal::Limits),
@@ -102,8 +103,11 @@ fn versions_and_editions() {
     for version in [0, 3, 4, 255] {
         assert_eq!(read(&with(2, version)), Err(Refusal::Version));
     }
-    for edition in [0, 2, 3, 255] {
-        assert_eq!(read(&with(3, edition)), Err(Refusal::Edition));
+    for edition in (0..=255).filter(|edition| ![1, 2].contains(edition)) {
+        assert_eq!(read(&with(3, edition)).err(), Some(Refusal::Edition), "edition {edition}");
+    }
+    for edition in [1, 2] {
+        assert_eq!(read(&with(3, edition)).map(|run| run.network.edition), Ok(edition));
     }
     // Run R with the version byte 2: edition 1, S = 3, T = 1, D = 0.
     let mut bytes = run_r();
@@ -114,10 +118,10 @@ fn versions_and_editions() {
 #[test]
 fn versions_and_editions_in_memory() {
     for version in 0..=255 {
-        for edition in [0, 1, 2, 255] {
+        for edition in [0, 1, 2, 3, 255] {
             let network = Network { version, edition, ..one_site() };
             let expected = match (version, edition) {
-                (1 | 2, 1) => None,
+                (1 | 2, 1) | (2, 2) => None,
                 (1 | 2, _) => Some(Refusal::Edition),
                 _ => Some(Refusal::Version),
             };

@@ -1,4 +1,4 @@
-//! Each refusal in several ways, and two or more faults at once so that their order shows, in both versions.
+//! Each refusal in several ways, and two or more faults at once so that their order shows, in both versions and editions.
 
 use super::{named, two_sites, Named};
 use crate::format::{Format, VERSION_AT};
@@ -93,6 +93,21 @@ const WAYS_OF_2: &[(&str, Edits)] = &[
     ("refuse-8-set-bit-63", &[Set(2, 1 << 63 | 2)]),
 ];
 
+/// Ways in edition 2, and in the editions that there are not.
+const WAYS_OF_EDITION_2: &[(&str, Edits)] = &[
+    ("pass-two-sites", &[Edition(2)]),
+    ("refuse-1-field-one-less", &[Edition(2), Length(-1)]),
+    ("refuse-2-version-3", &[Edition(2), Version(3)]),
+    ("refuse-3-depth-9", &[Edition(2), Depth(9)]),
+    ("refuse-4-seed-0", &[Edition(2), Seed(0)]),
+    ("refuse-5-one-send-more", &[Edition(2), Sends(4)]),
+    ("refuse-6-channel-4s", &[Edition(2), Channel(1, 8)]),
+    ("refuse-7-empty-list", &[Edition(2), Route(1, 0)]),
+    ("refuse-8-site-2", &[Edition(2), Site(0, 2)]),
+    ("refuse-17-edition-0", &[Edition(0)]),
+    ("refuse-17-edition-3", &[Edition(3)]),
+];
+
 /// The two-site archive of this version with these changes.
 fn damaged(version: u8, edits: impl IntoIterator<Item = Edits>) -> Vec<u8> {
     let mut run = two_sites();
@@ -129,17 +144,26 @@ fn damaged(version: u8, edits: impl IntoIterator<Item = Edits>) -> Vec<u8> {
     bytes
 }
 
-/// Each fault with the next one, and with all later ones.
-fn orders(version: u8, prefix: &str, order: Order) -> Vec<Named> {
+/// Each fault with the next one, and with all later ones, in an archive that has these changes already.
+fn orders(version: u8, prefix: &str, base: Edits, order: Order) -> Vec<Named> {
+    let with =
+        |faults: Order| damaged(version, [base].into_iter().chain(faults.iter().map(|(_, edits)| *edits)));
     let mut all = Vec::new();
     for pair in order.windows(2) {
-        let name = format!("{prefix}order-{}-before-{}", pair[0].0, pair[1].0);
-        all.push(named(&name, damaged(version, pair.iter().map(|(_, edits)| *edits))));
+        all.push(named(&format!("{prefix}order-{}-before-{}", pair[0].0, pair[1].0), with(pair)));
     }
     for at in 0..order.len() - 2 {
-        let name = format!("{prefix}order-{}-before-all-later", order[at].0);
-        all.push(named(&name, damaged(version, order[at..].iter().map(|(_, edits)| *edits))));
+        all.push(named(&format!("{prefix}order-{}-before-all-later", order[at].0), with(&order[at..])));
     }
+    all
+}
+
+/// The orders of edition 2, where 17 is left out, and then 17 of edition 3 in its place.
+fn orders_of_edition_2() -> Vec<Named> {
+    let known = [&[LENGTH, (2, &[Version(3)])], &LATER[..]].concat();
+    let unknown = [&[(2, &[Version(3)] as Edits), (17, &[Edition(3)])], &LATER[..]].concat();
+    let mut all = orders(2, "e2-", &[Edition(2)], &known);
+    all.extend(orders(2, "e2-", &[], &unknown).into_iter().filter(|(name, _)| name.contains("17")));
     all
 }
 
@@ -157,10 +181,12 @@ pub fn all() -> Vec<Named> {
     ];
     all.extend(ways(1, "", WAYS));
     all.extend(ways(1, "", WAYS_OF_1));
-    all.extend(orders(1, "", &of_1));
+    all.extend(orders(1, "", &[], &of_1));
     all.extend(ways(2, "v2-", WAYS));
     all.extend(ways(2, "v2-", WAYS_OF_2));
-    all.extend(orders(2, "v2-", &of_2));
+    all.extend(orders(2, "v2-", &[], &of_2));
+    all.extend(ways(2, "e2-", WAYS_OF_EDITION_2));
+    all.extend(orders_of_edition_2());
     all
 }
 

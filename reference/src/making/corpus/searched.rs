@@ -1,4 +1,4 @@
-//! Runs found by search over seeds: for each rule one that shows it, and runs that end where each kind of
+//! Runs of edition 1 found by search over seeds: for each rule one that shows it, and runs that end where each kind of
 //! place owes.
 
 use super::Named;
@@ -6,11 +6,20 @@ use crate::archive::Run;
 use crate::making::{rng::Rng, runs};
 use crate::owing::DEBTS;
 use crate::player::Play;
-use crate::watch::{Rule, Tally, RULES};
+use crate::watch::{Rule, Tally, OF_EDITION_2, RULES};
 
 /// Rules that no run from the empty state reaches; the single event cases have them.
-pub const UNREACHED: [Rule; 4] =
-    [Rule::FinAbortStays, Rule::OutputNoChannel, Rule::TerminatorRefused, Rule::KeepLocalDropped];
+pub const UNREACHED: [Rule; 5] = [
+    Rule::FinAbortStays,
+    Rule::OutputNoChannel,
+    Rule::TerminatorRefused,
+    Rule::KeepLocalDropped,
+    Rule::ClosingNoChannel,
+];
+
+/// What no run of edition 2 reaches besides: its outputs are emptied while the input is free that they alone feed, so that
+/// no head ever waits.
+pub const UNREACHED_IN_EDITION_2: [Rule; 1] = [Rule::HeadInputBusy];
 
 /// Rules that every run shows, without files of their own.
 const PLAIN: [Rule; 30] = [
@@ -50,28 +59,30 @@ const PLAIN: [Rule; 30] = [
 const SEARCHED: usize = 20_000;
 
 /// Small valid runs, one after another.
-fn small_runs(seed: u64) -> impl Iterator<Item = Run> {
+pub(super) fn small_runs(seed: u64) -> impl Iterator<Item = Run> {
     let mut rng = Rng::new(seed);
     std::iter::repeat_with(move || runs::any_run(&mut rng, false))
         .take(SEARCHED)
         .filter(|run| run.network.sites <= 6 && run.sends.len() <= 20 && run.draws <= 1_500)
 }
 
-/// The first small run that takes the rule and services something twice after that.
-fn showing(rule: Rule) -> Run {
-    let shows = |run: &Run| {
-        let wiring = run.network.wiring().expect("a valid network");
-        let mut play = Play::start(run, &wiring, Tally::default());
-        let mut services_before = None;
-        for _ in 0..run.draws {
-            play.draw();
-            if services_before.is_none() && play.watch.count(rule) > 0 {
-                services_before = Some(play.counts.serviced);
-            }
+/// Whether the run takes the rule and services something twice after that.
+pub(super) fn shows(rule: Rule, run: &Run) -> bool {
+    let wiring = run.network.wiring().expect("a valid network");
+    let mut play = Play::start(run, &wiring, Tally::default());
+    let mut services_before = None;
+    for _ in 0..run.draws {
+        play.draw();
+        if services_before.is_none() && play.watch.count(rule) > 0 {
+            services_before = Some(play.counts.serviced);
         }
-        services_before.is_some_and(|before| play.counts.serviced >= before + 2)
-    };
-    small_runs(1_000 + rule as u64).find(shows).expect("every other rule is reached")
+    }
+    services_before.is_some_and(|before| play.counts.serviced >= before + 2)
+}
+
+/// The first small run that does so.
+fn showing(rule: Rule) -> Run {
+    small_runs(1_000 + rule as u64).find(|run| shows(rule, run)).expect("every other rule is reached")
 }
 
 /// The first small run, from this seed, with a moment at which a place of this kind owes, cut there.
@@ -86,7 +97,7 @@ fn ending(kind: usize, seed: u64) -> Run {
 }
 
 /// `OpenToWait` as `open-to-wait`.
-fn kebab(name: &str) -> String {
+pub(super) fn kebab(name: &str) -> String {
     let mut words = String::new();
     for c in name.chars() {
         if c.is_uppercase() && !words.is_empty() {
@@ -99,7 +110,8 @@ fn kebab(name: &str) -> String {
 
 pub fn all() -> Vec<Named> {
     let mut all = Vec::new();
-    for (rule, _) in RULES.iter().filter(|(rule, _)| !UNREACHED.contains(rule) && !PLAIN.contains(rule)) {
+    let left_out = |rule| UNREACHED.contains(rule) || PLAIN.contains(rule) || OF_EDITION_2.contains(rule);
+    for (rule, _) in RULES.iter().filter(|(rule, _)| !left_out(rule)) {
         all.push((format!("rule-{}.bin", kebab(&format!("{rule:?}"))), showing(*rule).bytes()));
     }
     for (kind, (debt, _)) in DEBTS.iter().enumerate() {

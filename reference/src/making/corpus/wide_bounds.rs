@@ -1,4 +1,4 @@
-//! The bounds of version 2: lengths, editions, sites, channels and sets at their limits.
+//! The bounds of version 2: lengths, editions, sites, channels and sets at their limits; those of edition 2.
 
 use super::bounds::{edited, long, one_site, ring};
 use super::{in_version, named, run_r, Named};
@@ -45,13 +45,40 @@ fn thirteen_bytes() -> Vec<Named> {
     ]
 }
 
-fn lengths() -> Vec<Named> {
-    let r = wide_run_r();
+/// The longest archive: an eight by eight torus and 255 sends.
+fn longest() -> Vec<u8> {
     let mut network = graphs::grid(8, 8, true).in_version(2);
     routes::nearest(&mut network, 4);
     (network.tries, network.depth) = (3, 2);
     let send = Send { draw: 9, site: 63, set: 1 << 63 | 1 };
-    let full = Run { network, seed: 7, draws: 9, sends: vec![send; 255] }.bytes();
+    Run { network, seed: 7, draws: 9, sends: vec![send; 255] }.bytes()
+}
+
+/// Run R in edition 2, and editions, lengths and sites at their limits there.
+fn of_edition_2() -> Vec<Named> {
+    let in_2 = |bytes: &[u8]| edited(bytes, &[(3, 2)]);
+    let r = in_2(&wide_run_r());
+    let short = long(&r, 13, 13);
+    vec![
+        named("e2-01-run-r-version-byte-1", edited(&r, &[(2, 1)])),
+        named("e2-bound-edition-3", edited(&r, &[(3, 3)])),
+        named("e2-bound-edition-255", edited(&r, &[(3, 255)])),
+        named("e2-bound-12-bytes", long(&r, 12, 12)),
+        named("e2-bound-13-bytes", short.clone()),
+        named("e2-bound-13-bytes-edition-3", edited(&short, &[(3, 3)])),
+        named("e2-bound-34-bytes-field-34", long(&r, 34, 34)),
+        named("e2-bound-11523-bytes", in_2(&longest())),
+        named("e2-bound-sites-16", in_2(&ring(2, 16))),
+        named("e2-bound-sites-17", in_2(&ring(2, 17))),
+        named("e2-bound-sites-64", in_2(&ring(2, 64))),
+        named("e2-bound-sites-65", in_2(&ring(2, 65))),
+        named("e2-01-run-r", r),
+    ]
+}
+
+fn lengths() -> Vec<Named> {
+    let r = wide_run_r();
+    let full = longest();
     vec![
         named("v2-bound-12-bytes", long(&r, 12, 12)),
         named("v2-bound-14-bytes", long(&r, 14, 14)),
@@ -115,5 +142,6 @@ pub fn all() -> Vec<Named> {
     all.extend(thirteen_bytes());
     all.extend(lengths());
     all.extend(ends_and_sets());
+    all.extend(of_edition_2());
     all
 }

@@ -1,7 +1,7 @@
-//! Version 2 under load: some runs of version 1 again, and networks of 17 to 64 sites.
+//! Version 2 under load: some runs of version 1 again, and networks of 17 to 64 sites; some of these in edition 2 too.
 
 use super::loads::{self, loaded, nearest, random};
-use super::{in_version, named, Named};
+use super::{in_edition, named, Named};
 use crate::archive::{Run, Send};
 use crate::making::{graphs, rng::Rng};
 
@@ -27,7 +27,34 @@ fn neighbours() -> Run {
 }
 
 /// The runs of version 1 that are there in version 2 too.
-const AGAIN: [&str; 4] = ["load-one-site", "load-two-sites-bundle", "load-star-5", "load-torus-4x4"];
+const AGAIN: [&str; 9] = [
+    "load-one-site",
+    "load-two-sites-bundle",
+    "load-star-5",
+    "load-torus-4x4",
+    "load-ring-one-way-3",
+    "load-ring-both-ways-6",
+    "load-mesh-2x2",
+    "load-torus-4x4-at-once",
+    "load-routes-loop-ring",
+];
+
+/// The runs of version 2 that are there in edition 2 too.
+const HELD: [&str; 13] = [
+    "load-one-site",
+    "load-two-sites-bundle",
+    "load-star-5",
+    "load-torus-4x4",
+    "load-ring-one-way-3",
+    "load-ring-both-ways-6",
+    "load-mesh-2x2",
+    "load-torus-4x4-at-once",
+    "load-routes-loop-ring",
+    "load-ring-one-way-17",
+    "load-torus-8x8",
+    "load-torus-8x8-short",
+    "load-torus-8x8-neighbours",
+];
 
 pub fn all() -> Vec<Named> {
     let torus = nearest(graphs::grid(8, 8, true), 2);
@@ -44,5 +71,12 @@ pub fn all() -> Vec<Named> {
         ("load-torus-8x8-neighbours", neighbours()),
         ("load-torus-8x8-at-once", loaded(torus, (1, 8), 65_535, 255, 48)),
     ]);
-    all.into_iter().map(|(name, run)| named(&format!("v2-{name}"), in_version(2, run).bytes())).collect()
+    let mut archives = Vec::new();
+    for (name, run) in all {
+        if HELD.contains(&name) {
+            archives.push(named(&format!("e2-{name}"), in_edition(2, run.clone()).bytes()));
+        }
+        archives.push(named(&format!("v2-{name}"), in_edition(1, run).bytes()));
+    }
+    archives
 }
