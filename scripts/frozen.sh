@@ -161,16 +161,25 @@ parts() {
     ' part=1 "$1" part=2 crates/batch/stdin part=3 "$outputs"
 }
 
+# whole PATH: the path itself; of a text typed by hand that has exceptions, one with these put back
+whole() {
+    printf '%s\n' "$1"
+    case $1 in corpus/typed/*) ;; *) return 0 ;; esac
+    [ -f "$1" ] && cut -f 2 "$temp/instead" | grep -qxF -e "$1" || return 0
+    put_back "$1" <"$1" >"$temp/typed/${1##*/}"
+    printf '%s\n' "$temp/typed/${1##*/}"
+}
+
 # spelled FILE: bare lines with the digests of today, exceptions put back, made by one call; - where nothing is there
 spelled() {
-    rm -rf "$temp/parts" "$temp/cuts"
-    mkdir "$temp/parts" "$temp/cuts"
+    rm -rf "$temp/parts" "$temp/cuts" "$temp/typed"
+    mkdir "$temp/parts" "$temp/cuts" "$temp/typed"
     parts "$1"
     cuts=0
     while read -r kind path; do
         case $kind in
             archive) printf '%s\n' "corpus/$path" "$temp/parts/$path" ;;
-            whole) printf '%s\n' "$path" ;;
+            whole) whole "$path" ;;
             lines)
                 cuts=$((cuts + 1))
                 from=${path%% *}
@@ -191,11 +200,16 @@ spelled() {
     ) || true
     awk -v temp="$temp" "$words"'
         function of(path) { return path in digest ? digest[path] : "-" }
+        function whole(path,    typed) {
+            typed = path
+            sub(/^corpus\//, temp "/", typed)
+            return typed in digest ? digest[typed] : of(path)
+        }
         part == 1 { digest[substr($0, 67)] = substr($0, 1, 64); next }
         { path = behind($1 == "lines" ? 3 : 1, $0) }
         $1 == "archive" { print $1 " " of("corpus/" path) " " of(temp "/parts/" path) " " path; next }
         $1 == "lines" { print $1 " " $2 " " $3 " " of(temp "/cuts/" ++cuts) " " path; next }
-        $1 == "whole" { print $1 " " of(path) " " path; next }
+        $1 == "whole" { print $1 " " whole(path) " " path; next }
         { print }
     ' part=1 "$temp/digests" part=2 "$1"
 }
@@ -268,7 +282,11 @@ for name in $(awk '{ name[NR] = $0 } END { for (i = NR; i > 0; i--) print name[i
 done
 awk -F '\t' '
     part == 1 { met[$1, $2]++; next }
-    NF != 4 || $2 !~ /^(crates\/[a-z_]+\/stdout|tests\/clauses\/[a-z]+[.]txt)$/ || ($3 "") == ($4 "") {
+    function answers(path) {
+        return path ~ /^(crates\/[a-z_]+\/stdout|tests\/clauses\/[a-z]+[.]txt|corpus\/typed\/[a-z0-9-]+[.]out)$/
+    }
+    function remarks(path) { return path ~ /^corpus\/typed\/[a-z0-9-]+[.]hex$/ && $3 ~ /^#/ && $4 ~ /^#/ }
+    NF != 4 || !answers($2) && !remarks($2) || ($3 "") == ($4 "") {
         print "frozen: " $1 " is not a text of answers, its line as it was and the line now, a tab between them"
         next
     }
