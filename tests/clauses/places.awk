@@ -14,7 +14,7 @@ BEGIN {
         if (k < 5)
             LARGEST[k] = "7 5 2 255 " WORD " 1 1 1 1 1 255"
         else if (k < 10)
-            LARGEST[k] = "1 255 " WORD " 255 1 3"
+            LARGEST[k] = "3 255 " WORD " 255 1 3"
         else if (k == 10 || k == 19)
             LARGEST[k] = WORD
         else
