@@ -230,13 +230,42 @@ fn the_same_archive_in_both_editions() {
     assert!(alone > 10 && differ > 20, "{alone} of one site, {differ} that differ");
 }
 
+fn stored(name: &str) -> Vec<u8> {
+    let folder = concat!(env!("CARGO_MANIFEST_DIR"), "/../corpus");
+    std::fs::read(format!("{folder}/{name}.bin")).expect("in the corpus")
+}
+
+/// The archives of the corpus that are there in both editions differ in the edition byte alone, and some in their books.
+#[test]
+fn pairs_of_the_corpus() {
+    let folder = std::fs::read_dir(concat!(env!("CARGO_MANIFEST_DIR"), "/../corpus")).expect("the folder");
+    let names = folder.map(|entry| entry.expect("an entry").file_name().into_string().expect("a name"));
+    let mut differ = Vec::new();
+    let mut pairs = 0;
+    for name in names.filter(|name| name.starts_with("e2-load-") || name.starts_with("e2-differs-")) {
+        let name = name.trim_start_matches("e2-").trim_end_matches(".bin");
+        let [mut held, early] = ["e2", "v2"].map(|edition| stored(&format!("{edition}-{name}")));
+        let books = [&held, &early].map(|bytes| report(bytes).services);
+        assert_eq!((held[3], early[3]), (2, 1), "{name}");
+        held[3] = 1;
+        assert!(held == early, "{name}: the same but for the edition");
+        pairs += 1;
+        if books[0] != books[1] {
+            differ.push(name.to_string());
+        }
+    }
+    differ.sort();
+    assert_eq!(pairs, 15);
+    assert!(!differ.contains(&"load-one-site".to_string()));
+    for name in ["differs-49-bytes", "differs-53-draws", "load-torus-4x4", "load-torus-8x8"] {
+        assert!(differ.contains(&name.to_string()), "{name}: {differ:?}");
+    }
+}
+
 /// Two sites, T = 3, D = 1, 17 draws, three sends of {1}; corpus/typed/e2-hand-held.hex works it out.
 #[test]
 fn lines_of_the_trace() {
-    let file = |name: &str| {
-        let folder = concat!(env!("CARGO_MANIFEST_DIR"), "/../corpus");
-        std::fs::read(format!("{folder}/{name}-hand-held.bin")).expect("in the corpus")
-    };
+    let file = |edition: &str| stored(&format!("{edition}-hand-held"));
     let lines = |name| trace(&file(name), false).expect("valid");
     let end = "draw 13: site 0, net-output 1: end of packet 0 goes to site 1, net-input 1, open to done";
     assert!(lines("v2").contains(&format!("{end}\n")));
