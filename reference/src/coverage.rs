@@ -5,8 +5,8 @@ use crate::network::{Network, EDITION_2};
 use crate::refusal::NUMBERS;
 use crate::watch::{Tally, Watch, RULES};
 
-/// The columns: version 1, version 2 in edition 1 or one that there is not, version 2 in edition 2, and neither (another
-/// version, or no version byte).
+/// The columns: version 1, version 2 in edition 1 or one that there is not, version 2 in edition 2, and neither
+/// (another version, or no version byte).
 pub const COLUMNS: [&str; 4] = ["version 1", "version 2", "edition 2", "neither"];
 
 /// The version and the edition of an archive or of a network, as far as it has them.

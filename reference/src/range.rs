@@ -65,8 +65,8 @@ impl Bounds {
             && (!output.closing || self.may_close(port, output))
     }
 
-    /// The mark of an output in use: in edition 2, at outputs 1 to 4, head taken, without a terminator; that no input is
-    /// connected to it says `takes_from`.
+    /// The mark of an output in use: in edition 2, at outputs 1 to 4, head taken, without a terminator; that no input
+    /// is connected to it says `takes_from`.
     fn may_close(&self, port: usize, output: &Output) -> bool {
         self.closes && port != 0 && output.head && output.terminator == Terminator::None
     }

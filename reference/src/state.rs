@@ -1,4 +1,5 @@
-//! The state: every net-input, net-output and queue in flat arrays, and the packet counter; one state for both editions.
+//! The state: every net-input, net-output and queue in flat arrays, and the packet counter; one state for both
+//! editions.
 //!
 //! A state here can hold anything that its types allow, in range or not. The zero value of every type is
 //! the empty place.

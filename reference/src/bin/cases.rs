@@ -1,6 +1,6 @@
-//! `cases SEED COUNT WIDE HELD INPUT EXPECTED`: writes single event cases and their outcomes, COUNT of the first form, then
-//! WIDE of the second in edition 1, of which the first are those of `making::edges`, and behind them HELD of the second in
-//! edition 2, of which the first are those of `making::held`.
+//! `cases SEED COUNT WIDE HELD INPUT EXPECTED`: writes single event cases and their outcomes, COUNT of the first form,
+//! then WIDE of the second in edition 1, of which the first are those of `making::edges`, and behind them HELD of the
+//! second in edition 2, of which the first are those of `making::held`.
 //!
 //! It prints how many cases there are of each kind, and the refusals and rules that they reach, for each version and
 //! edition.

@@ -1,5 +1,6 @@
-//! `generate SEED COUNT [FOLDER]`: makes COUNT archives of both versions and editions, a third of them damaged, and prints
-//! what they reach, for each version and edition. One in three of version 2 is followed by itself in the other edition.
+//! `generate SEED COUNT [FOLDER]`: makes COUNT archives of both versions and editions, a third of them damaged, and
+//! prints what they reach, for each version and edition. One in three of version 2 is followed by itself in the other
+//! edition.
 //!
 //! With a folder each archive becomes a file there; their names, sorted, are in the order of making.
 

@@ -126,8 +126,8 @@ impl Maker {
         }
     }
 
-    /// A network of up to 64 sites, in version 2 or, where it can, sometimes 1, or in edition 2, and a state of it. Most
-    /// have few sites, and of many few hold anything, so that the texts stay small.
+    /// A network of up to 64 sites, in version 2 or, where it can, sometimes 1, or in edition 2, and a state of it.
+    /// Most have few sites, and of many few hold anything, so that the texts stay small.
     fn wide(&mut self, reached: bool) -> (Network, State) {
         let rng = &mut self.rng;
         let sites = match rng.below(24) {

@@ -1,4 +1,5 @@
-//! Damaged archives: each of the reader's refusals in many ways, on the bytes of a valid run of any version and edition.
+//! Damaged archives: each of the reader's refusals in many ways, on the bytes of a valid run of any version and
+//! edition.
 //!
 //! A fault changes bytes only; which refusal comes out with several faults is for the reader to say.
 

@@ -1,5 +1,6 @@
 //! Single event cases of edition 2, one by one: 17, each clause of the mark's range, the rule with the input in each of
-//! its states, and the router, to which a closing output is one in use. Each of the rule's cases comes in edition 1 too.
+//! its states, and the router, to which a closing output is one in use. Each of the rule's cases comes in edition 1
+//! too.
 
 use super::marks::closing;
 use super::{graphs, routes};

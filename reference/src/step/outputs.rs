@@ -1,5 +1,5 @@
-//! The rules of a net-output, codes 5 to 9: the head first, the terminator at a later step. In edition 2 outputs 1 to 4 are
-//! closing after that, and a step later on empties them.
+//! The rules of a net-output, codes 5 to 9: the head first, the terminator at a later step. In edition 2 outputs 1 to 4
+//! are closing after that, and a step later on empties them.
 
 use super::{deliver, take_packet, takes_terminator, Answer, Machine};
 use crate::network::{NO_INPUT, PORTS};

@@ -230,12 +230,31 @@ fn the_same_archive_in_both_editions() {
     assert!(alone > 10 && differ > 20, "{alone} of one site, {differ} that differ");
 }
 
-fn stored(name: &str) -> Vec<u8> {
-    let folder = concat!(env!("CARGO_MANIFEST_DIR"), "/../corpus");
-    std::fs::read(format!("{folder}/{name}.bin")).expect("in the corpus")
+fn at_root(name: &str) -> Vec<u8> {
+    std::fs::read(format!("{}/../{name}.bin", env!("CARGO_MANIFEST_DIR"))).expect("an archive")
 }
 
-/// The archives of the corpus that are there in both editions differ in the edition byte alone, and some in their books.
+fn stored(name: &str) -> Vec<u8> {
+    at_root(&format!("corpus/{name}"))
+}
+
+/// What examples/README.md says of its pair.
+#[test]
+fn the_example() {
+    let [early, mut held] = ["e1", "e2"].map(|edition| at_root(&format!("examples/held-{edition}")));
+    let books = [&early, &held].map(|bytes| report(bytes).services);
+    assert_eq!(books, ["100 0 1\n166 1 1\n", "100 0 1\n190 1 1\n"]);
+    let lines = [&early, &held].map(|bytes| trace(bytes, false).expect("valid"));
+    assert!(lines[0]
+        .contains("draw 79: site 0, net-output 1: packet 1 goes to site 1, net-input 1, free to seek\n"));
+    assert!(lines[1]
+        .contains("draw 79: site 0, net-output 1: packet 0 gives up its channel to site 1, net-input 1\n"));
+    held[3] = 1;
+    assert!(held == early);
+}
+
+/// The archives of the corpus that are there in both editions differ in the edition byte alone, and some in their
+/// books.
 #[test]
 fn pairs_of_the_corpus() {
     let folder = std::fs::read_dir(concat!(env!("CARGO_MANIFEST_DIR"), "/../corpus")).expect("the folder");

@@ -1,5 +1,5 @@
-//! The order of the refusals in both versions, edition 2 in version 2: reader, writer, player and single events, each pair
-//! of neighbours.
+//! The order of the refusals in both versions, edition 2 in version 2: reader, writer, player and single events, each
+//! pair of neighbours.
 
 use crate::helpers::{one_site, two_sites};
 use reference::archive::{read, write, Run, Send};
@@ -14,7 +14,8 @@ fn unknown(version: u8) -> u8 {
     version + 1
 }
 
-/// A run of this version, and of the edition of the same number, with one fault for each refusal of `faults` that it can hold (2, 17, 3, 4, 5, 6, 7, 8).
+/// A run of this version, and of the edition of the same number, with one fault for each refusal of `faults` that it
+/// can hold (2, 17, 3, 4, 5, 6, 7, 8).
 fn faulty(version: u8, faults: &[Refusal]) -> Run {
     let send = Send { draw: 0, site: 0, set: 1 };
     let network = Network { version, edition: version, ..two_sites() };

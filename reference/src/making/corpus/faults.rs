@@ -1,4 +1,5 @@
-//! Each refusal in several ways, and two or more faults at once so that their order shows, in both versions and editions.
+//! Each refusal in several ways, and two or more faults at once so that their order shows, in both versions and
+//! editions.
 
 use super::{named, two_sites, Named};
 use crate::format::{Format, VERSION_AT};

@@ -1,5 +1,5 @@
-//! Runs of edition 2: one that shows each of its rules, and what a closing output does to the router; runs that end with a
-//! closing output; and runs, each in both editions, that do not end the same in both.
+//! Runs of edition 2: one that shows each of its rules, and what a closing output does to the router; runs that end
+//! with a closing output; and runs, each in both editions, that do not end the same in both.
 
 use super::searched::{kebab, shows, small_runs, UNREACHED};
 use super::{in_edition, named, two_sites, Named};
@@ -134,8 +134,8 @@ fn from_site_0(limits: (u8, u64), seed: u32, draws: u16, sends: &[(u16, u64)]) -
     run
 }
 
-/// Runs that end otherwise in edition 2 than in edition 1: worked out by hand in the remarks of corpus/typed; with other
-/// books after the fewest draws and in the fewest bytes that a search over seeds found.
+/// Runs that end otherwise in edition 2 than in edition 1: worked out by hand in the remarks of corpus/typed; with
+/// other books after the fewest draws and in the fewest bytes that a search over seeds found.
 fn differing() -> Vec<(&'static str, Run)> {
     vec![
         ("hand-held", from_site_0((3, 1), 4_278_228_110, 17, &[(0, 2), (10, 2), (17, 2)])),

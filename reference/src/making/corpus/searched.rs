@@ -17,8 +17,8 @@ pub const UNREACHED: [Rule; 5] = [
     Rule::ClosingNoChannel,
 ];
 
-/// What no run of edition 2 reaches besides: its outputs are emptied while the input is free that they alone feed, so that
-/// no head ever waits.
+/// What no run of edition 2 reaches besides: its outputs are emptied while the input is free that they alone feed, so
+/// that no head ever waits.
 pub const UNREACHED_IN_EDITION_2: [Rule; 1] = [Rule::HeadInputBusy];
 
 /// Rules that every run shows, without files of their own.
