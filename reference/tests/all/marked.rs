@@ -1,6 +1,7 @@
 //! The mark closing: where it is in range, clause by clause, and its place in the text forms.
 
 use crate::helpers::{two_sites, Bench};
+use reference::making::cases::Maker;
 use reference::making::marks::closing;
 use reference::range::in_range;
 use reference::refusal::Refusal;
@@ -80,6 +81,33 @@ fn where_it_may_not() {
             ("feeder 5", |b| b.output(0, 1).input = 5),
         ],
     );
+}
+
+/// Made cases break each clause of the mark: they are refused with 13 by cases in which a mark stands so.
+#[test]
+fn made_cases_break_every_clause() {
+    type Fault = fn(&Case, usize) -> bool;
+    let faults: [(&str, Fault); 9] = [
+        ("version 1", |case, _| case.network.version == 1),
+        ("version 2, edition 1", |case, _| case.network.version == 2 && case.network.edition == 1),
+        ("output 0", |_, place| place % 5 == 0),
+        ("empty", |case, place| case.state.outputs[place] == Output { closing: true, ..Output::default() }),
+        ("not in use", |case, place| !case.state.outputs[place].used && case.state.outputs[place].head),
+        ("head not taken", |case, place| case.state.outputs[place].used && !case.state.outputs[place].head),
+        ("with a terminator", |case, place| case.state.outputs[place].terminator != Terminator::None),
+        ("connected", |case, place| {
+            case.state.inputs_of(place / 5).iter().any(|input| input.outputs >> (place % 5) & 1 == 1)
+        }),
+        ("beyond S", |case, place| place as u64 / 5 >= case.network.sites),
+    ];
+    let mut maker = Maker::held(64);
+    let cases: Vec<Case> = (0..1_500).map(|_| maker.any_case(3)).collect();
+    let refused = |case: &&Case| case.outcome(&mut ()).told.err() == Some(Refusal::Range);
+    for (words, fault) in faults {
+        let shows =
+            |case: &Case| (0..320).any(|place| case.state.outputs[place].closing && fault(case, place));
+        assert!(cases.iter().filter(refused).any(shows), "{words}");
+    }
 }
 
 /// The six numbers of output 1 of site 0 in a case with this output.
