@@ -33,7 +33,7 @@ pub const DEBTS: [(Debt, &str); 10] = [
     (Debt::InQueueKeepLocal, "in-queue entry with keep-local"),
 ];
 
-/// What a place with this terminator owes of its set.
+/// What a place with this terminator owes of its set. A closing output holds none and owes nothing.
 fn due(terminator: Terminator, set: Set, site: usize) -> Set {
     match terminator {
         Terminator::End => set,

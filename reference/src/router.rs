@@ -1,6 +1,7 @@
 //! The router: which empty outputs of a site a packet gets, and under which connection.
 //!
-//! It reads the network and the outputs that are empty, and changes nothing. The set is a target set.
+//! It reads the network and the outputs that are empty, and changes nothing. The set is a target set. A closing output is
+//! in use, and serves nobody.
 
 use crate::network::{ports, Wiring, PORTS};
 use crate::sets::{has, members, only, without, Set};

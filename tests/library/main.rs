@@ -1,8 +1,8 @@
 //! Tests of the C and Rust library against the second model: `library CORPUS COUNT SEED`.
 //!
-//! Every archive of the folder CORPUS and COUNT fresh ones of SEED, of both versions and editions, a third of them damaged, go
-//! through each function of include/fennqualo.h, with lent slices of many lengths between guards, and through the Rust
-//! wrapper. Prints one line; panics at the first difference, naming the archive and the call.
+//! Every archive of the folder CORPUS and COUNT fresh ones of SEED, of both versions and editions, a third of them
+//! damaged, go through each function of include/fennqualo.h, with lent slices of many lengths between guards, and
+//! through the Rust wrapper. Prints one line; panics at the first difference, naming the archive and the call.
 
 mod calls;
 mod guarded;
