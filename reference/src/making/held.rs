@@ -6,7 +6,7 @@ use super::marks::closing;
 use super::{graphs, routes};
 use crate::network::{Network, EDITION, EDITION_2, NO_CHANNEL, PORTS};
 use crate::single::Event;
-use crate::state::{Connection, Input, Output, Phase, State, Terminator, PHASES};
+use crate::state::{Connection, InEntry, Input, Output, Phase, State, Terminator, PHASES};
 use crate::text::{Case, Form};
 
 /// Output 1 of site 0, and input 1 of site 1, which it feeds.
@@ -122,10 +122,16 @@ fn steps() -> Vec<Case> {
     cases
 }
 
-/// End and abort delivered to open and to abort, and not to the other states, in both editions.
+/// End and abort delivered to open and to abort, and not to the other states, in both editions; and to an in-queue, after
+/// which output 0 is empty in both.
 fn deliveries() -> Vec<Case> {
     let mut cases = Vec::new();
     for edition in [EDITION, EDITION_2] {
+        let state = with(|state| {
+            state.outputs[0] = Output { closing: false, terminator: Terminator::End, ..closing() };
+            state.in_queues[0].push(InEntry { set: 1, ..InEntry::default() });
+        });
+        cases.push(case(two(edition), state, Event::Run { site: 0, code: 5 }));
         for terminator in [Terminator::End, Terminator::Abort] {
             for phase in [Phase::Open, Phase::Abort, Phase::Wait, Phase::Free] {
                 let state = with(|state| {
