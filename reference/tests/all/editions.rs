@@ -291,7 +291,10 @@ fn lines_of_the_trace() {
     assert!(lines("e2").contains(&format!("{end}, closing\n")));
     assert!(lines("e2").contains("draw 15: site 0, net-input 0: packet 1, seek, try 1 of 3\n"));
     let mut longer = file("e2");
-    longer[12] = 200;
-    let emptied = ": site 0, net-output 1: packet 0 gives up its channel to site 1, net-input 1\n";
-    assert_eq!(trace(&longer, false).expect("valid").matches(emptied).count(), 1);
+    (longer[11], longer[12]) = (3, 232);
+    for packet in [0, 1] {
+        let emptied =
+            format!(": site 0, net-output 1: packet {packet} gives up its channel to site 1, net-input 1\n");
+        assert_eq!(trace(&longer, false).expect("valid").matches(&emptied).count(), 1, "packet {packet}");
+    }
 }
