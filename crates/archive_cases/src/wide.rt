@@ -119,7 +119,7 @@ fn rooms() {
 
 // Run R in memory with this version, edition, number of sites and first channel, as the writer judges it. Answers whether it
 // wrote run R in version 2.
-fn write_as(label: &[u8], version: u8, edition: u8, sites: usize, channel: u16) -> bool {
+pub(crate) fn write_as(label: &[u8], version: u8, edition: u8, sites: usize, channel: u16) -> bool {
     let b = R;
     let d = archive::read(&b);
     let mut run = d.run;

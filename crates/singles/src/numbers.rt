@@ -88,11 +88,22 @@ fn put_marks(n: &mut [u64; NUMBERS], at: usize, marks: [bool; base::OUTPUTS])
     n[at + 4] = mark(marks[4]);
 }
 
+// In use, and 2 more for the mark closing.
+fn marks_of(x: Output) -> u64 {
+    if x.closing {
+        if x.used {
+            return 3;
+        }
+        return 2;
+    }
+    mark(x.used)
+}
+
 fn put_output(n: &mut [u64; NUMBERS], at: usize, x: Output)
     requires { ⌜ at ≤ 129 ⌝ }
 {
     let terminator = x.terminator;
-    n[at] = mark(x.used);
+    n[at] = marks_of(x);
     n[at + 1] = wide(x.packet);
     n[at + 2] = x.set;
     n[at + 3] = wide(x.input);

@@ -1,5 +1,6 @@
-// A site from its 135 numbers, in the order of docs/TESTING.md: five net-inputs of 11, five net-outputs of 6, the
-// out-queue and the in-queue with a count and eight entries of 3 each. Numbers that no field can hold are cut to it.
+// A site from its 135 numbers, in the order of docs/TESTING.md: five net-inputs of 11, five net-outputs of 6, of
+// which the first is 1 for one in use and 2 more for the mark closing, the out-queue and the in-queue with a count and
+// eight entries of 3 each. Numbers that no field can hold are cut to it.
 ghost use mathlib.Core.Path.{_≡_};
 ghost use Prim.Native.Nat.{_%_, _≤_};
 use types::Connection;
@@ -114,8 +115,9 @@ fn output_of(n: &[u64; NUMBERS], at: usize) -> Output
         terminator,
         packet,
         input,
-        used: n[at] == 1,
+        used: n[at] % 2 == 1,
         head: n[at + 4] == 1,
+        closing: n[at] / 2 % 2 == 1,
     }
 }
 

@@ -17,10 +17,12 @@ pub struct Input {
     pub tries: usize,
 }
 
-// A net-output: its set, whether its head is taken, its terminator and packet, and the net-input that feeds it.
+// A net-output: its set, whether its head is taken and whether it is closing, its terminator and packet, and the net-input
+// that feeds it.
 pub struct Output {
     pub set: usize,
     pub head: bool,
+    pub closing: bool,
     pub terminator: usize,
     pub packet: usize,
     pub feeder: usize,
@@ -75,6 +77,7 @@ pub fn output_at(words: &[u64], s: usize, j: usize) -> Output {
     Output {
         set: set_at(words, s, k),
         head: fields / 2 % 2 == 1,
+        closing: fields / 16 % 2 == 1,
         terminator: fields / 4 % 4,
         packet: fields / 65536 % 256,
         feeder: fields / 256 % 256,

@@ -130,7 +130,8 @@ fn add_marked(
 
 // ---- codes 5 to 9
 
-// The packet, or its terminator if the head was taken before, and where it goes: into the in-queue, or through a channel.
+// The packet, or its terminator if the head was taken before, and where it goes: into the in-queue, or through a channel;
+// of an output that was closing, the channel that it gives up.
 fn add_output(
     text: &mut [u8],
     at: usize,
@@ -140,19 +141,40 @@ fn add_output(
     s: usize,
     j: usize,
 ) -> usize {
+    let output = places::output_at(before, s, j);
+    if output.closing {
+        return add_given_up(text, at, channel, output.packet);
+    }
     let carried = add_carried(text, at, before, s, j);
     if j == 0 {
         return report::add_bytes(text, carried, b" enters the in-queue");
     }
+    let passed = add_passed(text, carried, channel, before, after);
+    let left = places::output_at(after, s, j);
+    if left.closing {
+        return report::add_bytes(text, passed, b", closing");
+    }
+    passed
+}
+
+// The input at the end of a channel, before and after.
+fn add_passed(text: &mut [u8], at: usize, channel: usize, before: &[u64], after: &[u64]) -> usize {
     let site = channel / base::PORTS;
     let i = channel % base::PORTS + 1;
     let was = places::input_at(before, site, i);
     let now = places::input_at(after, site, i);
     let values = [site, i, was.state, now.state, 0, 0];
+    fill(text, at, b" goes to site %, net-input %, $ to $", values)
+}
+
+fn add_given_up(text: &mut [u8], at: usize, channel: usize, packet: usize) -> usize {
+    let site = channel / base::PORTS;
+    let i = channel % base::PORTS + 1;
+    let values = [packet, site, i, 0, 0, 0];
     fill(
         text,
-        carried,
-        b" goes to site %, net-input %, $ to $",
+        at,
+        b"packet % gives up its channel to site %, net-input %",
         values,
     )
 }

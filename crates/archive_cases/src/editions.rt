@@ -1,0 +1,58 @@
+// Edition 2 of version 2: run R read, written and not moved back; editions that are unknown, and which refusal comes first.
+use crate::show;
+use crate::show_changed;
+use crate::show_same;
+use crate::show_written;
+use crate::wide::WIDE;
+use crate::wide::write_as;
+
+fn heads() {
+    let mut b = WIDE;
+    show_changed(b"edition 3", &mut b, 3, 3);
+    show_changed(b"edition 255", &mut b, 3, 255);
+    b[4] = 0;
+    show_changed(b"edition 3, S 0", &mut b, 3, 3);
+    show_changed(b"edition 2, S 0", &mut b, 3, 2);
+}
+
+fn memory() {
+    let none = base::NO_CHANNEL;
+    write_as(b"in memory, version 2, edition 3", 2, 3, 1, none);
+    write_as(b"version 1, edition 3", 1, 3, 1, none);
+    write_as(b"version 2, edition 3, 65 sites", 2, 3, 65, none);
+}
+
+// Read, and written into rooms of 35 and 34 nines.
+fn written(b: &[u8]) {
+    let d = archive::read(b);
+    show(b"edition 2, read", d.refusal as u64);
+    let run = d.run;
+    let mut enough = [9u8; 35];
+    show_written(b"room 35", archive::write(run, &mut enough));
+    show_same(b"the same bytes", check::same(&enough, b));
+    let mut short = [9u8; 34];
+    let nines = [9u8; 34];
+    show_written(b"room 34", archive::write(run, &mut short));
+    show_same(b"room as it was", check::same(&short, &nines));
+}
+
+// Into a room of 36 nines, and into none.
+fn moved(b: &[u8]) {
+    let mut room = [9u8; 36];
+    let nines = [9u8; 36];
+    show_written(b"back, room 36", archive::move_back(b, &mut room));
+    show_written(b"no room", archive::move_back(b, &mut room[..0]));
+    show_same(b"room as it was", check::same(&room, &nines));
+}
+
+pub(crate) fn cases() {
+    heads();
+    memory();
+    let mut b = WIDE;
+    b[3] = 2;
+    written(&b);
+    moved(&b);
+    b[3] = 3;
+    let mut room = [9u8; 36];
+    show_written(b"edition 3, back", archive::move_back(&b, &mut room));
+}
