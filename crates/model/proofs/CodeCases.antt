@@ -38,10 +38,10 @@ crossed-valid = refl
 
 -- the places of a site that are in use, each behind a number: net-inputs 0 to 4, net-outputs 5 to 9 and the out-queue 10, as
 -- their codes are, the in-queue 11; of a queue its count and so many entries
-abbrev inUse : ℕ → List ℕ → List ℕ
+abbrev pub inUse : ℕ → List ℕ → List ℕ
 inUse m ms = cond (eqb (sum (λ v. v) ms) 0) [] (m ∷ ms)
 
-abbrev places : Site → List ℕ
+abbrev pub places : Site → List ℕ
 places x =
     each (λ i. inUse i (ofInput (inAt x i))) (0 ∷ 1 ∷ 2 ∷ 3 ∷ 4 ∷ [])
     ++ each (λ j. inUse (5 + j) (ofOutput (outAt x j) ∷ [])) (0 ∷ 1 ∷ 2 ∷ 3 ∷ 4 ∷ [])

@@ -1,4 +1,4 @@
--- Computed tables: what the definitions give beside what document 01 says, row by row. The theorems stand in crate theorems.
+-- Computed tables: what the definitions give beside what documents 01 and 02 say, row by row. The theorems stand in crate theorems.
 pub mod Made
 pub mod RunCases
 pub mod AnswerCases
@@ -13,3 +13,4 @@ pub mod PlaceCases
 pub mod WorkCases
 pub mod OwingCases
 pub mod CodeCases
+pub mod EditionCases

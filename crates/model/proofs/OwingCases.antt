@@ -14,7 +14,7 @@ use Rattle.model.specs.Types.{Site, Run as StoredRun, noInput, noOutput}
 use Rattle.model.specs.Owing.{owesAs, owesInput, owesOutput, owesOutEntry, owesInEntry, owed}
 use Rattle.model.specs.Owing.{pairsAs, pairsInput, pairsOutput, pairsOutEntry, pairsInEntry, owedPairs}
 use Rattle.model.specs.Runs.{bookRoom}
-use Rattle.model.proofs.Shown.{inp, out, leaving, arrived, outQ, inQ, alone, first, second}
+use Rattle.model.proofs.Shown.{inp, out, shut, leaving, arrived, outQ, inQ, alone, first, second}
 use Rattle.model.proofs.Made.{net}
 
 -- a place at site s with packet 5 and set X: what it owes to the sites 0 to 3, of packet 5, then of packet 6
@@ -83,6 +83,8 @@ debts =
     ∷ (map (λ h. owesOutput 1 5 1 (out 5 3 0 true h)) terminators, 0 ∷ 1 ∷ 0 ∷ 1 ∷ [])
     ∷ (map (λ h. owesOutput 1 5 0 (out 5 3 0 false h)) terminators, 0 ∷ 1 ∷ 0 ∷ 0 ∷ [])
     ∷ (map (λ h. pairsOutput 1 (out 5 3 0 true h)) terminators, 0 ∷ 2 ∷ 0 ∷ 1 ∷ [])
+    -- L6: a closing output "owes nothing"
+    ∷ (owesOutput 1 5 1 (shut 5 3 0) ∷ owesOutput 1 5 0 (shut 5 3 0) ∷ pairsOutput 1 (shut 5 3 0) ∷ [], replicate 3 0)
     ∷ (map (λ h. owesInEntry 1 5 1 (arrived 5 3 h)) terminators, 0 ∷ 1 ∷ 0 ∷ 1 ∷ [])
     ∷ (map (λ h. owesInEntry 1 5 0 (arrived 5 3 h)) terminators, 0 ∷ 1 ∷ 0 ∷ 0 ∷ [])
     ∷ (map (λ h. pairsInEntry 2 (arrived 5 3 h)) terminators, 0 ∷ 2 ∷ 0 ∷ 0 ∷ [])

@@ -65,14 +65,14 @@ local-read = refl
 
 -- ---- net-outputs 1 to 4: with a channel or without, and the input at its end
 
-abbrev onIn : ℕ → Bool → Output → Input → List ℕ
+abbrev pub onIn : ℕ → Bool → Output → Input → List ℕ
 onIn edition there o y = ofTurn (λ o′. ofOutput o′ ∷ []) ofInput (channelOutput edition there o y)
 
 abbrev on : Bool → Output → Input → List ℕ
 on = onIn 1
 
 -- net-inputs that are open or abort; that are neither, nor free; free or one of those
-abbrev hearing : List Input
+abbrev pub hearing : List Input
 hearing =
     inp (Open Unicast) first
     ∷ inp (Open SomeLocal) split
@@ -80,7 +80,7 @@ hearing =
     ∷ inp (Aborted SomeLocal) alone
     ∷ []
 
-abbrev busy : List Input
+abbrev pub busy : List Input
 busy =
     inp Seek noMarks
     ∷ inp (Wait Unicast) first
@@ -93,7 +93,7 @@ busy =
     ∷ inp (FinAbort SomeLocal gotAbort) alone
     ∷ []
 
-abbrev deaf : List Input
+abbrev pub deaf : List Input
 deaf = noInput ∷ busy
 
 pub remotes : List (List ℕ × List ℕ)

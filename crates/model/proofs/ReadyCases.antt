@@ -1,5 +1,6 @@
 -- When an output is ready, typed from document 01: "An output is ready when it is in use, its head is taken, and either it is
--- output 0 or its channel's input is open or abort. Outputs 1 to 4 without a channel are never ready and never move."
+-- output 0 or its channel's input is open or abort. Outputs 1 to 4 without a channel are never ready and never move." One that is
+-- closing (L6) has nothing to pass on any more.
 use Prim.Native.Nat.{ℕ}
 use mathlib.Core.Path.{_≡_, refl}
 use mathlib.Core.Bool.{Bool, true, false}
@@ -9,7 +10,7 @@ use Rattle.base.specs.Bools.{count}
 use Rattle.model.specs.Types.{Unicast, Passthru, AllRemote, SomeLocal, Handed, gotEnd, gotAbort, tNone, tEnd}
 use Rattle.model.specs.Types.{Phase, Free, Seek, Open, Wait, Done, Last, Aborted, FinAbort, Output, noOutput}
 use Rattle.model.specs.NetInput.{hears, ready}
-use Rattle.model.proofs.Shown.{inp, out, alone}
+use Rattle.model.proofs.Shown.{inp, out, shut, alone}
 
 -- outputs 0 to 4, 1 for one that is ready; which of the ports 1 to 4 have a channel; the state of the input at the end of each
 abbrev readies : List Bool → List Phase → List Output → List ℕ
@@ -51,6 +52,8 @@ readiness =
     ∷ (readies joins (replicate 4 (Open Unicast)) (replicate 5 noOutput), 0 ∷ 0 ∷ 0 ∷ 0 ∷ 0 ∷ [])
     ∷ (readies joins (replicate 4 (Open Unicast)) (replicate 5 fresh), 0 ∷ 0 ∷ 0 ∷ 0 ∷ 0 ∷ [])
     ∷ (readies joins (replicate 4 (Open Unicast)) (replicate 5 closed), 1 ∷ 1 ∷ 1 ∷ 1 ∷ 1 ∷ [])
+    ∷ (readies joins (replicate 4 (Open Unicast)) (replicate 5 (shut 5 7 1)), 0 ∷ 0 ∷ 0 ∷ 0 ∷ 0 ∷ [])
+    ∷ (readies joins (replicate 4 (Aborted AllRemote)) (full ∷ shut 5 7 1 ∷ full ∷ shut 5 7 1 ∷ fresh ∷ []), 1 ∷ 0 ∷ 1 ∷ 0 ∷ 0 ∷ [])
     ∷ (readies joins (replicate 4 (Open Unicast)) (fresh ∷ full ∷ noOutput ∷ fresh ∷ full ∷ []), 0 ∷ 1 ∷ 0 ∷ 0 ∷ 1 ∷ [])
     ∷ []
 

@@ -16,6 +16,7 @@ use Rattle.model.specs.Network.{networkRefusal}
 use Rattle.model.specs.Router.{Choice, Chosen, Unserved, firstPort, gatherFrom, gather, spread, orElse, route}
 use Rattle.model.specs.NetInput.{Turn, Stay, To, occupy, marksOf, seek, inState}
 use Rattle.model.proofs.Made.{net}
+use Rattle.model.proofs.Shown.{out, shut}
 
 -- Four sites, T = 3. Site 0's ports 1, 2, 3 lead to sites 1, 2, 3, its port 4 to site 1 again; their ports 1 lead back.
 -- Its lists: ports 1, 4 to site 1; 2, 1 to site 2; 1, 3 to site 3.
@@ -29,11 +30,12 @@ pub hub-valid : networkRefusal hub ≡ 0
 unfolding networkRefusal all any
 hub-valid = refl
 
--- site 0's outputs: 1 for one in use, by another packet with the set {3}, 0 for an empty one
+-- site 0's outputs: 1 for one in use, by another packet with the set {3}, 2 for the same, closing, 0 for an empty one
 outputsOf : List ℕ → List Output
 outputsOf [] = []
 outputsOf (zero ∷ us) = noOutput ∷ outputsOf us
-outputsOf (suc u ∷ us) = record { set = 8; terminator = tNone; packet = 9; input = 4; used = true; head = true; closing = false } ∷ outputsOf us
+outputsOf (suc zero ∷ us) = out 9 8 4 true tNone ∷ outputsOf us
+outputsOf (suc (suc u) ∷ us) = shut 9 8 4 ∷ outputsOf us
 
 -- the connection's number and each output's set; nothing for no choice
 chosen : Choice → List ℕ
@@ -70,6 +72,11 @@ routes =
     ∷ (at (1 ∷ 1 ∷ 0 ∷ 0 ∷ 0 ∷ []) 7, 2 ∷ 0 ∷ 0 ∷ 0 ∷ 0 ∷ 7 ∷ [])
     ∷ (at (0 ∷ 1 ∷ 1 ∷ 0 ∷ 0 ∷ []) 6, 2 ∷ 0 ∷ 0 ∷ 0 ∷ 0 ∷ 6 ∷ [])
     ∷ (at (0 ∷ 1 ∷ 0 ∷ 0 ∷ 1 ∷ []) 6, [])
+    -- L6: a closing output "serves nobody"
+    ∷ (at (0 ∷ 2 ∷ 0 ∷ 0 ∷ 0 ∷ []) 2, 1 ∷ 0 ∷ 0 ∷ 0 ∷ 0 ∷ 2 ∷ [])
+    ∷ (at (0 ∷ 2 ∷ 0 ∷ 0 ∷ 2 ∷ []) 2, [])
+    ∷ (at (0 ∷ 0 ∷ 2 ∷ 0 ∷ 0 ∷ []) 6, 2 ∷ 0 ∷ 6 ∷ 0 ∷ 0 ∷ 0 ∷ [])
+    ∷ (at (0 ∷ 2 ∷ 2 ∷ 0 ∷ 0 ∷ []) 7, 2 ∷ 0 ∷ 0 ∷ 0 ∷ 0 ∷ 7 ∷ [])
     ∷ []
 
 pub routed : map (λ row. row .0) routes ≡ map (λ row. row .1) routes
@@ -98,6 +105,8 @@ asks =
     -- "At T, if output 0 is empty, the whole X goes to it, handed. Else nothing changes."
     ∷ (seeking 3 (0 ∷ 1 ∷ 0 ∷ 0 ∷ 1 ∷ []) 2, 2 ∷ 5 ∷ 3 ∷ 2 ∷ 8 ∷ 0 ∷ 0 ∷ 8 ∷ [])
     ∷ (seeking 3 (1 ∷ 1 ∷ 0 ∷ 0 ∷ 1 ∷ []) 2, [])
+    ∷ (seeking 2 (0 ∷ 2 ∷ 0 ∷ 0 ∷ 1 ∷ []) 2, 1 ∷ 0 ∷ 3 ∷ 0 ∷ 8 ∷ 0 ∷ 0 ∷ 8 ∷ [])
+    ∷ (seeking 3 (0 ∷ 2 ∷ 0 ∷ 0 ∷ 2 ∷ []) 2, 2 ∷ 5 ∷ 3 ∷ 2 ∷ 8 ∷ 0 ∷ 0 ∷ 8 ∷ [])
     ∷ []
 
 pub asked : map (λ row. row .0) asks ≡ map (λ row. row .1) asks

@@ -10,13 +10,14 @@ use Rattle.base.specs.Sums.{sum, isum}
 use Rattle.sets.specs.Sets.{has, plus, minus, sizeIn, lowest}
 use Rattle.draws.specs.Draws.{drawn, valueAfter}
 use Rattle.model.specs.Types.{Network, Run as StoredRun}
+use Rattle.model.specs.Network.{byEdition}
 use Rattle.model.specs.Router.{firstPort, gatherFrom, gather, spread, orElse, route}
 use Rattle.model.specs.NetInput.{hears, give, occupy, marksOf, seek, inState}
 use Rattle.model.specs.Places.{localOutput, deliver, channelOutput, outQueue, operate, cutAt}
 use Rattle.model.specs.Steps.{netOutput, act, run, enqueue}
 use Rattle.model.specs.Events.{Send, Run}
 use Rattle.model.specs.Owing.{owedPairs}
-use Rattle.model.specs.Runs.{bodyRefusal, storedRefusal, marked, scriptTo, script, bookBytes, played, playedRun, countsOf}
+use Rattle.model.specs.Runs.{bodyRefusal, storedRefusal, runBy, marked, scriptTo, script, bookBytes, played, playedRun, countsOf}
 use Rattle.model.proofs.Made.{net, runOn}
 
 -- "one site"
@@ -77,3 +78,10 @@ unfolding handRun playedRun played script scriptTo marked valueAfter drawn owedP
     minus sizeIn lowest trailingZeros firstPort gatherFrom gather spread orElse route hears give occupy marksOf seek
     inState localOutput deliver channelOutput outQueue operate cutAt netOutput act run enqueue
 hand-counts = refl
+
+-- L6: no channel, so the same by edition 2
+pub hand-held : bookBytes (playedRun (runBy 2 handRun) .book) ≡ 0 ∷ 7 ∷ 0 ∷ 0 ∷ []
+unfolding handRun runBy byEdition bookBytes playedRun played script scriptTo marked valueAfter drawn owedPairs sum isum
+    all any over has plus minus sizeIn lowest trailingZeros firstPort gatherFrom gather spread orElse route hears give
+    occupy marksOf seek inState localOutput deliver channelOutput outQueue operate cutAt netOutput act run enqueue
+hand-held = refl

@@ -6,7 +6,7 @@ use mathlib.Core.List.{List, [], _∷_, _++_, map}
 use lib.ListN.{replicate, take, length}
 use Rattle.base.specs.Sizes.{queueRoom}
 use Rattle.base.specs.Bools.{count}
-use Rattle.model.specs.Types.{Phase, Free, Seek, Open, Wait, Done, Last, Aborted, FinAbort, Terminator}
+use Rattle.model.specs.Types.{Phase, Free, Seek, Open, Wait, Done, Last, Aborted, FinAbort, Terminator, tNone}
 use Rattle.model.specs.Types.{Input, Output, OutEntry, InEntry, OutQueue, InQueue, noOutEntry, noInEntry}
 use Rattle.types.specs.Numbers.{stateNumber, connectionOf, receivedNumber, terminatorNumber}
 use Rattle.model.specs.NetInput.{Turn, Stay, To}
@@ -74,6 +74,10 @@ inp ph bs = record { set = 7; phase = ph; outputs = bs; packet = 5; tries = 2 }
 -- a net-output in use: packet, set, input, head, terminator
 abbrev pub out : ℕ → ℕ → ℕ → Bool → Terminator → Output
 out q X i head h = record { set = X; terminator = h; packet = q; input = i; used = true; head = head; closing = false }
+
+-- one that is closing: packet, set, input
+abbrev pub shut : ℕ → ℕ → ℕ → Output
+shut q X i = record { set = X; terminator = tNone; packet = q; input = i; used = true; head = true; closing = true }
 
 abbrev pub leaving : ℕ → ℕ → Bool → OutEntry
 leaving q X started = record { set = X; packet = q; started = started }
