@@ -21,6 +21,7 @@ stands (FinAbort c r) every own = not own
 abbrev pub waits : Input → (ℕ → Bool) → Bool
 waits y isReady = stands (y .phase) (allReady isReady (y .outputs)) (isReady 0)
 
--- a net-output that has nothing to pass on: empty, or its head taken and its terminator not come
+-- a net-output that has nothing to do: empty, or its head taken and its terminator not come; one that is closing has its channel
+-- to give up
 abbrev pub atRest : Output → Bool
 atRest o = not (o .used) || stalled o

@@ -10,7 +10,6 @@ use Rattle.base.specs.Sizes.{portCount, sitesMost}
 use Rattle.base.specs.Bools.{cond-ok, clash, implies, either-way}
 use Rattle.base.specs.All.{all-same}
 use Rattle.types.specs.declared.Phase.the-variants.{the-data as Phase, Free, Seek, Open, Wait, Done, Last, Abort as Aborted, FinAbort}
-use Rattle.types.specs.declared.Terminator.the-variants.{the-data as Terminator, None as tNone, End as tEnd, Abort as tAbort, KeepLocal as tKeep}
 use Rattle.types.specs.declared.Input.{Input}
 use Rattle.types.specs.declared.Output.{Output}
 use Rattle.types.specs.declared.Site.{Site}
@@ -19,7 +18,7 @@ use Rattle.model.specs.Types.{noInput, siteAt, inAt, outAt, mark, outOf, carrie
 use Rattle.model.specs.Network.{joined, channel, isChannel, endPort}
 use Rattle.types.specs.Phases.{listening}
 use Rattle.model.specs.NetInput.{Turn, Stay, To, allReady, hears, ready, inState, netInput}
-use Rattle.model.specs.Places.{Work, Rest, Cleared, Service, localOutput, deliver, channelOutput, outQueue, operator, timeout}
+use Rattle.model.specs.Places.{Work, Rest, Cleared, Service, localOutput, channelOutput, outQueue, operator, timeout}
 use Rattle.model.specs.Steps.{Act, ownTurn, passTurn, workDone, setBoth, netOutput, act, farEnd, ends}
 use Rattle.theorems.proofs.Networks.{Valid}
 use Rattle.theorems.proofs.Editions.{unjoined}

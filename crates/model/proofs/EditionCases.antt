@@ -103,7 +103,7 @@ marks =
     ∷ (marked 1 used-free, never)
     ∷ (marked 1 used-ended, never)
     ∷ (marked 4 used-aborted, never)
-    -- "The mark of an empty place is zero", also beyond S sites
+    -- "that are in use": an empty place has no mark, also beyond S sites
     ∷ (marked 1 unused, never)
     ∷ (marked 0 unused, never)
     ∷ (sited 2 (setOut noSite 1 unused), never)

@@ -3,7 +3,7 @@
 use Prim.Native.Nat.{ℕ, suc, _<_, _%_}
 use mathlib.Core.Path.{_≡_, refl, sym, ap, _∙_, subst, subst₂}
 use mathlib.Core.List.{List}
-use mathlib.Core.Bool.{true, false, cond, _&&_}
+use mathlib.Core.Bool.{true, false, _&&_}
 use native.Mathlib.Omega.{arith}
 use lib.Seq.{set-getD}
 use Rattle.base.specs.Sizes.{sitesMost, portCount}

@@ -1,5 +1,6 @@
 -- Document 02, L6: where the editions differ, and that nothing else does. A RUN other than that of the net-outputs 1 to 4 is the
--- same in every edition; so is every RUN where no channel is, and with it a stored run played. Assumes nothing.
+-- same in every edition; so is every RUN where no channel is, and with it a stored run played. Assumes nothing: the network, its
+-- edition and the state may be any.
 use Prim.Native.Nat.{ℕ, zero, suc, _+_, _-_, _≤_, _<_}
 use mathlib.Core.Path.{_≡_, refl, sym, ap, _∙_, fun-ext}
 use mathlib.Core.List.{List, [], _∷_}
@@ -112,13 +113,26 @@ module _ (e : ℕ) (n : Network) where
       (ap (ownTurn (setBoth x code)) (state-same s code (inAt x code) (x .outputs) isReady (inAt x code .phase))))
       (λ c. either-way (ltb code 10) (λ d. rw (c, d) (h d)) (λ d. rw (c, d) refl))
 
+  -- RUN, where it decides the same
+  run-by : (xs : List Site) (s code : ℕ)
+      → act other s (siteAt xs s) (ends n xs s) code ≡ act n s (siteAt xs s) (ends n xs s) code
+      → run other xs s code ≡ run n xs s code
+  unfolding run
+  run-by xs s code same =
+      let x = siteAt xs s in
+      ap (λ (f : ℕ → Input). patch other xs s (act other s x f code)) (ends-same xs s)
+      ∙ ap (patch other xs s) same ∙ patch-same xs s (act n s x (ends n xs s) code)
+
   -- the editions differ at the codes 6 to 9 alone
-  pub codes-same : (s : ℕ) (x : Site) (far : ℕ → Input) (code : ℕ) → (5 < code → code < 10 → ⊥)
+  codes-act : (s : ℕ) (x : Site) (far : ℕ → Input) (code : ℕ) → (5 < code → code < 10 → ⊥)
       → act other s x far code ≡ act n s x far code
   unfolding netOutput byEdition
-  codes-same s x far code apart =
+  codes-act s x far code apart =
       act-by s x far code
       (λ c. let z : code - 5 ≡ 0 = not-above code (ltb-true code 10 c) apart in rw z refl)
+
+  pub codes-same : (xs : List Site) (s code : ℕ) → (5 < code → code < 10 → ⊥) → run other xs s code ≡ run n xs s code
+  codes-same xs s code apart = run-by xs s code (codes-act s (siteAt xs s) (ends n xs s) code apart)
 
   -- ---- no channel
 
@@ -135,14 +149,11 @@ module _ (e : ℕ) (n : Network) where
         ap (passTurn x (suc j)) same
 
     pub bare-run : (xs : List Site) (s code : ℕ) → s < n .sites → run other xs s code ≡ run n xs s code
-    unfolding run
     bare-run xs s code hs =
         let x = siteAt xs s in
         let far = ends n xs s in
-        let same =
-        act-by s x far code (λ c. output-same s x far (code - 5) hs (omega (arith, ltb-true code 10 c))) in
-        ap (λ (f : ℕ → Input). patch other xs s (act other s x f code)) (ends-same xs s)
-        ∙ ap (patch other xs s) same ∙ patch-same xs s (act n s x far code)
+        run-by xs s code
+        (act-by s x far code (λ c. output-same s x far (code - 5) hs (omega (arith, ltb-true code 10 c))))
 
     step-same : (g : Played) (d : ℕ) (v : Event) → Named (n .sites) v → advance other g d v ≡ advance n g d v
     unfolding byEdition

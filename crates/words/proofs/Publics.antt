@@ -51,7 +51,8 @@ module _ (n : Network) (c : List ℕ) where
   unfolding sharedRefusal
   shared-network k e ne = rw (← e, ne-eqb k 0 ne) refl
 
-  pub shared-fit : (k : ℕ) (a b : Bool) → k ≡ networkRefusal n → k ≡ 0 → b ≡ isState c && inRange (networkBy 0 (n .edition) (n .sites) (n .depth) (n .tries) [] []) st
+  pub shared-fit : (k : ℕ) (a b : Bool) → k ≡ networkRefusal n → k ≡ 0
+      → b ≡ isState c && inRange (networkBy 0 (n .edition) (n .sites) (n .depth) (n .tries) [] []) st
       → b ≡ a → cond a 0 13 ≡ sharedRefusal n c
   unfolding sharedRefusal
   shared-fit k a b e z f g =

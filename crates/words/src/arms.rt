@@ -32,7 +32,7 @@ use crate::turns::queue_turn;
 use crate::turns::timeout_turn;
 use types::Ran;
 
-// Whether net-output j has nothing to pass on: it is empty, or its head is taken and its terminator has not come.
+// Whether net-output j has nothing to do: it is empty, or its head is taken and its terminator has not come.
 fn is_at_rest(words: &[u64], s: usize, j: usize) -> bool
     requires { ⌜ (s < sitesMost) × (j < outputCount) × (length (now words) ≡ wordCount) ⌝ }
     ensures { λ r. ⌜ r ≡ atRest (outAt (siteIn (now (words .entry)) s) j) ⌝ }

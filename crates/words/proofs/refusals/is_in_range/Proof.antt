@@ -19,7 +19,8 @@ use Rattle.words.proofs.load.load_counter.Reads as load-counter-reads
 use Rattle.words.proofs.load.load_site.Reads as load-site-reads
 
 abbrev Inv-loop : tie.InvT-loop
-Inv-loop edition sites tries depth words counter ok₀ s₀ ok s = (s ≤ sitesMost) × (ok ≡ all (λ t. placeOk edition sites tries depth counter t (siteAt (sitesOf words) t)) s)
+Inv-loop edition sites tries depth words counter ok₀ s₀ ok s =
+    (s ≤ sitesMost) × (ok ≡ all (λ t. placeOk edition sites tries depth counter t (siteAt (sitesOf words) t)) s)
 
 abbrev μ-loop : tie.MeasureT-loop
 μ-loop edition sites tries depth words counter ok₀ s₀ ok s = sitesMost - s
