@@ -53,7 +53,7 @@ static size_t moves_answer(enum call call, size_t room, size_t refusal)
     if (refusal != 0) {
         return refusal;
     }
-    if (call == BACK && job.bytes[4] > 16) {
+    if (call == BACK && (job.bytes[4] > 16 || job.bytes[3] != 1)) {
         return 15;
     }
     return room < moved_length() ? FENNQUALO_ROOM : 0;
