@@ -61,8 +61,8 @@ extern "C" {
 #define FENNQUALO_ROOM 14
 
 /*
- * The stack that a call takes, in bytes, from its return address down: the most that was measured on x86-64 (213, 245,
- * 357, 357 and 54,536 bytes, over the corpus and archives cut and damaged from it, 64 sites among them), rounded up. It is
+ * The stack that a call takes, in bytes, from its return address down: the most that was measured on x86-64 (221, 253,
+ * 365, 365 and 54,600 bytes, over the corpus and archives cut and damaged from it, 64 sites among them), rounded up. It is
  * measured, not proved; memcpy and memset are the caller's own, and those of glibc are counted in.
  */
 #define FENNQUALO_CHECK_STACK 320
