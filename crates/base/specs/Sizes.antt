@@ -12,9 +12,16 @@ firstSites = 16
 abbrev pub inputCount : ℕ
 inputCount = 5
 
--- net-outputs of a site
+-- net-outputs of a site, the split output among them, and its number
 abbrev pub outputCount : ℕ
-outputCount = 5
+outputCount = 6
+
+abbrev pub splitPort : ℕ
+splitPort = 5
+
+-- in-queues of a site: that of output 0, and that of the split output
+abbrev pub inQueueCount : ℕ
+inQueueCount = 2
 
 -- ports of a site that a channel may join: 1 to 4
 abbrev pub portCount : ℕ
@@ -24,9 +31,12 @@ portCount = 4
 abbrev pub queueRoom : ℕ
 queueRoom = 8
 
--- codes of RUN
+-- codes of RUN, and with those of the split output and its operator
 abbrev pub codeCount : ℕ
 codeCount = 13
+
+abbrev pub splitCodeCount : ℕ
+splitCodeCount = 15
 
 -- the channel of an output that is joined to nothing
 abbrev pub noChannel : ℕ

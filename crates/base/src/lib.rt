@@ -9,14 +9,20 @@ pub const SITES: usize = 64;
 pub const FIRST_SITES: usize = 16;
 // Net-inputs of a site.
 pub const INPUTS: usize = 5;
-// Net-outputs of a site.
-pub const OUTPUTS: usize = 5;
+// Net-outputs of a site, the split output among them, and its number.
+pub const OUTPUTS: usize = 6;
+
+pub const SPLIT_PORT: usize = 5;
+// In-queues of a site: that of output 0, and that of the split output.
+pub const IN_QUEUES: usize = 2;
 // Ports of a site that a channel may join: 1 to 4.
 pub const PORTS: usize = 4;
 // Places of a queue.
 pub const QUEUE: usize = 8;
-// Codes of RUN.
+// Codes of RUN, and with those of the split output and its operator.
 pub const CODES: usize = 13;
+
+pub const SPLIT_CODES: usize = 15;
 // The channel of an output that is joined to nothing.
 pub const NO_CHANNEL: u16 = 65535;
 // Stored sends at most.

@@ -11,9 +11,9 @@ use lib.Arith.{mod-mul}
 use lib.Bits.{bitXor, xor-lt, xor-add-and, and-le-l, and-le-r, shifted-half, shifted-even}
 use lib.Dec.{leb, lit<}
 use lib.Pow.{pow-pos, shr-le}
-use Rattle.base.specs.Bools.{and}
-use Rattle.base.specs.Sizes.{sitesMost, codeCount}
-use Rattle.draws.specs.Draws.{leftXor, rightXor, drawn, valueAfter, drawnNumber, drawnSite, drawnCode, eventOf}
+use Rattle.base.specs.Bools.{and, cond-ok}
+use Rattle.base.specs.Sizes.{sitesMost, codeCount, splitCodeCount}
+use Rattle.draws.specs.Draws.{leftXor, rightXor, drawn, valueAfter, restricted, codesIn, drawnNumber, drawnSite, drawnCode, eventOf}
 
 -- ---- values
 
@@ -67,18 +67,31 @@ value-more k seed = rw (add-one k) refl
 
 -- ---- events
 
-pub site-below : (S value : ℕ) → 1 ≤ S → drawnSite S value < S
-site-below S value h = omega (arith, mod-lt value {m = codeCount * S} (omega arith))
+-- an edition has thirteen codes or fifteen: what holds of both numbers holds of an edition's
+by-codes : (P : ℕ → Type 0) (edition : ℕ) → P codeCount → P splitCodeCount → P (codesIn edition)
+by-codes P edition a b = cond-ok P (restricted edition) splitCodeCount codeCount (λ h. b) (λ h. a)
 
-pub code-below : (S value : ℕ) → drawnCode S value < codeCount
-code-below S value = mod-lt (drawnNumber S value) (lit< tt)
+pub codes-some : (edition : ℕ) → codeCount ≤ codesIn edition
+codes-some edition = by-codes (λ n. codeCount ≤ n) edition (omega arith) (omega arith)
 
-pub event-named : (S value : ℕ) → 1 ≤ S → S ≤ sitesMost
-    → eventOf S value ≡ record { refusal = 0; site = drawnSite S value; code = drawnCode S value }
+pub codes-most : (edition : ℕ) → codesIn edition ≤ splitCodeCount
+codes-most edition = by-codes (λ n. n ≤ splitCodeCount) edition (omega arith) (omega arith)
+
+pub site-below : (edition S value : ℕ) → 1 ≤ S → drawnSite edition S value < S
+site-below edition S value h =
+    by-codes (λ n. value % (n * S) / n < S) edition (omega (arith, mod-lt value {m = codeCount * S} (omega arith)))
+    (omega (arith, mod-lt value {m = splitCodeCount * S} (omega arith)))
+
+pub code-below : (edition S value : ℕ) → drawnCode edition S value < codesIn edition
+code-below edition S value =
+    by-codes (λ n. value % (n * S) % n < n) edition (mod-lt (value % (codeCount * S)) (lit< tt)) (mod-lt (value % (splitCodeCount * S)) (lit< tt))
+
+pub event-named : (edition S value : ℕ) → 1 ≤ S → S ≤ sitesMost
+    → eventOf edition S value ≡ record { refusal = 0; site = drawnSite edition S value; code = drawnCode edition S value }
 unfolding eventOf
-event-named S value h k = rw (and (leb 1 S) (leb S sitesMost) (le-leb 1 S h) (le-leb S sitesMost k)) refl
+event-named edition S value h k = rw (and (leb 1 S) (leb S sitesMost) (le-leb 1 S h) (le-leb S sitesMost k)) refl
 
-pub event-refused : (S value : ℕ) → leb 1 S && leb S sitesMost ≡ false
-    → eventOf S value ≡ record { refusal = 3; site = 0; code = 0 }
+pub event-refused : (edition S value : ℕ) → leb 1 S && leb S sitesMost ≡ false
+    → eventOf edition S value ≡ record { refusal = 3; site = 0; code = 0 }
 unfolding eventOf
-event-refused S value h = rw h refl
+event-refused edition S value h = rw h refl

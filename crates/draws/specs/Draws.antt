@@ -1,9 +1,9 @@
 -- Draws, and the event that a draw names. The quoted phrases are document 01's. Assumes nothing.
-use mathlib.Core.Bool.{cond, _&&_}
+use mathlib.Core.Bool.{Bool, cond, _&&_}
 use Prim.Native.Nat.{ℕ, zero, suc, _*_, _/_, _%_, _^_}
 use lib.Bits.{bitXor}
-use lib.Dec.{leb}
-use Rattle.base.specs.Sizes.{sitesMost, codeCount}
+use lib.Dec.{eqb, leb}
+use Rattle.base.specs.Sizes.{sitesMost, codeCount, splitCodeCount}
 use Rattle.draws.specs.declared.DrawnEvent.{DrawnEvent}
 
 -- "32 bits": a value with itself shifted left by k, cut to 32 bits, xored into it
@@ -24,19 +24,27 @@ unfoldable pub valueAfter : ℕ → ℕ → ℕ
 valueAfter zero seed = seed
 valueAfter (suc k) seed = drawn (valueAfter k seed)
 
+-- L10: "the scheme of source document 001 as edition 3": whether an edition is the restricted one
+abbrev pub restricted : ℕ → Bool
+restricted edition = eqb edition 3
+
+-- L10: "with codes 13 (output) and 14 (its operator); draws then use 15 in place of 13": the codes of an edition
+abbrev pub codesIn : ℕ → ℕ
+codesIn edition = cond (restricted edition) splitCodeCount codeCount
+
 -- "With m the value modulo 13S"
-abbrev pub drawnNumber : ℕ → ℕ → ℕ
-drawnNumber S value = value % (codeCount * S)
+abbrev pub drawnNumber : ℕ → ℕ → ℕ → ℕ
+drawnNumber edition S value = value % (codesIn edition * S)
 
 -- "the event is RUN (m / 13, m mod 13), whole division."
-abbrev pub drawnSite : ℕ → ℕ → ℕ
-drawnSite S value = drawnNumber S value / codeCount
+abbrev pub drawnSite : ℕ → ℕ → ℕ → ℕ
+drawnSite edition S value = drawnNumber edition S value / codesIn edition
 
-abbrev pub drawnCode : ℕ → ℕ → ℕ
-drawnCode S value = drawnNumber S value % codeCount
+abbrev pub drawnCode : ℕ → ℕ → ℕ → ℕ
+drawnCode edition S value = drawnNumber edition S value % codesIn edition
 
 -- the event in a network of S sites; "3 | S, T or D outside its limits", and "A refusal's other numbers are zero."
-unfoldable pub eventOf : ℕ → ℕ → DrawnEvent
-eventOf S value =
-    cond (leb 1 S && leb S sitesMost) (record { refusal = 0; site = drawnSite S value; code = drawnCode S value })
+unfoldable pub eventOf : ℕ → ℕ → ℕ → DrawnEvent
+eventOf edition S value =
+    cond (leb 1 S && leb S sitesMost) (record { refusal = 0; site = drawnSite edition S value; code = drawnCode edition S value })
     (record { refusal = 3; site = 0; code = 0 })

@@ -1,6 +1,8 @@
 // Draws: the next value of the 32-bit xorshift, and the event that a value names. Both take anything.
 // specs/Draws.antt has the definitions.
 ghost use mathlib.Core.Path.{_≡_};
+ghost use Prim.Native.Nat.{_*_, _/_, _%_, _≤_};
+ghost use Rattle.base.specs.Sizes.{sitesMost, codeCount, splitCodeCount};
 ghost use Rattle.draws.specs.Draws as spec;
 
 // The event RUN (site, code) that a value names; with a refusal other than 0 it names none, and both are 0.
@@ -19,17 +21,39 @@ pub fn draw(x: u32) -> u32
     b ^ (b << 5)
 }
 
-// The event that a value names in a network of so many sites; refusal 3 where no network has so many.
-pub fn event_of(value: u32, sites: usize) -> DrawnEvent
-    ensures { λ r. ⌜ r ≡ spec.eventOf sites value ⌝ }
+// The codes of RUN in an edition: fifteen in edition 3, else thirteen.
+pub fn codes_in(edition: u8) -> usize
+    ensures { λ r. ⌜ r ≡ spec.codesIn edition ⌝ }
+{
+    if edition == 3 {
+        base::SPLIT_CODES
+    } else {
+        base::CODES
+    }
+}
+
+// The event that a value names among so many sites and codes.
+fn named(value: u32, sites: usize, codes: usize) -> DrawnEvent
+    requires { ⌜ (1 ≤ sites) × (sites ≤ sitesMost) × (codeCount ≤ codes) × (codes ≤ splitCodeCount) ⌝ }
+    ensures { λ r. ⌜ r ≡ record { refusal = 0; site = value % (codes * sites) / codes; code = value % (codes * sites) % codes } ⌝ }
+{
+    let m = (value as usize) % (codes * sites);
+    DrawnEvent {
+        refusal: 0,
+        site: m / codes,
+        code: m % codes,
+    }
+}
+
+// The event that a value names in a network of so many sites by an edition's codes; refusal 3 where no network has so many.
+pub fn event_of(value: u32, sites: usize, edition: u8) -> DrawnEvent
+    ensures { λ r. ⌜ r ≡ spec.eventOf edition sites value ⌝ }
 {
     if (1 <= sites) & (sites <= base::SITES) {
-        let m = (value as usize) % (base::CODES * sites);
-        return DrawnEvent {
-            refusal: 0,
-            site: m / base::CODES,
-            code: m % base::CODES,
-        };
+        if edition == 3 {
+            return named(value, sites, base::SPLIT_CODES);
+        }
+        return named(value, sites, base::CODES);
     }
     DrawnEvent {
         refusal: 3,

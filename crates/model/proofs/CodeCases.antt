@@ -14,7 +14,7 @@ use Rattle.base.specs.Sums.{sum}
 use Rattle.sets.specs.Sets.{has, plus, minus, sizeIn, lowest}
 use Rattle.model.specs.Types.{Unicast, Passthru, SomeLocal, gotEnd, tNone, tEnd, tAbort}
 use Rattle.model.specs.Types.{Phase, Seek, Open, Wait, Done, Aborted}
-use Rattle.model.specs.Types.{Site, Network, noMarks, noSite, inAt, outAt, setIn, setOut, withOutQueue, withInQueue}
+use Rattle.model.specs.Types.{Site, Network, noMarks, noSite, inAt, outAt, queueAt, setIn, setOut, setQueue, withOutQueue}
 use Rattle.types.specs.Numbers.{ranNumbers, answerOf}
 use Rattle.model.specs.Network.{networkRefusal}
 use Rattle.model.specs.Router.{firstPort, gatherFrom, gather, spread, orElse, route}
@@ -37,7 +37,7 @@ unfolding networkRefusal all
 crossed-valid = refl
 
 -- the places of a site that are in use, each behind a number: net-inputs 0 to 4, net-outputs 5 to 9 and the out-queue 10, as
--- their codes are, the in-queue 11; of a queue its count and so many entries
+-- their codes are, the in-queue 11, the split output 13 and its in-queue 14; of a queue its count and so many entries
 abbrev pub inUse : ℕ → List ℕ → List ℕ
 inUse m ms = cond (eqb (sum (λ v. v) ms) 0) [] (m ∷ ms)
 
@@ -46,7 +46,9 @@ places x =
     each (λ i. inUse i (ofInput (inAt x i))) (0 ∷ 1 ∷ 2 ∷ 3 ∷ 4 ∷ [])
     ++ each (λ j. inUse (5 + j) (ofOutput (outAt x j) ∷ [])) (0 ∷ 1 ∷ 2 ∷ 3 ∷ 4 ∷ [])
     ++ inUse 10 (take (1 + x .outgoing .count) (ofOutQueue (x .outgoing)))
-    ++ inUse 11 (take (1 + x .incoming .count) (ofInQueue (x .incoming)))
+    ++ inUse 11 (take (1 + queueAt x 0 .count) (ofInQueue (queueAt x 0)))
+    ++ inUse 13 (ofOutput (outAt x 5) ∷ [])
+    ++ inUse 14 (take (1 + queueAt x 1 .count) (ofInQueue (queueAt x 1)))
 
 -- RUN's answers to the codes 0 to 12 at site 0, site 0 being x, the others empty
 abbrev answers : Site → List ℕ
@@ -70,11 +72,11 @@ abbrev leaves : Site
 leaves = withOutQueue noSite (outQ (leaving 6 3 false ∷ []))
 
 abbrev arrives : Site
-arrives = withInQueue noSite (inQ (arrived 6 3 tEnd ∷ []))
+arrives = setQueue noSite 0 (inQ (arrived 6 3 tEnd ∷ []))
 
 abbrev stalls : Site
 stalls =
-    withInQueue (setIn (setOut noSite 0 (out 5 7 3 true tNone)) 3 (inp (Open SomeLocal) alone)) (inQ (arrived 5 7 tNone ∷ []))
+    setQueue (setIn (setOut noSite 0 (out 5 7 3 true tNone)) 3 (inp (Open SomeLocal) alone)) 0 (inQ (arrived 5 7 tNone ∷ []))
 
 pub turns : List (List ℕ × List ℕ)
 turns =

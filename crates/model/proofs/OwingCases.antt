@@ -54,9 +54,10 @@ crowded =
           ∷ out 5 7 0 true tNone
           ∷ out 5 4 2 false tEnd
           ∷ out 5 7 3 true tAbort
+          ∷ noOutput
           ∷ [];
       outgoing = outQ (leaving 5 2 true ∷ leaving 5 5 false ∷ []);
-      incoming = inQ (arrived 5 3 tEnd ∷ arrived 5 2 tKeep ∷ arrived 5 7 tAbort ∷ arrived 5 7 tNone ∷ []);
+      incoming = inQ (arrived 5 3 tEnd ∷ arrived 5 2 tKeep ∷ arrived 5 7 tAbort ∷ arrived 5 7 tNone ∷ []) ∷ inQ [] ∷ [];
     }
 
 pub debts : List (List ℕ × List ℕ)

@@ -11,7 +11,7 @@ use Rattle.model.specs.Types.{Unicast, Passthru, AllRemote, SomeLocal, H
 use Rattle.model.specs.Types.{Terminator, tNone, tEnd, tAbort, tKeep}
 use Rattle.model.specs.Types.{Phase, Free, Seek, Open, Wait, Done, Last, Aborted, FinAbort}
 use Rattle.model.specs.Types.{Input, Output, OutEntry, InEntry, Site, State, Network, noMarks, noInput, noOutput, noState}
-use Rattle.model.specs.Types.{siteAt, withOutQueue, withInQueue, setIn, setOut, setSite}
+use Rattle.model.specs.Types.{siteAt, queueAt, withOutQueue, setIn, setOut, setQueue, setSite}
 use Rattle.model.specs.Range.{inRange}
 use Rattle.model.proofs.Made.{net}
 
@@ -46,7 +46,7 @@ outgoing : ℕ → OutEntry → ℕ → Site → Site
 outgoing m d c x = withOutQueue x (record { entries = set (x .outgoing .entries) m d; count = c })
 
 incoming : ℕ → InEntry → ℕ → Site → Site
-incoming m a c x = withInQueue x (record { entries = set (x .incoming .entries) m a; count = c })
+incoming m a c x = setQueue x 0 (record { entries = set (queueAt x 0 .entries) m a; count = c })
 
 at : ℕ → (Site → Site) → State → State
 at s f st = record { sites = setSite (st .sites) s (f (siteAt (st .sites) s)); counter = st .counter }

@@ -48,35 +48,35 @@ at us X = chosen (route hub 0 (outputsOf us) X)
 pub routes : List (List ℕ × List ℕ)
 routes =
     -- "X = {s}: output 0, unicast."
-    (at (0 ∷ 0 ∷ 0 ∷ 0 ∷ 0 ∷ []) 1, 1 ∷ 1 ∷ 0 ∷ 0 ∷ 0 ∷ 0 ∷ [])
+    (at (0 ∷ 0 ∷ 0 ∷ 0 ∷ 0 ∷ []) 1, 1 ∷ 1 ∷ 0 ∷ 0 ∷ 0 ∷ 0 ∷ 0 ∷ [])
     ∷ (at (1 ∷ 0 ∷ 0 ∷ 0 ∷ 0 ∷ []) 1, [])
     -- "X = {t}, another site: the first empty output in t's list, unicast."
-    ∷ (at (0 ∷ 0 ∷ 0 ∷ 0 ∷ 0 ∷ []) 2, 1 ∷ 0 ∷ 2 ∷ 0 ∷ 0 ∷ 0 ∷ [])
-    ∷ (at (0 ∷ 1 ∷ 0 ∷ 0 ∷ 0 ∷ []) 2, 1 ∷ 0 ∷ 0 ∷ 0 ∷ 0 ∷ 2 ∷ [])
+    ∷ (at (0 ∷ 0 ∷ 0 ∷ 0 ∷ 0 ∷ []) 2, 1 ∷ 0 ∷ 2 ∷ 0 ∷ 0 ∷ 0 ∷ 0 ∷ [])
+    ∷ (at (0 ∷ 1 ∷ 0 ∷ 0 ∷ 0 ∷ []) 2, 1 ∷ 0 ∷ 0 ∷ 0 ∷ 0 ∷ 2 ∷ 0 ∷ [])
     ∷ (at (0 ∷ 1 ∷ 0 ∷ 0 ∷ 1 ∷ []) 2, [])
-    ∷ (at (0 ∷ 0 ∷ 0 ∷ 0 ∷ 0 ∷ []) 4, 1 ∷ 0 ∷ 0 ∷ 4 ∷ 0 ∷ 0 ∷ [])
+    ∷ (at (0 ∷ 0 ∷ 0 ∷ 0 ∷ 0 ∷ []) 4, 1 ∷ 0 ∷ 0 ∷ 4 ∷ 0 ∷ 0 ∷ 0 ∷ [])
     -- "Two or more targets ..: split: each remote output gets its own targets, output 0 gets the whole X; some-local if s is
     -- in X, else all-remote."
-    ∷ (at (0 ∷ 0 ∷ 0 ∷ 0 ∷ 0 ∷ []) 6, 3 ∷ 6 ∷ 2 ∷ 4 ∷ 0 ∷ 0 ∷ [])
-    ∷ (at (0 ∷ 0 ∷ 0 ∷ 0 ∷ 0 ∷ []) 7, 4 ∷ 7 ∷ 2 ∷ 4 ∷ 0 ∷ 0 ∷ [])
-    ∷ (at (0 ∷ 0 ∷ 0 ∷ 0 ∷ 0 ∷ []) 14, 3 ∷ 14 ∷ 10 ∷ 4 ∷ 0 ∷ 0 ∷ [])
+    ∷ (at (0 ∷ 0 ∷ 0 ∷ 0 ∷ 0 ∷ []) 6, 3 ∷ 6 ∷ 2 ∷ 4 ∷ 0 ∷ 0 ∷ 0 ∷ [])
+    ∷ (at (0 ∷ 0 ∷ 0 ∷ 0 ∷ 0 ∷ []) 7, 4 ∷ 7 ∷ 2 ∷ 4 ∷ 0 ∷ 0 ∷ 0 ∷ [])
+    ∷ (at (0 ∷ 0 ∷ 0 ∷ 0 ∷ 0 ∷ []) 14, 3 ∷ 14 ∷ 10 ∷ 4 ∷ 0 ∷ 0 ∷ 0 ∷ [])
     -- "empty or already chosen for this packet"; "where a single remote output was chosen and s isn't in X, passthru on it
     -- with X, output 0 not taken."
-    ∷ (at (0 ∷ 0 ∷ 0 ∷ 0 ∷ 0 ∷ []) 10, 2 ∷ 0 ∷ 10 ∷ 0 ∷ 0 ∷ 0 ∷ [])
-    ∷ (at (0 ∷ 0 ∷ 1 ∷ 0 ∷ 0 ∷ []) 6, 2 ∷ 0 ∷ 6 ∷ 0 ∷ 0 ∷ 0 ∷ [])
+    ∷ (at (0 ∷ 0 ∷ 0 ∷ 0 ∷ 0 ∷ []) 10, 2 ∷ 0 ∷ 10 ∷ 0 ∷ 0 ∷ 0 ∷ 0 ∷ [])
+    ∷ (at (0 ∷ 0 ∷ 1 ∷ 0 ∷ 0 ∷ []) 6, 2 ∷ 0 ∷ 6 ∷ 0 ∷ 0 ∷ 0 ∷ 0 ∷ [])
     -- a single remote output and s in X: split
-    ∷ (at (0 ∷ 0 ∷ 0 ∷ 0 ∷ 0 ∷ []) 11, 4 ∷ 11 ∷ 10 ∷ 0 ∷ 0 ∷ 0 ∷ [])
+    ∷ (at (0 ∷ 0 ∷ 0 ∷ 0 ∷ 0 ∷ []) 11, 4 ∷ 11 ∷ 10 ∷ 0 ∷ 0 ∷ 0 ∷ 0 ∷ [])
     -- "Otherwise, with two or more targets: passthru of the whole X to the first empty output in the list of the lowest t
     -- other than s."
-    ∷ (at (1 ∷ 0 ∷ 0 ∷ 0 ∷ 0 ∷ []) 11, 2 ∷ 0 ∷ 11 ∷ 0 ∷ 0 ∷ 0 ∷ [])
-    ∷ (at (1 ∷ 1 ∷ 0 ∷ 0 ∷ 0 ∷ []) 7, 2 ∷ 0 ∷ 0 ∷ 0 ∷ 0 ∷ 7 ∷ [])
-    ∷ (at (0 ∷ 1 ∷ 1 ∷ 0 ∷ 0 ∷ []) 6, 2 ∷ 0 ∷ 0 ∷ 0 ∷ 0 ∷ 6 ∷ [])
+    ∷ (at (1 ∷ 0 ∷ 0 ∷ 0 ∷ 0 ∷ []) 11, 2 ∷ 0 ∷ 11 ∷ 0 ∷ 0 ∷ 0 ∷ 0 ∷ [])
+    ∷ (at (1 ∷ 1 ∷ 0 ∷ 0 ∷ 0 ∷ []) 7, 2 ∷ 0 ∷ 0 ∷ 0 ∷ 0 ∷ 7 ∷ 0 ∷ [])
+    ∷ (at (0 ∷ 1 ∷ 1 ∷ 0 ∷ 0 ∷ []) 6, 2 ∷ 0 ∷ 0 ∷ 0 ∷ 0 ∷ 6 ∷ 0 ∷ [])
     ∷ (at (0 ∷ 1 ∷ 0 ∷ 0 ∷ 1 ∷ []) 6, [])
     -- L6: a closing output "serves nobody"
-    ∷ (at (0 ∷ 2 ∷ 0 ∷ 0 ∷ 0 ∷ []) 2, 1 ∷ 0 ∷ 0 ∷ 0 ∷ 0 ∷ 2 ∷ [])
+    ∷ (at (0 ∷ 2 ∷ 0 ∷ 0 ∷ 0 ∷ []) 2, 1 ∷ 0 ∷ 0 ∷ 0 ∷ 0 ∷ 2 ∷ 0 ∷ [])
     ∷ (at (0 ∷ 2 ∷ 0 ∷ 0 ∷ 2 ∷ []) 2, [])
-    ∷ (at (0 ∷ 0 ∷ 2 ∷ 0 ∷ 0 ∷ []) 6, 2 ∷ 0 ∷ 6 ∷ 0 ∷ 0 ∷ 0 ∷ [])
-    ∷ (at (0 ∷ 2 ∷ 2 ∷ 0 ∷ 0 ∷ []) 7, 2 ∷ 0 ∷ 0 ∷ 0 ∷ 0 ∷ 7 ∷ [])
+    ∷ (at (0 ∷ 0 ∷ 2 ∷ 0 ∷ 0 ∷ []) 6, 2 ∷ 0 ∷ 6 ∷ 0 ∷ 0 ∷ 0 ∷ 0 ∷ [])
+    ∷ (at (0 ∷ 2 ∷ 2 ∷ 0 ∷ 0 ∷ []) 7, 2 ∷ 0 ∷ 0 ∷ 0 ∷ 0 ∷ 7 ∷ 0 ∷ [])
     ∷ []
 
 pub routed : map (λ row. row .0) routes ≡ map (λ row. row .1) routes

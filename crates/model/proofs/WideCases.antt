@@ -1,4 +1,4 @@
--- Tables typed from document 02, L4 and L6: version, edition, sites and channels of both versions, in the order 2, 17, 3, 6, 7;
+-- Tables typed from document 02, L4, L6 and L10: version, edition, sites and channels of both versions, in the order 2, 17, 3, 6, 7;
 -- and the last of 64 sites: its bit in a set, its own service.
 use Prim.Native.Nat.{ℕ, _+_, _-_, _^_}
 use mathlib.Core.Path.{_≡_, refl}
@@ -8,7 +8,7 @@ use Rattle.base.specs.Sizes.{noChannel}
 use Rattle.base.specs.All.{all}
 use Rattle.sets.specs.Sets.{has, minus}
 use Rattle.types.specs.Numbers.{ranNumbers}
-use Rattle.model.specs.Types.{Network, Site, InEntry, tNone, tEnd, tKeep, noSite, noState, withInQueue, setSite}
+use Rattle.model.specs.Types.{Network, Site, InEntry, tNone, tEnd, tKeep, noSite, noState, setQueue, setSite}
 use Rattle.model.specs.Network.{networkRefusal}
 use Rattle.model.specs.Places.{operate}
 use Rattle.model.specs.Steps.{act, run}
@@ -26,9 +26,9 @@ one version edition = netIn version edition 0 0 1 1 1 (0 ∷ noChannel ∷ noCha
 abbrev bare : ℕ → ℕ → List ℕ → Network
 bare version S cs = netIn version 1 noChannel 0 S 3 1 cs []
 
--- the same of edition 3
+-- the same of edition 4
 abbrev unknown : ℕ → ℕ → List ℕ → Network
-unknown version S cs = netIn version 3 noChannel 0 S 3 1 cs []
+unknown version S cs = netIn version 4 noChannel 0 S 3 1 cs []
 
 pub networks : List (Network × ℕ)
 networks =
@@ -40,7 +40,7 @@ networks =
     ∷ (one 255 1, 2)
     -- "17, an edition unknown or not 1 in version 1"
     ∷ (one 2 0, 17)
-    ∷ (one 2 3, 17)
+    ∷ (one 2 4, 17)
     ∷ (one 2 255, 17)
     ∷ (one 1 0, 17)
     ∷ (one 1 2, 17)
@@ -49,6 +49,11 @@ networks =
     ∷ (one 2 2, 0)
     ∷ (netIn 2 2 noChannel 0 65 3 1 (65534 ∷ []) [], 3)
     ∷ (netIn 1 2 noChannel 0 17 3 1 (65534 ∷ []) [], 17)
+    -- L10: "17 accepts edition 3"
+    ∷ (one 2 3, 0)
+    ∷ (netIn 2 3 noChannel 0 65 3 1 (65534 ∷ []) [], 3)
+    ∷ (netIn 1 3 noChannel 0 17 3 1 (65534 ∷ []) [], 17)
+    ∷ (one 3 3, 2)
     -- 2 before 17, 17 before 3
     ∷ (one 3 2, 2)
     ∷ (one 0 2, 2)
@@ -96,7 +101,7 @@ sends = refl
 -- ---- the operator of site 63, an entry of packet 7 at the in-queue's front: answer, packet, site
 
 abbrev sites : InEntry → List Site
-sites a = setSite (noState .sites) 63 (withInQueue noSite (inQ (a ∷ [])))
+sites a = setSite (noState .sites) 63 (setQueue noSite 0 (inQ (a ∷ [])))
 
 abbrev answer : InEntry → List ℕ
 answer a = ranNumbers (run (bare 2 64 []) (sites a) 63 11 .answer)

@@ -100,7 +100,7 @@ abbrev lacking : InEntry
 lacking = arrived 5 7 tNone
 
 abbrev late : List InEntry → List Output → Input → List ℕ
-late es os y = ofTurn ofInput (map ofOutput) (timeout (inQ es) os y)
+late es os y = ofTurn ofInput (map ofOutput) (timeout 1 (inQ es) os y)
 
 abbrev cut : Phase → List Bool → List ℕ
 cut ph bs = late (lacking ∷ []) (outs zeroth) (inp ph bs)

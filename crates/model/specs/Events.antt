@@ -4,10 +4,11 @@ use Prim.Native.Nat.{ℕ, _+_}
 use mathlib.Core.List.{List, [], _∷_}
 use mathlib.Core.Bool.{Bool, cond, _&&_}
 use lib.Dec.{eqb, ltb}
-use Rattle.base.specs.Sizes.{codeCount, packetsMost}
+use Rattle.base.specs.Sizes.{packetsMost}
 use Rattle.base.specs.Bools.{count}
 use Rattle.base.specs.Answers.{orNext}
 use Rattle.sets.specs.Sets.{targets}
+use Rattle.draws.specs.Draws.{codesIn}
 use Rattle.model.specs.Types.{State, Network, Sent, Accepted, SendRefused, Ran, RunRefused, AfterSend, AfterRun, siteAt}
 use Rattle.types.specs.Numbers.{sentRefusal, sentPacket, answerOf, ranPacket, ranSite}
 use Rattle.model.specs.Network.{networkRefusal}
@@ -18,9 +19,9 @@ use Rattle.model.specs.Steps.{run, enqueue}
 abbrev pub refusalThen : Network → State → ℕ → ℕ
 refusalThen n st own = orNext (networkRefusal n) (cond (inRange n st) own 13)
 
--- "9: RUN or SEND: no such site or code"
+-- "9: RUN or SEND: no such site or code"; L10: "9 reads by the edition's codes"
 abbrev pub runFault : Network → ℕ → ℕ → ℕ
-runFault n s code = cond (ltb s (n .sites) && ltb code codeCount) 0 9
+runFault n s code = cond (ltb s (n .sites) && ltb code (codesIn (n .edition))) 0 9
 
 -- "9 .. no such site"; "10: SEND: set empty or outside S"; "12: 255 packets already accepted"; "11: out-queue full": of
 -- SEND (s, X), from the numbers that it looks at: S, D, the counter and the entries of the site's out-queue

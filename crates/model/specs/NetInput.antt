@@ -2,16 +2,16 @@
 -- A rule looks at two kinds of places, and says that they stay or what becomes of them.
 use Prim.Native.Nat.{ℕ, zero, suc, _+_}
 use mathlib.Core.List.{List}
-use mathlib.Core.Bool.{Bool, true, false, cond, _&&_}
+use mathlib.Core.Bool.{Bool, true, false, cond, _&&_, _||_}
 use lib.Dec.{eqb, ltb}
 use lib.ListN.{getD, set}
 use Rattle.base.specs.Sizes.{outputCount}
 use Rattle.base.specs.Bools.{implies}
 use Rattle.base.specs.All.{all}
 use Rattle.base.specs.Over.{over}
-use Rattle.model.specs.Types.{Connection, Unicast, Passthru, AllRemote, SomeLocal, Handed, Received, gotEnd, gotAbort}
+use Rattle.model.specs.Types.{Connection, Unicast, Passthru, AllRemote, SomeLocal, Handed, Branch, Received, gotEnd, gotAbort}
 use Rattle.model.specs.Types.{Terminator, tNone, tEnd, tAbort, tKeep, Phase, Free, Seek, Open, Wait, Done, Last, Aborted, FinAbort}
-use Rattle.model.specs.Types.{Input, Output, Network, noMarks, noInput, outOf, mark, carries, inPhase, outTerm}
+use Rattle.model.specs.Types.{Input, Output, Network, noMarks, noInput, outOf, mark, isLocal, carries, inPhase, outTerm}
 use Rattle.types.specs.Phases.{listening, asTerminator}
 use Rattle.model.specs.Router.{Choice, Chosen, Unserved, route, isEmpty, isChosen, unchosen}
 
@@ -21,11 +21,10 @@ pub data Turn (A B : Type 0) : Type 0 where
   To : A → B → Turn A B
 
 -- "An output is ready when it is in use, its head is taken, and either it is output 0 or its channel's input is open or abort.
--- Outputs 1 to 4 without a channel are never ready", nor is one that has nothing to pass on any more (L6): output j of os; there j
--- tells whether output j has a channel, far j is the input at its end
+-- Outputs 1 to 4 without a channel are never ready", nor is one that has nothing to pass on any more (L6); L10: "The split output is
+-- ready .. as output 0": output j of os; there j tells whether output j has a channel, far j is the input at its end
 unfoldable pub hears : (ℕ → Bool) → (ℕ → Input) → ℕ → Bool
-hears there far zero = true
-hears there far (suc j) = there (suc j) && listening (far (suc j) .phase)
+hears there far j = isLocal j || there j && listening (far j .phase)
 
 abbrev pub ready : (ℕ → Bool) → (ℕ → Input) → List Output → ℕ → Bool
 ready there far os j = carries (outOf os j) && outOf os j .head && hears there far j
@@ -44,6 +43,8 @@ table gotAbort c j = tAbort
 table gotEnd Unicast j = tEnd
 table gotEnd Passthru j = tEnd
 table gotEnd Handed j = tEnd
+-- L10: "both branches get the received terminator"
+table gotEnd Branch j = tEnd
 table gotEnd AllRemote j = atZero j tAbort tEnd
 table gotEnd SomeLocal j = atZero j tKeep tEnd
 

@@ -9,6 +9,7 @@ use Rattle.base.specs.Sizes.{sitesMost, firstSites, portCount, queueRoom, noCha
 use Rattle.base.specs.Bools.{implies}
 use Rattle.base.specs.All.{all}
 use Rattle.base.specs.Over.{over}
+use Rattle.draws.specs.Draws.{restricted}
 use Rattle.model.specs.Types.{Network}
 
 -- "per site and port 1..4 a channel .., else 4 x site + port - 1 of the input", in memory "65535 for none": that of port j of
@@ -48,16 +49,18 @@ listOf n s t = choices (routeOf n s t)
 abbrev pub versionOk : Network → Bool
 versionOk n = eqb (n .version) 1 || eqb (n .version) 2
 
--- L4: "17, an edition unknown or not 1 in version 1"; L6: "17 accepts edition 2": which editions a version has
+-- L4: "17, an edition unknown or not 1 in version 1"; L6: "17 accepts edition 2"; L10: "17 accepts edition 3": which editions a
+-- version has
 abbrev pub editionIn : ℕ → ℕ → Bool
-editionIn version edition = eqb edition 1 || eqb edition 2 && eqb version 2
+editionIn version edition = eqb edition 1 || (eqb edition 2 || eqb edition 3) && eqb version 2
 
 abbrev pub editionOk : Network → Bool
 editionOk n = editionIn (n .version) (n .edition)
 
--- L6: "Edition 2 follows the report for channels 1 to 4": whether an output holds its channel after delivery
+-- L6: "Edition 2 follows the report for channels 1 to 4"; L10: "channels close as in edition 2": whether an output holds its
+-- channel after delivery
 abbrev pub holds : ℕ → Bool
-holds edition = eqb edition 2
+holds edition = eqb edition 2 || restricted edition
 
 -- L4: "both precede 3": 2, 17, or what comes after them
 abbrev pub kindThen : Network → ℕ → ℕ

@@ -43,7 +43,7 @@ owesSite p t s x =
     sum (owesInput s p t) (x .inputs)
     + sum (owesOutput s p t) (x .outputs)
     + owesOutQueue s p t (x .outgoing)
-    + owesInQueue s p t (x .incoming)
+    + sum (owesInQueue s p t) (x .incoming)
 
 -- the places of all sites that owe packet p to site t
 unfoldable pub owed : List Site → ℕ → ℕ → ℕ
@@ -69,12 +69,15 @@ module _ (s : ℕ) where
   abbrev pub pairsInEntry : InEntry → ℕ
   pairsInEntry a = pairsAs (a .terminator) s (a .set)
 
+  abbrev pub pairsInQueue : InQueue → ℕ
+  pairsInQueue iq = sum pairsInEntry (take (iq .count) (iq .entries))
+
 abbrev pub pairsSite : ℕ → Site → ℕ
 pairsSite s x =
     sum (pairsInput s) (x .inputs)
     + sum (pairsOutput s) (x .outputs)
     + sum (pairsOutEntry s) (take (x .outgoing .count) (x .outgoing .entries))
-    + sum (pairsInEntry s) (take (x .incoming .count) (x .incoming .entries))
+    + sum (pairsInQueue s) (x .incoming)
 
 unfoldable pub owedPairs : List Site → ℕ
 owedPairs xs = isum pairsSite 0 xs

@@ -11,6 +11,7 @@ use Rattle.model.specs.Types.{Input, Output, OutEntry, InEntry, OutQueue
 use Rattle.model.specs.Types.{awaits, outHead, outClosing, entryStarted, entryTerm, pushOut, popOut, pushIn, popIn}
 use Rattle.types.specs.Phases.{isFree, listening, splits, isNone}
 use Rattle.model.specs.Types.{received}
+use Rattle.draws.specs.Draws.{restricted}
 use Rattle.model.specs.Network.{holds}
 use Rattle.model.specs.NetInput.{Turn, Stay, To, give}
 
@@ -29,7 +30,7 @@ lastLacks iq = ltb 0 (iq .count) && isNone (lastOf iq .terminator)
 abbrev pub endLast : InQueue → Terminator → InQueue
 endLast iq h = record { entries = set (iq .entries) (iq .count - 1) (entryTerm (lastOf iq) h); count = iq .count }
 
--- Net-output 0. "In use, head not taken: output 0 appends (packet, set, no terminator) to the in-queue if it has room"; "Head taken
+-- Net-output 0 and the split output (L10: "delivers and waits as output 0 does"), each with its in-queue. "In use, head not taken: output 0 appends (packet, set, no terminator) to the in-queue if it has room"; "Head taken
 -- with a terminator: if ready, deliver it and become empty"; "if the queue is empty or that entry has one already, nothing changes."
 abbrev pub headIn : ℕ → Output → InQueue → Turn Output InQueue
 headIn D o iq =
@@ -99,7 +100,7 @@ requeued s q X = record { set = minus s X; packet = q; started = false }
 abbrev pub serviceIf : ℕ → ℕ → ℕ → InQueue → OutQueue → Work
 serviceIf s q X iq oq = cond (has s X) (Service iq oq q) (Cleared iq oq)
 
--- "Front in-queue entry with a terminator, set X, site s", packet q
+-- "Front in-queue entry with a terminator, set X, site s", packet q; L10: of the split output's in-queue too, by "its operator"
 unfoldable pub operate : ℕ → ℕ → InQueue → OutQueue → ℕ → ℕ → Terminator → Work
 -- "No terminator: nothing."
 operate D s iq oq q X tNone = Rest
@@ -144,5 +145,6 @@ cutAt y os (FinAbort c r) = Stay
 abbrev pub stalled : Output → Bool
 stalled o = awaits o && o .head
 
-abbrev pub timeout : InQueue → List Output → Input → Turn Input (List Output)
-timeout iq os y = cond (lastLacks iq && stalled (outOf os 0)) (cutAt y os (y .phase)) Stay
+-- L10, edition 3: "timeouts do nothing"
+abbrev pub timeout : ℕ → InQueue → List Output → Input → Turn Input (List Output)
+timeout edition iq os y = cond (restricted edition) Stay (cond (lastLacks iq && stalled (outOf os 0)) (cutAt y os (y .phase)) Stay)

@@ -5,11 +5,12 @@ use mathlib.Core.List.{List, [], _∷_}
 use mathlib.Core.Bool.{Bool, cond, not, _&&_, _||_}
 use lib.Dec.{eqb, leb}
 use lib.ListN.{getD, set, replicate}
-use Rattle.base.specs.Sizes.{outputCount, portCount}
+use Rattle.base.specs.Sizes.{outputCount, portCount, splitPort}
 use Rattle.base.specs.Bools.{count}
 use Rattle.base.specs.Sums.{sum}
 use Rattle.sets.specs.Sets.{has, only, plus, minus, size, lowest}
-use Rattle.model.specs.Types.{Connection, Unicast, Passthru, AllRemote, SomeLocal, Output, Network, outOf}
+use Rattle.model.specs.Types.{Connection, Unicast, Passthru, AllRemote, SomeLocal, Branch, Output, Network, outOf}
+use Rattle.draws.specs.Draws.{restricted}
 use Rattle.model.specs.Network.{listOf}
 
 pub data Choice : Type 0 where
@@ -88,6 +89,15 @@ spread s X (Every sets) =
     cond (eqb (chosenCount sets) 1 && not (has s X)) (oneOutput Passthru X (firstChosen sets))
     (Chosen (cond (has s X) SomeLocal AllRemote) (set sets 0 X))
 
+-- L10: "With two or more targets, s among them and the split output empty: {s} goes there and the rest to the first empty output of
+-- the lowest other target. With the split output busy, or s not among them: the whole set that way." j is that output, 0 if there
+-- is none
+abbrev pub parted : ℕ → ℕ → ℕ → Choice
+parted s X j = cond (eqb j 0) Unserved (Chosen Branch (set (set unchosen j (minus s X)) splitPort (only s)))
+
+unfoldable pub branch : ℕ → List Output → ℕ → ℕ → Choice
+branch s os X j = cond (has s X && isEmpty os splitPort) (parted s X j) (onPort Passthru X j)
+
 unfoldable pub orElse : Choice → Choice → Choice
 orElse (Chosen c sets) other = Chosen c sets
 orElse Unserved other = other
@@ -99,7 +109,9 @@ route n s os X =
     cond (eqb X (only s)) (toOwn os X)
     -- "X = {t}, another site: the first empty output in t's list, unicast."
     (cond (eqb (size X) 1) (toOther n s os Unicast X (lowest X))
+    -- L10, edition 3: "a packet splits only into its local target and one way onward"
+    (cond (restricted (n .edition)) (branch s os X (firstEmpty os (listOf n s (lowest (minus s X)))))
     -- "Two or more targets and output 0 empty: .."
     (orElse (cond (isEmpty os 0) (spread s X (gather n s os (minus s X))) Unserved)
     -- "Otherwise, .. passthru of the whole X to the first empty output in the list of the lowest t other than s."
-    (toOther n s os Passthru X (lowest (minus s X)))))
+    (toOther n s os Passthru X (lowest (minus s X))))))

@@ -94,7 +94,7 @@ sendsAt R d = marked d (take (R .count) (R .sends))
 abbrev pub drawAt : StoredRun → ℕ → Event
 drawAt R d =
     let v = valueAfter (d + 1) (R .seed) in
-    Run (drawnSite (R .network .sites) v) (drawnCode (R .network .sites) v)
+    Run (drawnSite (R .network .edition) (R .network .sites) v) (drawnCode (R .network .edition) (R .network .sites) v)
 
 -- an event and the number of the draw that it is, or stands before
 pub record Timed : Type 0 where

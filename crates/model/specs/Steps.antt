@@ -8,8 +8,8 @@ use lib.Dec.{eqb, ltb, leb}
 use lib.ListN.{set}
 use Rattle.base.specs.Sizes.{portCount}
 use Rattle.model.specs.Types.{Input, Output, Site, Network, Ran, Nothing, Changed, Serviced}
-use Rattle.model.specs.Types.{noInput, siteAt, inAt, outAt, withInputs, withOutputs, withOutQueue, withInQueue}
-use Rattle.model.specs.Types.{setIn, setOut, setSite, pushOut}
+use Rattle.model.specs.Types.{noInput, siteAt, inAt, outAt, queueAt, queuePort, withInputs, withOutputs, withOutQueue}
+use Rattle.model.specs.Types.{setIn, setOut, setQueue, setSite, pushOut}
 use Rattle.model.specs.Network.{channel, joined, endSite, endPort}
 use Rattle.model.specs.NetInput.{Turn, Stay, To, ready, netInput}
 use Rattle.model.specs.Places.{localOutput, channelOutput, outQueue, Work, Rest, Cleared, Service, operator, timeout}
@@ -37,31 +37,43 @@ abbrev pub passTurn : Site → ℕ → Turn Output Input → Act
 passTurn x j Stay = Idle
 passTurn x j (To o y) = Pass (setOut x j o) j y
 
-abbrev pub workDone : Site → Work → Act
-workDone x Rest = Idle
-workDone x (Cleared iq oq) = Own (withOutQueue (withInQueue x iq) oq)
-workDone x (Service iq oq q) = Serve (withOutQueue (withInQueue x iq) oq) q
+-- the operator at in-queue m
+abbrev pub workDone : Site → ℕ → Work → Act
+workDone x m Rest = Idle
+workDone x m (Cleared iq oq) = Own (withOutQueue (setQueue x m iq) oq)
+workDone x m (Service iq oq q) = Serve (withOutQueue (setQueue x m iq) oq) q
+
+abbrev pub operatorAt : ℕ → ℕ → Site → ℕ → Act
+operatorAt D s x m = workDone x m (operator D s (queueAt x m) (x .outgoing))
 
 -- outputs and one input of a site changed
 abbrev pub setBoth : Site → ℕ → Input → List Output → Site
 setBoth x i y os = withInputs (withOutputs x os) (set (x .inputs) i y)
 
--- net-output j of site x; far j is the input at the end of its channel
+-- the net-output that fills in-queue m: output 0, or the split output
+abbrev pub localAt : ℕ → Site → ℕ → Act
+localAt D x m =
+    ownTurn (λ o iq. setOut (setQueue x m iq) (queuePort m) o) (localOutput D (outAt x (queuePort m)) (queueAt x m))
+
+-- net-output j of site x, 0 to 4; far j is the input at the end of its channel
 unfoldable pub netOutput : Network → ℕ → Site → (ℕ → Input) → ℕ → Act
-netOutput n s x far zero = ownTurn (λ o iq. setOut (withInQueue x iq) 0 o) (localOutput (n .depth) (outAt x 0) (x .incoming))
+netOutput n s x far zero = localAt (n .depth) x 0
 netOutput n s x far (suc j) = passTurn x (suc j) (channelOutput (n .edition) (joined n s (suc j)) (outAt x (suc j)) (far (suc j)))
 
--- "Codes 0 to 4 are the net-inputs, 5 to 9 the net-outputs 0 to 4, 10 the out-queue, 11 the operator, 12 the timeout."
+-- "Codes 0 to 4 are the net-inputs, 5 to 9 the net-outputs 0 to 4, 10 the out-queue, 11 the operator, 12 the timeout."; L10: "codes
+-- 13 (output) and 14 (its operator)" of the split output
 unfoldable pub act : Network → ℕ → Site → (ℕ → Input) → ℕ → Act
 act n s x far code =
     cond (ltb code 5)
     (ownTurn (setBoth x code) (netInput n s code (inAt x code) (x .outputs) (ready (joined n s) far (x .outputs))))
     (cond (ltb code 10) (netOutput n s x far (code - 5))
     (cond (eqb code 10) (ownTurn (λ oq y. setIn (withOutQueue x oq) 0 y) (outQueue (x .outgoing) (inAt x 0)))
-    (cond (eqb code 11) (workDone x (operator (n .depth) s (x .incoming) (x .outgoing)))
+    (cond (eqb code 11) (operatorAt (n .depth) s x 0)
     (cond (eqb code 12)
-    (ownTurn (setBoth x (outAt x 0 .input)) (timeout (x .incoming) (x .outputs) (inAt x (outAt x 0 .input))))
-    Idle))))
+    (ownTurn (setBoth x (outAt x 0 .input)) (timeout (n .edition) (queueAt x 0) (x .outputs) (inAt x (outAt x 0 .input))))
+    (cond (eqb code 13) (localAt (n .depth) x 1)
+    (cond (eqb code 14) (operatorAt (n .depth) s x 1)
+    Idle))))))
 
 -- the inputs at the ends of a site's channels; where there is none a free one, which no rule looks at
 abbrev pub ends : Network → List Site → ℕ → ℕ → Input

@@ -1,24 +1,25 @@
 -- The declared types under one roof, each variant under a name of its own; what an empty place holds; reads and writes of places.
--- A list read beyond its end gives the language's own default, whose arrays are empty: inputD, siteD, sendD.
+-- A list read beyond its end gives the language's own default, whose arrays are empty: inputD, inQueueD, siteD, sendD.
 --
 -- The letters of all definitions in this folder:
 --   n  a network           S, T, D  its sites, tries and depth   R  a stored run            d  a draw's number
 --   st a state             xs  the sites of a state              x  one site                k  the counter
 --   s  the own site        t   another site, or a target         v  a draw's value          w  an answer, or what an event leaves
 --   y  a net-input         i   its number, 0 to 4                ph a phase                 bs marks, one an output
---   o  a net-output        j   its number, 0 to 4 (a port: 1 to 4)                          os a site's net-outputs
+--   o  a net-output        j   its number, 0 to 5 (a port: 1 to 4; the split output: 5)     os a site's net-outputs
 --   oq an out-queue        u   an entry of it                    iq an in-queue             a  an entry of it
 --   q  a place's packet    p   a packet that is asked for        X, Y  sets of sites        b  a channel's number
 --   c  a connection        r   what was received                 h  a terminator            f  a refusal's number
 --   m  a place in a list   l   a list                            g  how far a run has come
 --   e, es  events, and what stands for one: a stored send, a service
-use Prim.Native.Nat.{ℕ, _+_, _-_}
+use Prim.Native.Nat.{ℕ, _+_, _-_, _*_}
 use mathlib.Core.List.{List, [], _∷_, _++_}
-use mathlib.Core.Bool.{Bool, true, false, not, _&&_}
+use mathlib.Core.Bool.{Bool, true, false, not, _&&_, _||_}
 use lib.ListN.{getD, set, drop, replicate}
-use Rattle.base.specs.Sizes.{sitesMost, inputCount, outputCount, queueRoom}
+use lib.Dec.{eqb}
+use Rattle.base.specs.Sizes.{sitesMost, inputCount, outputCount, splitPort, inQueueCount, queueRoom}
 use Rattle.types.specs.Phases.{receive, isNone}
-pub use Rattle.types.specs.declared.Connection.the-variants.{the-data as Connection, Unicast, Passthru, AllRemote, SomeLocal, Handed}
+pub use Rattle.types.specs.declared.Connection.the-variants.{the-data as Connection, Unicast, Passthru, AllRemote, SomeLocal, Handed, Branch}
 pub use Rattle.types.specs.declared.Received.the-variants.{the-data as Received, End as gotEnd, Abort as gotAbort}
 pub use Rattle.types.specs.declared.Terminator.the-variants.{the-data as Terminator, None as tNone, End as tEnd}
 pub use Rattle.types.specs.declared.Terminator.the-variants.{Abort as tAbort, KeepLocal as tKeep}
@@ -57,13 +58,16 @@ noOutEntry = record { set = 0; packet = 0; started = false }
 abbrev pub noInEntry : InEntry
 noInEntry = record { set = 0; terminator = tNone; packet = 0 }
 
+abbrev pub noInQueue : InQueue
+noInQueue = record { entries = replicate queueRoom noInEntry; count = 0 }
+
 abbrev pub noSite : Site
 noSite =
     record {
       inputs = replicate inputCount noInput;
       outputs = replicate outputCount noOutput;
       outgoing = record { entries = replicate queueRoom noOutEntry; count = 0 };
-      incoming = record { entries = replicate queueRoom noInEntry; count = 0 };
+      incoming = replicate inQueueCount noInQueue;
     }
 
 abbrev pub noState : State
@@ -73,8 +77,11 @@ noState = record { sites = replicate sitesMost noSite; counter = 0 }
 abbrev pub inputD : Input
 inputD = record { set = 0; phase = Free; outputs = []; packet = 0; tries = 0 }
 
+abbrev pub inQueueD : InQueue
+inQueueD = record { entries = []; count = 0 }
+
 abbrev pub siteD : Site
-siteD = record { inputs = []; outputs = []; outgoing = record { entries = []; count = 0 }; incoming = record { entries = []; count = 0 } }
+siteD = record { inputs = []; outputs = []; outgoing = record { entries = []; count = 0 }; incoming = [] }
 
 abbrev pub sendD : StoredSend
 sendD = record { set = 0; draw = 0; site = 0 }
@@ -98,11 +105,23 @@ mark bs j = getD bs j false
 abbrev pub outEntry : OutQueue → ℕ → OutEntry
 outEntry oq m = getD (oq .entries) m noOutEntry
 
+-- in-queue m of a site: 0 is output 0's, 1 the split output's
+abbrev pub queueAt : Site → ℕ → InQueue
+queueAt x m = getD (x .incoming) m inQueueD
+
 abbrev pub inEntry : InQueue → ℕ → InEntry
 inEntry iq m = getD (iq .entries) m noInEntry
 
 abbrev pub sendAt : Run → ℕ → StoredSend
 sendAt R m = getD (R .sends) m sendD
+
+-- L10: "A split output and an in-queue for it .. join each site": the output that fills in-queue m, 0 or the split output's number;
+-- whether an output is one of these two, which have an in-queue where outputs 1 to 4 have a channel
+abbrev pub queuePort : ℕ → ℕ
+queuePort m = splitPort * m
+
+abbrev pub isLocal : ℕ → Bool
+isLocal j = eqb j 0 || eqb j splitPort
 
 -- What an output is. It has something to pass on: it is in use and not closing (L6: "owes nothing, serves nobody", "connected to no
 -- input"); its terminator is still to come: it has something to pass on and holds none yet
@@ -157,14 +176,17 @@ withOutputs x os = record { inputs = x .inputs; outputs = os; outgoing = x .outg
 abbrev pub withOutQueue : Site → OutQueue → Site
 withOutQueue x oq = record { inputs = x .inputs; outputs = x .outputs; outgoing = oq; incoming = x .incoming }
 
-abbrev pub withInQueue : Site → InQueue → Site
-withInQueue x iq = record { inputs = x .inputs; outputs = x .outputs; outgoing = x .outgoing; incoming = iq }
+abbrev pub withInQueues : Site → List InQueue → Site
+withInQueues x iqs = record { inputs = x .inputs; outputs = x .outputs; outgoing = x .outgoing; incoming = iqs }
 
 abbrev pub setIn : Site → ℕ → Input → Site
 setIn x i y = withInputs x (set (x .inputs) i y)
 
 abbrev pub setOut : Site → ℕ → Output → Site
 setOut x j o = withOutputs x (set (x .outputs) j o)
+
+abbrev pub setQueue : Site → ℕ → InQueue → Site
+setQueue x m iq = withInQueues x (set (x .incoming) m iq)
 
 abbrev pub setSite : List Site → ℕ → Site → List Site
 setSite xs s x = set xs s x

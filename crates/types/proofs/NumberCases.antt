@@ -3,7 +3,7 @@
 use Prim.Native.Nat.{ℕ}
 use mathlib.Core.Path.{_≡_, refl}
 use mathlib.Core.List.{List, [], _∷_, map}
-use Rattle.types.specs.Names.{Unicast, Passthru, AllRemote, SomeLocal, Handed, gotEnd, gotAbort, tNone, tEnd, tAbort, tKeep}
+use Rattle.types.specs.Names.{Unicast, Passthru, AllRemote, SomeLocal, Handed, Branch, gotEnd, gotAbort, tNone, tEnd, tAbort, tKeep}
 use Rattle.types.specs.Names.{Free, Seek, Open, Wait, Done, Last, Aborted, FinAbort}
 use Rattle.types.specs.Names.{Accepted, SendRefused, Nothing, Changed, Serviced, RunRefused}
 use Rattle.types.specs.Numbers.{connectionNumber, receivedNumber, terminatorNumber, stateNumber, connectionOf}
@@ -12,7 +12,8 @@ use Rattle.types.specs.Numbers.{sentNumbers, ranNumbers, sentRefusal, se
 pub rows : List (List ℕ × List ℕ)
 rows =
     -- "connection (0 none, 1 unicast, 2 passthru, 3 all-remote, 4 some-local, 5 handed)"
-    (map connectionNumber (Unicast ∷ Passthru ∷ AllRemote ∷ SomeLocal ∷ Handed ∷ []), 1 ∷ 2 ∷ 3 ∷ 4 ∷ 5 ∷ [])
+    -- "That split is connection 6"
+    (map connectionNumber (Unicast ∷ Passthru ∷ AllRemote ∷ SomeLocal ∷ Handed ∷ Branch ∷ []), 1 ∷ 2 ∷ 3 ∷ 4 ∷ 5 ∷ 6 ∷ [])
     ∷ (map connectionOf (Free ∷ Seek ∷ Open Handed ∷ FinAbort AllRemote gotEnd ∷ []), 0 ∷ 0 ∷ 5 ∷ 3 ∷ [])
     -- "terminator (0 none, 1 end, 2 abort)"; "(0 to 2, or 3 keep-local)"
     ∷ (map receivedNumber (gotEnd ∷ gotAbort ∷ []), 1 ∷ 2 ∷ [])

@@ -1,5 +1,5 @@
 -- The declared types, each variant under a name of its own.
-pub use Rattle.types.specs.declared.Connection.the-variants.{the-data as Connection, Unicast, Passthru, AllRemote, SomeLocal, Handed}
+pub use Rattle.types.specs.declared.Connection.the-variants.{the-data as Connection, Unicast, Passthru, AllRemote, SomeLocal, Handed, Branch}
 pub use Rattle.types.specs.declared.Received.the-variants.{the-data as Received, End as gotEnd, Abort as gotAbort}
 pub use Rattle.types.specs.declared.Terminator.the-variants.{the-data as Terminator, None as tNone, End as tEnd}
 pub use Rattle.types.specs.declared.Terminator.the-variants.{Abort as tAbort, KeepLocal as tKeep}

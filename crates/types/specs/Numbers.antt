@@ -2,17 +2,18 @@
 use Prim.Native.Nat.{ℕ}
 use mathlib.Core.List.{List, [], _∷_}
 use lib.ListN.{getD}
-use Rattle.types.specs.Names.{Connection, Unicast, Passthru, AllRemote, SomeLocal, Handed, Received, gotEnd, gotAbort}
+use Rattle.types.specs.Names.{Connection, Unicast, Passthru, AllRemote, SomeLocal, Handed, Branch, Received, gotEnd, gotAbort}
 use Rattle.types.specs.Names.{Terminator, tNone, tEnd, tAbort, tKeep, Phase, Free, Seek, Open, Wait, Done, Last, Aborted, FinAbort}
 use Rattle.types.specs.Names.{Sent, Accepted, SendRefused, Ran, Nothing, Changed, Serviced, RunRefused}
 
--- "connection (0 none, 1 unicast, 2 passthru, 3 all-remote, 4 some-local, 5 handed)"
+-- "connection (0 none, 1 unicast, 2 passthru, 3 all-remote, 4 some-local, 5 handed)"; L10: "That split is connection 6"
 abbrev pub connectionNumber : Connection → ℕ
 connectionNumber Unicast = 1
 connectionNumber Passthru = 2
 connectionNumber AllRemote = 3
 connectionNumber SomeLocal = 4
 connectionNumber Handed = 5
+connectionNumber Branch = 6
 
 -- "terminator (0 none, 1 end, 2 abort)" of a net-input
 abbrev pub receivedNumber : Received → ℕ

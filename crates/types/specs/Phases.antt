@@ -1,6 +1,6 @@
 -- What a net-input's state and a terminator tell: small case functions that the rules and "in range" share.
 use mathlib.Core.Bool.{Bool, true, false}
-use Rattle.types.specs.Names.{Connection, Unicast, Passthru, AllRemote, SomeLocal, Handed, Received, gotEnd, gotAbort}
+use Rattle.types.specs.Names.{Connection, Unicast, Passthru, AllRemote, SomeLocal, Handed, Branch, Received, gotEnd, gotAbort}
 use Rattle.types.specs.Names.{Terminator, tNone, tEnd, tAbort, tKeep, Phase, Free, Seek, Open, Wait, Done, Last, Aborted, FinAbort}
 
 abbrev pub isFree : Phase → Bool
@@ -42,6 +42,7 @@ splits Passthru = false
 splits AllRemote = true
 splits SomeLocal = true
 splits Handed = false
+splits Branch = false
 
 abbrev pub splitting : Phase → Bool
 splitting Free = false
@@ -52,6 +53,25 @@ splitting (Done c r) = splits c
 splitting (Last c r) = splits c
 splitting (Aborted c) = splits c
 splitting (FinAbort c r) = splits c
+
+-- L10: "That split is connection 6": into the local target and one way onward
+abbrev pub branches : Connection → Bool
+branches Unicast = false
+branches Passthru = false
+branches AllRemote = false
+branches SomeLocal = false
+branches Handed = false
+branches Branch = true
+
+abbrev pub branching : Phase → Bool
+branching Free = false
+branching Seek = false
+branching (Open c) = branches c
+branching (Wait c) = branches c
+branching (Done c r) = branches c
+branching (Last c r) = branches c
+branching (Aborted c) = branches c
+branching (FinAbort c r) = branches c
 
 -- "abort and fin-abort"
 abbrev pub aborting : Phase → Bool

@@ -1,4 +1,4 @@
-// The types (document 01, "Network and state", with what L4 and L6 add), and the document's number for each case of an enum.
+// The types (document 01, "Network and state", with what L4, L6 and L10 add), and the document's number for each case of an enum.
 // First variants are the zero ones. specs/ has the numbers and what a state and a terminator tell; document 01's other
 // definitions over these types are in crate model.
 mod phases;
@@ -16,6 +16,7 @@ pub enum Connection {
     AllRemote,
     SomeLocal,
     Handed,
+    Branch,
 }
 
 // A terminator that a net-input received.
@@ -88,11 +89,12 @@ pub struct InQueue {
     pub count: usize,
 }
 
+// A site: its net-outputs are 0 to 4 and the split output, its in-queues that of output 0 and that of the split output.
 pub struct Site {
     pub inputs: [Input; base::INPUTS],
     pub outputs: [Output; base::OUTPUTS],
     pub outgoing: OutQueue,
-    pub incoming: InQueue,
+    pub incoming: [InQueue; base::IN_QUEUES],
 }
 
 pub struct State {
@@ -176,7 +178,7 @@ pub fn state_number(phase: Phase) -> u8
     }
 }
 
-// The number of a connection: 1 unicast, 2 passthru, 3 all-remote, 4 some-local, 5 handed.
+// The number of a connection: 1 unicast, 2 passthru, 3 all-remote, 4 some-local, 5 handed, 6 branch.
 pub fn connection_number(connection: Connection) -> u8
     ensures { λ r. ⌜ r ≡ connectionNumber connection ⌝ }
 {
@@ -186,6 +188,7 @@ pub fn connection_number(connection: Connection) -> u8
         Connection::AllRemote => 3,
         Connection::SomeLocal => 4,
         Connection::Handed => 5,
+        Connection::Branch => 6,
     }
 }
 

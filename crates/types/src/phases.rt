@@ -32,6 +32,7 @@ pub fn is_split(connection: Connection) -> bool
         Connection::AllRemote => true,
         Connection::SomeLocal => true,
         Connection::Handed => false,
+        Connection::Branch => false,
     }
 }
 
