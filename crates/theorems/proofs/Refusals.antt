@@ -6,9 +6,10 @@ use mathlib.Core.Bool.{Bool, true, false, cond, _&&_}
 use native.Mathlib.Omega.{arith}
 use borrow.Author.Tests.{ltb-true, eqb-true, eqb-false}
 use lib.Dec.{eqb, ltb}
-use Rattle.base.specs.Sizes.{codeCount, packetsMost}
+use Rattle.base.specs.Sizes.{packetsMost}
 use Rattle.base.specs.Bools.{both, first-of, cond-ok}
 use Rattle.sets.specs.Sets.{targets}
+use Rattle.draws.specs.Draws.{codesIn}
 use Rattle.theorems.specs.Names.{State, Network, SendRefused, RunRefused, AfterSend, AfterRun}
 use Rattle.model.specs.Types.{siteAt}
 use Rattle.model.specs.Network.{networkRefusal}
@@ -29,15 +30,15 @@ pub record RunPasses (n : Network) (st : State) (s c : ℕ) : Type 0 where
   pub network : networkRefusal n ≡ 0
   pub range : inRange n st ≡ true
   pub site : s < n .sites
-  pub code : c < codeCount
+  pub code : c < codesIn (n .edition)
 
 pub run-passes : (n : Network) (st : State) (s code : ℕ) → runRefusal n st s code ≡ 0 → RunPasses n st s code
 unfolding runRefusal
 run-passes n st s code h =
     let a = not-refused n st (runFault n s code) h in
     let b =
-    both (ltb s (n .sites)) (ltb code codeCount)
-    (first-of (ltb s (n .sites) && ltb code codeCount) 0 9 0 (λ z. omega arith) (a .2) .0) in
+    both (ltb s (n .sites)) (ltb code (codesIn (n .edition)))
+    (first-of (ltb s (n .sites) && ltb code (codesIn (n .edition))) 0 9 0 (λ z. omega arith) (a .2) .0) in
     record { network = a .0; range = a .1; site = ltb-true _ _ (b .0); code = ltb-true _ _ (b .1) }
 
 -- a SEND that is not refused

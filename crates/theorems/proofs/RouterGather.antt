@@ -1,5 +1,5 @@
 -- What the router's search and its gathering give: a port that serves, and for every target of Y exactly one output,
--- none of them output 0, all of them empty. Assumes nothing of the network: `serves` tests the ports by itself.
+-- all of them ports, all of them empty. Assumes nothing of the network: `serves` tests the ports by itself.
 use Prim.Native.Nat.{ℕ, zero, suc, _+_, _^_, _≤_, _<_}
 use mathlib.Core.Path.{_≡_, refl, sym, ap, _∙_}
 use mathlib.Core.List.{List, [], _∷_}
@@ -12,7 +12,6 @@ use borrow.Author.Tests.{eqb-false, eq-eqb, ne-eqb, leb-true, not-true}
 use lib.Dec.{eqb, leb}
 use lib.ListN.{getD, length, length-set}
 use lib.Pow.{pow-mono}
-use lib.Seq.{getD-set-other}
 use Rattle.base.specs.Sizes.{outputCount, portCount}
 use Rattle.base.specs.Bools.{count, cond-ok, both, either}
 use Rattle.base.specs.Lists.{all-set, same-at}
@@ -79,8 +78,8 @@ module _ (n : Network) (s : ℕ) (os : List Output) (Y : ℕ) (P : ℕ → List 
 -- ---- the targets below t, each in exactly one of the sets, nobody else in any
 
 pub record Shared (os : List Output) (Y t : ℕ) (sets : List ℕ) : Type 0 where
-  pub five : length sets ≡ outputCount
-  pub zeroth : getD sets 0 0 ≡ 0
+  pub full : length sets ≡ outputCount
+  pub ports : (j : ℕ) → (getD sets j 0 ≡ 0 → ⊥) → (1 ≤ j) × (j ≤ portCount)
   pub free : (j : ℕ) → (getD sets j 0 ≡ 0 → ⊥) → isEmpty os j ≡ true
   pub low : (j : ℕ) → getD sets j 0 < 2 ^ t
   pub done : (u : ℕ) → u < t → sum (λ z. bit u z) sets ≡ bit u Y
@@ -94,8 +93,8 @@ module _ (os : List Output) (Y : ℕ) where
   unfolding sum
   shared-none =
       record {
-        five = refl;
-        zeroth = refl;
+        full = refl;
+        ports = λ j h. absurd (h (zeros j));
         free = λ j h. absurd (h (zeros j));
         low = λ j. omega (arith, zeros j);
         done = λ u h. absurd (omega arith);
@@ -105,8 +104,8 @@ module _ (os : List Output) (Y : ℕ) where
   shared-skip : (t : ℕ) (sets : List ℕ) → has t Y ≡ false → Shared os Y t sets → Shared os Y (t + 1) sets
   shared-skip t sets b g =
       record {
-        five = g .five;
-        zeroth = g .zeroth;
+        full = g .full;
+        ports = g .ports;
         free = g .free;
         low = λ j. wider t (getD sets j 0) (g .low j);
         done = λ u h. at u h (ℕ-discrete u t);
@@ -121,8 +120,10 @@ module _ (os : List Output) (Y : ℕ) where
       → Shared os Y (t + 1) (gets sets p t)
   shared-take t p sets b sv g =
       record {
-        five = length-set sets p (plus t (getD sets p 0)) ∙ g .five;
-        zeroth = getD-set-other sets p 0 (plus t (getD sets p 0)) 0 (λ e. omega (arith, ok .0)) ∙ g .zeroth;
+        full = length-set sets p (plus t (getD sets p 0)) ∙ g .full;
+        ports =
+            all-set (λ j z. (z ≡ 0 → ⊥) → (1 ≤ j) × (j ≤ portCount)) sets p (plus t (getD sets p 0)) 0 (λ h. (ok .0, ok .1))
+            (g .ports);
         free =
             all-set (λ j z. (z ≡ 0 → ⊥) → isEmpty os j ≡ true) sets p (plus t (getD sets p 0)) 0 (λ h. ok .2) (g .free);
         low =
@@ -143,7 +144,7 @@ module _ (os : List Output) (Y : ℕ) where
       more u =
           omega (
             arith,
-            sum-set (λ z. bit u z) sets p (plus t (getD sets p 0)) 0 (omega (arith, ok .1, g .five)),
+            sum-set (λ z. bit u z) sets p (plus t (getD sets p 0)) 0 (omega (arith, ok .1, g .full)),
             ap (λ z. bit u z) (plus-out t (getD sets p 0) new),
             bit-add t u (getD sets p 0) new,
           )
@@ -159,6 +160,15 @@ unfolding gather
 gather-shares n s os Y =
     rw (zero-add (n .sites)) at (
     gather-keeps n s os Y (Shared os Y) (shared-skip os Y) (shared-take os Y) (n .sites) 0 unchosen (shared-none os Y))
+
+-- an output that is no port has no share
+pub no-share : (os : List Output) (Y S : ℕ) (sets : List ℕ) → Shared os Y S sets → (j : ℕ) → (1 ≤ j → j ≤ portCount → ⊥)
+    → getD sets j 0 ≡ 0
+no-share os Y S sets g j h = go (ℕ-discrete (getD sets j 0) 0)
+  where
+    go : Dec (getD sets j 0 ≡ 0) → getD sets j 0 ≡ 0
+    go (yes e) = e
+    go (no e) = let p = g .ports j e in absurd (h (p .0) (p .1))
 
 -- of a Y within the sites: each is in as many of the sets as in Y
 pub share-sum : (os : List Output) (Y S : ℕ) (sets : List ℕ) → Y < 2 ^ S → Shared os Y S sets → (u : ℕ)

@@ -1,6 +1,6 @@
 -- The model's types and variants, under the names of model/specs/Types.antt: what a crate passes on cannot be named from
 -- above it.
-pub use Rattle.types.specs.declared.Connection.the-variants.{the-data as Connection, Unicast, Passthru, AllRemote, SomeLocal, Handed}
+pub use Rattle.types.specs.declared.Connection.the-variants.{the-data as Connection, Unicast, Passthru, AllRemote, SomeLocal, Handed, Branch}
 pub use Rattle.types.specs.declared.Received.the-variants.{the-data as Received, End as gotEnd, Abort as gotAbort}
 pub use Rattle.types.specs.declared.Terminator.the-variants.{the-data as Terminator, None as tNone, End as tEnd, Abort as tAbort}
 pub use Rattle.types.specs.declared.Terminator.the-variants.{KeepLocal as tKeep}
