@@ -12,7 +12,7 @@ use Rattle.base.specs.Lists.{all-but, rel-set}
 use Rattle.base.specs.Sums.{sum, sum-set, upto-ext}
 use Rattle.theorems.specs.Names.{Connection, Received, gotEnd, Terminator, tNone, tEnd, tAbort, tKeep, Phase, Free, Seek}
 use Rattle.theorems.specs.Names.{Open, Wait, Done, Last, Aborted, FinAbort, Input, Output, OutQueue, InQueue, Site}
-use Rattle.model.specs.Types.{inputD, inAt, outOf, outAt, mark, setIn}
+use Rattle.model.specs.Types.{inputD, inAt, outOf, outAt, mark, queuePort, setIn}
 use Rattle.types.specs.Phases.{isFree, listening, isNone, asTerminator, held, receive}
 use Rattle.model.specs.Types.{received}
 use Rattle.model.specs.NetInput.{table}
@@ -144,13 +144,14 @@ module _ (s : ℕ) (x : Site) (i : ℕ) (ok : SiteOk s x) (hi : i < inputCount) 
               ins = length-set (x .inputs) i y ∙ ok .ins;
               outs = len;
               leaving = leaving-keeps (ins 0) (ok .leaving);
-              landing = landing-keeps (out 0 .heads) (ok .landing);
+              queues = ok .queues;
+              landing = λ m hm. landing-keeps (out (queuePort m) .heads) (ok .landing m hm);
               conn =
                   all-but (λ k z. Conn s k z (outOf os)) (x .inputs) i y inputD lin con
                   (λ k ne. conn-frame k (outAt x) (outOf os) (λ j. out j .others k ne) s (inAt x k) (ok .conn k));
               quiet = λ j. out j .quiet (ok .quiet j);
             };
-        keeps = record { inputs = λ k. ins (suc k); outputs = λ j. out (suc j) .heads };
+        keeps = record { inputs = λ k. ins (suc k); outputs = λ j hj. out (suc j) .heads };
         weight = λ p t. omega (arith, wt p t, sum-set (owesInput s p t) (x .inputs) i y inputD lin);
       }
 

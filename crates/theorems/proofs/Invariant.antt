@@ -7,12 +7,12 @@ use mathlib.Core.List.{List, [], _∷_}
 use mathlib.Core.Bool.{Bool, true, false, cond, not, _&&_, and-false}
 use native.Mathlib.Omega.{arith}
 use lib.ListN.{getD, length, length-set}
-use Rattle.base.specs.Sizes.{sitesMost, inputCount, outputCount, portCount, queueRoom}
+use Rattle.base.specs.Sizes.{sitesMost, inputCount, outputCount, portCount, inQueueCount, queueRoom}
 use Rattle.base.specs.Lists.{all-set, rel-set}
 use Rattle.base.specs.Sums.{upto, isum-set}
 use Rattle.theorems.specs.Names.{Connection, gotEnd, Terminator, tNone, tEnd, Phase, Free, Seek, Open, Wait, Done, Last}
 use Rattle.theorems.specs.Names.{Aborted, FinAbort, Input, Output, OutQueue, InQueue, Site, Network, Serviced}
-use Rattle.model.specs.Types.{inputD, siteD, noOutput, siteAt, inAt, outAt, mark, outEntry, carries, setSite}
+use Rattle.model.specs.Types.{inputD, siteD, noOutput, siteAt, inAt, outAt, mark, outEntry, queueAt, queuePort, carries, setSite}
 use Rattle.model.specs.Network.{channel, joined, endSite}
 use Rattle.types.specs.Phases.{splits}
 use Rattle.model.specs.NetInput.{table}
@@ -115,7 +115,7 @@ pub record Leaving (q : OutQueue) (y : Input) : Type 0 where
   pub front : outEntry q 0 .started ≡ true → claim y ≡ tag (outEntry q 0 .packet) (outEntry q 0 .set)
   pub rest : (k : ℕ) → outEntry q (suc k) .started ≡ false
 
--- the in-queue and output 0
+-- an in-queue and the output that fills it
 pub record Landing (q : InQueue) (o : Output) : Type 0 where
   pub fits : Fits (q .entries) (q .count)
   pub last : due o ≡ true → waiting q ≡ tagOut o
@@ -126,7 +126,8 @@ pub record SiteOk (s : ℕ) (x : Site) : Type 0 where
   pub ins : length (x .inputs) ≡ inputCount
   pub outs : length (x .outputs) ≡ outputCount
   pub leaving : Leaving (x .outgoing) (inAt x 0)
-  pub landing : Landing (x .incoming) (outAt x 0)
+  pub queues : length (x .incoming) ≡ inQueueCount
+  pub landing : (m : ℕ) → m < inQueueCount → Landing (queueAt x m) (outAt x (queuePort m))
   pub conn : (i : ℕ) → Conn s i (inAt x i) (outAt x)
   pub quiet : (j : ℕ) → Quiet (outAt x j)
 
@@ -153,7 +154,7 @@ SameHead o o′ = due o′ ≡ true → (due o ≡ true) × (tagOut o ≡ tagOut
 -- a site's change that leaves every link standing
 pub record KeepsOf (ins : List Input) (outs : List Output) (ins′ : List Input) (outs′ : List Output) : Type 0 where
   pub inputs : (k : ℕ) → Persist (getD ins (suc k) inputD) (getD ins′ (suc k) inputD)
-  pub outputs : (j : ℕ) → SameHead (getD outs (suc j) noOutput) (getD outs′ (suc j) noOutput)
+  pub outputs : (j : ℕ) → j < portCount → SameHead (getD outs (suc j) noOutput) (getD outs′ (suc j) noOutput)
 
 abbrev pub Keeps : Site → Site → Type 0
 Keeps x x′ = KeepsOf (x .inputs) (x .outputs) (x′ .inputs) (x′ .outputs)
@@ -180,7 +181,7 @@ OwnOk s x (Serve x′ q) = Good s x x′ (λ p t. hits p t (Serviced q s))
 OwnOk s x (Pass x′ j y) = ⊥
 
 pub keeps-refl : (x : Site) → Keeps x x
-keeps-refl x = record { inputs = λ k q X h. h; outputs = λ j h. (h, refl) }
+keeps-refl x = record { inputs = λ k q X h. h; outputs = λ j hj h. (h, refl) }
 
 -- ---- one site's change, as a change of the sites
 
@@ -188,7 +189,7 @@ module _ (n : Network) (st : List Site) (s : ℕ) (x′ : Site) (inv : Inv n st)
   pub keep-link : Keeps (siteAt st s) x′ → Link n (setSite st s x′)
   keep-link g u j hu hj hb hh =
       let k : (w : ℕ) → Keeps (siteAt st w) (siteAt (setSite st s x′) w) = rel-set Keeps st s x′ siteD keeps-refl g in
-      let e = k u .outputs j hh in
+      let e = k u .outputs j hj hh in
       k (endSite (channel n u (suc j))) .inputs (channel n u (suc j) % portCount) _ _ (inv .link u j hu hj hb (e .0) ∙ e .1)
 
   -- the site and the links are looked after, each by itself

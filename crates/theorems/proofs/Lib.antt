@@ -6,6 +6,7 @@ pub mod SoundRuns
 pub mod Refusals
 pub mod Numbered
 pub mod RouterGather
+pub mod RouterChoices
 pub mod RouterLaws
 pub mod OutputReads
 pub mod Invariant

@@ -17,7 +17,7 @@ use Rattle.model.specs.Steps.{workDone}
 use Rattle.model.specs.Events.{hits}
 use Rattle.model.specs.Owing.{owesAs, owesInEntry, owesOutEntry, owesInQueue, owesOutQueue}
 use Rattle.theorems.proofs.Invariant.{Leaving, Landing, SiteOk, Good, OwnOk, keeps-refl}
-use Rattle.theorems.proofs.RouterLaws.{owes-none}
+use Rattle.theorems.proofs.RouterChoices.{owes-none}
 use Rattle.theorems.proofs.QueueLaws.{fits-pop, sum-popped, sum-pushed, leaving-push, pop-waiting}
 
 -- ---- servicing

@@ -17,7 +17,7 @@ use Rattle.model.specs.NetInput.{give, taken, occupy, marksOf}
 use Rattle.model.specs.Places.{remote}
 
 -- outputs of which some are changed, by their places
-module _ (os : List Output) (five : length os ≡ outputCount) (b : ℕ → Bool) (v : ℕ → Output) where
+module _ (os : List Output) (full : length os ≡ outputCount) (b : ℕ → Bool) (v : ℕ → Output) where
   changed-at : (j : ℕ) → j < outputCount
       → outOf (over (λ j. cond (b j) (v j) (outOf os j)) outputCount os) j ≡ cond (b j) (v j) (outOf os j)
   changed-at j l = over-below (λ j. cond (b j) (v j) (outOf os j)) outputCount os j noOutput l (omega arith)
@@ -31,39 +31,39 @@ module _ (os : List Output) (five : length os ≡ outputCount) (b : ℕ → Bool
       go (no l) = rw (over-above (λ j. cond (b j) (v j) (outOf os j)) outputCount os j noOutput (omega arith)) old
 
 -- terminators given to the marked outputs
-module _ (f : ℕ → Terminator) (bs : List Bool) (os : List Output) (five : length os ≡ outputCount) where
+module _ (f : ℕ → Terminator) (bs : List Bool) (os : List Output) (full : length os ≡ outputCount) where
   pub length-give : length (give f bs os) ≡ outputCount
   unfolding give
-  length-give = length-over (λ j. cond (mark bs j) (outTerm (outOf os j) (f j)) (outOf os j)) outputCount os ∙ five
+  length-give = length-over (λ j. cond (mark bs j) (outTerm (outOf os j) (f j)) (outOf os j)) outputCount os ∙ full
 
   pub give-at : (j : ℕ) → j < outputCount
       → outOf (give f bs os) j ≡ cond (mark bs j) (outTerm (outOf os j) (f j)) (outOf os j)
   unfolding give
-  give-at j l = changed-at os five (mark bs) (λ j. outTerm (outOf os j) (f j)) j l
+  give-at j l = changed-at os full (mark bs) (λ j. outTerm (outOf os j) (f j)) j l
 
   -- what holds of the old output, and of the new one where it is marked
   pub give-ok : (P : Output → Type 0) (j : ℕ) → (j < outputCount → mark bs j ≡ true → P (outTerm (outOf os j) (f j)))
       → P (outOf os j) → P (outOf (give f bs os) j)
   unfolding give
-  give-ok P j new old = changed-ok os five (mark bs) (λ j. outTerm (outOf os j) (f j)) P j new old
+  give-ok P j new old = changed-ok os full (mark bs) (λ j. outTerm (outOf os j) (f j)) P j new old
 
 -- the chosen outputs taken for packet q of input i
-module _ (q i : ℕ) (sets : List ℕ) (os : List Output) (five : length os ≡ outputCount) where
+module _ (q i : ℕ) (sets : List ℕ) (os : List Output) (full : length os ≡ outputCount) where
   pub length-occupy : length (occupy q i sets os) ≡ outputCount
   unfolding occupy
   length-occupy =
-      length-over (λ j. cond (isChosen sets j) (taken q i (getD sets j 0)) (outOf os j)) outputCount os ∙ five
+      length-over (λ j. cond (isChosen sets j) (taken q i (getD sets j 0)) (outOf os j)) outputCount os ∙ full
 
   pub occupy-at : (j : ℕ) → j < outputCount
       → outOf (occupy q i sets os) j ≡ cond (isChosen sets j) (taken q i (getD sets j 0)) (outOf os j)
   unfolding occupy
-  occupy-at j l = changed-at os five (isChosen sets) (λ j. taken q i (getD sets j 0)) j l
+  occupy-at j l = changed-at os full (isChosen sets) (λ j. taken q i (getD sets j 0)) j l
 
   pub occupy-ok : (P : Output → Type 0) (j : ℕ)
       → (j < outputCount → isChosen sets j ≡ true → P (taken q i (getD sets j 0)))
       → P (outOf os j) → P (outOf (occupy q i sets os) j)
   unfolding occupy
-  occupy-ok P j new old = changed-ok os five (isChosen sets) (λ j. taken q i (getD sets j 0)) P j new old
+  occupy-ok P j new old = changed-ok os full (isChosen sets) (λ j. taken q i (getD sets j 0)) P j new old
 
 -- their marks
 pub length-marks : (sets : List ℕ) → length (marksOf sets) ≡ outputCount

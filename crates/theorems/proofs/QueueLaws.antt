@@ -152,6 +152,7 @@ module _ (s : ℕ) (x : Site) (ok : SiteOk s x) where
               ins = length-set (x .inputs) 0 y′ ∙ ok .ins;
               outs = ok .outs;
               leaving = subst (Leaving q′) (sym (getD-set-same (x .inputs) 0 y′ inputD len)) lv;
+              queues = ok .queues;
               landing = ok .landing;
               conn = all-set (λ k z. Conn s k z (outAt x)) (x .inputs) 0 y′ inputD con (ok .conn);
               quiet = ok .quiet;
@@ -159,7 +160,7 @@ module _ (s : ℕ) (x : Site) (ok : SiteOk s x) where
         keeps =
             record {
               inputs = λ k q X. rw (getD-set-other (x .inputs) 0 (suc k) y′ inputD (λ e. omega arith)) (λ h. h);
-              outputs = λ j h. (h, refl);
+              outputs = λ j hj h. (h, refl);
             };
         weight = λ p t. omega (arith, wt p t, sum-set (owesInput s p t) (x .inputs) 0 y′ inputD len);
       }

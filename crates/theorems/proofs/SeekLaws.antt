@@ -18,7 +18,7 @@ use Rattle.model.specs.NetInput.{Turn, table, taken, occupy, marksOf, opened, t
 use Rattle.model.specs.Steps.{ownTurn, setBoth}
 use Rattle.model.specs.Owing.{owesAs, owesOutput}
 use Rattle.theorems.proofs.RouterGather.{chosen-at}
-use Rattle.theorems.proofs.RouterLaws.{Routed, ChoiceOk, owes-none, only-ok}
+use Rattle.theorems.proofs.RouterChoices.{Routed, ChoiceOk, owes-none, only-ok}
 use Rattle.theorems.proofs.OutputReads.{length-occupy, occupy-at, occupy-ok, mark-at}
 use Rattle.theorems.proofs.Invariant.{tag, tagOut, idle, empty-idle, Fed, Joined, SiteOk, OwnOk}
 use Rattle.theorems.proofs.ConnectionLaws.{Renewed, renewed-refl, not-idle, phase-owes, phase-claim, both-good, in-good}
@@ -119,5 +119,5 @@ module _ (s : ℕ) (x : Site) (i : ℕ) (ok : SiteOk s x) (hi : i < inputCount) 
       cond-ok P (isEmpty (x .outputs) 0) _ _
       (λ b.
       opened-ok Handed (set unchosen 0 (y .set))
-      (only-ok s (y .set) (x .outputs) Handed 0 (λ k. refl) refl nz (omega arith) b))
+      (only-ok s (y .set) (x .outputs) Handed 0 (λ k. refl) refl refl nz (omega arith) b))
       (λ b. tt))
