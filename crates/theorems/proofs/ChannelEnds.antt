@@ -74,6 +74,7 @@ module _ (n : Network) (st : List Site) (u k : ℕ) (r : Received) (inv : Inv n 
         ins = length-set (x .inputs) (suc k) y ∙ ok .ins;
         outs = ok .outs;
         leaving = rw (getD-set-other (x .inputs) (suc k) 0 y inputD (λ e. omega arith)) (ok .leaving);
+        queues = ok .queues;
         landing = ok .landing;
         conn =
             all-set (λ i z. Conn u i z (outAt x)) (x .inputs) (suc k) y inputD
@@ -141,7 +142,7 @@ module _ (n : Network) (st : List Site) (s j : ℕ) (inv : Inv n st) (hs : s < s
       let len : suc j < length (siteAt st s .outputs) = omega (arith, inv .site s hs .outs) in
       record {
         inv =
-            inv-set n st s headed inv (head-ok s (siteAt st s) j (outHead o) (inv .site s hs) refl) (headed-link hc);
+            inv-set n st s headed inv (head-ok s (siteAt st s) j (outHead o) (inv .site s hs) hj refl) (headed-link hc);
         total =
             λ p t.
             omega (

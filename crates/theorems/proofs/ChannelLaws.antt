@@ -82,7 +82,7 @@ module _ (n : Network) (val : Valid n) (st : List Site) (inv : Inv n st) (s j : 
         let unfed : (i : ℕ) → Fed i o → ⊥ = λ i. unfed-term (ap isNone hk ∙ terminator-some r) in
         let gone =
         good-kept n st s x₁ inv (λ p t. owesOutput s p t o) s16
-        (gone-good s x j v (inv .site s s16) (omega arith) unfed bare none) in
+        (gone-good s x j v (inv .site s s16) hj unfed bare none) in
         let alone : (s′ j′ : ℕ) → s′ < n .sites → j′ < portCount → joined n s′ (suc j′) ≡ true
         → due (outAt (siteAt st₁ s′) (suc j′)) ≡ true → endSite (channel n s′ (suc j′)) ≡ u
         → endPort (channel n s′ (suc j′)) ≡ endPort b → ⊥ =
@@ -180,7 +180,7 @@ module _ (n : Network) (val : Valid n) (st : List Site) (inv : Inv n st) (s j : 
         let e = ye (both (joined n s (suc j)) (isFree (y .phase)) h .0) ∙ sym (far-same noOutput) in
         let gone =
         good-kept n st s _ inv (λ p t. owesOutput s p t o) s16
-        (gone-good s x j noOutput (inv .site s s16) (omega arith) (λ i. unfed-closing c) refl refl) in
+        (gone-good s x j noOutput (inv .site s s16) hj (λ i. unfed-closing c) refl refl) in
         let none = inv .site s s16 .quiet (suc j) (closing-idle o c) in
         subst (λ (l : List Site). Kept n st l (λ p t. 0)) (sym (ap (setFar st₁ b) e ∙ far-set st₁ b))
         (record {

@@ -13,7 +13,8 @@ use Rattle.base.specs.Lists.{rel-set}
 use Rattle.base.specs.Sums.{sum, sum-set, sum-upto, upto-ext, upto-add, upto-zero}
 use Rattle.theorems.specs.Names.{Connection, Received, gotEnd, gotAbort, Terminator, tAbort, Phase, Free, Seek, Open, Wait}
 use Rattle.theorems.specs.Names.{Done, Last, Aborted, FinAbort, Input, Output, Site, Network}
-use Rattle.model.specs.Types.{noInput, inputD, noOutput, inAt, outOf, outAt, mark, inPhase, outTerm}
+use Rattle.model.specs.Types.{noInput, inputD, noOutput, inAt, outOf, outAt, queueAt, mark, inPhase, outTerm}
+use Rattle.draws.specs.Draws.{restricted}
 use Rattle.types.specs.Phases.{splits, asTerminator, held}
 use Rattle.model.specs.NetInput.{Turn, allReady, table, give, inState}
 use Rattle.model.specs.Places.{lastLacks, remote, cutOff, cutAt, stalled, timeout}
@@ -202,12 +203,13 @@ module _ (s : ℕ) (x : Site) (i : ℕ) (ok : SiteOk s x) (hi : i < inputCount) 
   cutAt-ok (FinAbort c r) e = tt
 
 -- the input that feeds output 0; a number beyond the inputs reads as a free one
-pub timeout-ok : (s : ℕ) (x : Site) → SiteOk s x
+pub timeout-ok : (edition s : ℕ) (x : Site) → SiteOk s x
     → let i = outAt x 0 .input in
-    OwnOk s x (ownTurn (setBoth x i) (timeout (x .incoming) (x .outputs) (inAt x i)))
+    OwnOk s x (ownTurn (setBoth x i) (timeout edition (queueAt x 0) (x .outputs) (inAt x i)))
 unfolding cutAt
-timeout-ok s x ok =
-    cond-ok TurnOk′ (lastLacks (x .incoming) && stalled (outAt x 0)) _ _ (λ a. go (decLt i inputCount)) (λ a. tt)
+timeout-ok edition s x ok =
+    cond-ok TurnOk′ (restricted edition) _ _ (λ r. tt)
+    (λ r. cond-ok TurnOk′ (lastLacks (queueAt x 0) && stalled (outAt x 0)) _ _ (λ a. go (decLt i inputCount)) (λ a. tt))
   where
     i : ℕ
     i = outAt x 0 .input

@@ -1,16 +1,19 @@
--- The operator keeps the invariant; what it services is what is owed no longer. Assumes nothing.
+-- The operator of either in-queue keeps the invariant; what it services is what is owed no longer. Assumes nothing.
 use Prim.Native.Nat.{ℕ, _+_, _≤_, _<_}
 use mathlib.Core.Path.{_≡_, refl, ap, _∙_}
 use mathlib.Core.Bool.{Bool, true, false, cond}
 use native.Mathlib.Omega.{arith}
 use borrow.Author.Tests.{ltb-true, eqb-true}
 use lib.Dec.{eqb, ltb}
-use Rattle.base.specs.Sizes.{queueRoom}
+use lib.ListN.{length, length-set}
+use Rattle.base.specs.Sizes.{inQueueCount, queueRoom}
 use Rattle.base.specs.Bools.{cond-ok}
+use Rattle.base.specs.Lists.{all-set}
+use Rattle.base.specs.Sums.{sum-set}
 use Rattle.sets.specs.Sets.{bit, has, minus}
 use Rattle.sets.proofs.LawsBit.{bit-in, bit-out, bit-minus}
-use Rattle.theorems.specs.Names.{Terminator, tNone, tEnd, tAbort, tKeep, OutEntry, InEntry, OutQueue, InQueue, Site, Serviced}
-use Rattle.model.specs.Types.{noInEntry, inAt, outAt, inEntry, withOutQueue, withInQueue, pushOut, popIn}
+use Rattle.theorems.specs.Names.{Output, Terminator, tNone, tEnd, tAbort, tKeep, OutEntry, InEntry, OutQueue, InQueue, Site, Serviced}
+use Rattle.model.specs.Types.{noInEntry, inQueueD, inAt, outAt, inEntry, queueAt, queuePort, withOutQueue, setQueue, pushOut, popIn}
 use Rattle.types.specs.Phases.{isNone}
 use Rattle.model.specs.Places.{Work, serviceIf, operate, operator}
 use Rattle.model.specs.Steps.{workDone}
@@ -48,11 +51,17 @@ no-hit true true = refl
 no-hit true false = refl
 no-hit false c = refl
 
--- ---- the operator
+-- ---- the operator of in-queue m
 
-module _ (s : ℕ) (x : Site) (ok : SiteOk s x) where
+module _ (s : ℕ) (x : Site) (ok : SiteOk s x) (m : ℕ) (hm : m < inQueueCount) where
   abbrev a : InQueue
-  a = x .incoming
+  a = queueAt x m
+
+  abbrev o : Output
+  o = outAt x (queuePort m)
+
+  was : Landing a o
+  was = ok .landing m hm
 
   abbrev b : OutQueue
   b = x .outgoing
@@ -61,10 +70,10 @@ module _ (s : ℕ) (x : Site) (ok : SiteOk s x) where
   front = inEntry a 0
 
   -- both queues changed
-  queues-good : (a′ : InQueue) (b′ : OutQueue) (more : ℕ → ℕ → ℕ) → Landing a′ (outAt x 0) → Leaving b′ (inAt x 0)
+  queues-good : (a′ : InQueue) (b′ : OutQueue) (more : ℕ → ℕ → ℕ) → Landing a′ o → Leaving b′ (inAt x 0)
       → ((p t : ℕ) → owesInQueue s p t a′ + owesOutQueue s p t b′ + more p t
       ≡ owesInQueue s p t a + owesOutQueue s p t b)
-      → Good s x (withOutQueue (withInQueue x a′) b′) more
+      → Good s x (withOutQueue (setQueue x m a′) b′) more
   queues-good a′ b′ more land leave wt =
       record {
         ok =
@@ -72,20 +81,26 @@ module _ (s : ℕ) (x : Site) (ok : SiteOk s x) where
               ins = ok .ins;
               outs = ok .outs;
               leaving = leave;
-              landing = land;
+              queues = length-set (x .incoming) m a′ ∙ ok .queues;
+              landing =
+                  all-set (λ k iq. k < inQueueCount → Landing iq (outAt x (queuePort k))) (x .incoming) m a′ inQueueD
+                  (λ h. land) (ok .landing);
               conn = ok .conn;
               quiet = ok .quiet;
             };
         keeps = keeps-refl x;
-        weight = λ p t. omega (arith, wt p t);
+        weight =
+            λ p t.
+            let l : m < length (x .incoming) = omega (arith, ok .queues) in
+            omega (arith, wt p t, sum-set (owesInQueue s p t) (x .incoming) m a′ inQueueD l);
       }
 
-  service-ok : (q X : ℕ) (a′ : InQueue) (b′ : OutQueue) → Landing a′ (outAt x 0) → Leaving b′ (inAt x 0)
+  service-ok : (q X : ℕ) (a′ : InQueue) (b′ : OutQueue) → Landing a′ o → Leaving b′ (inAt x 0)
       → ((p t : ℕ) → owesInQueue s p t a′ + owesOutQueue s p t b′ + owesAs tKeep s p t q X
       ≡ owesInQueue s p t a + owesOutQueue s p t b)
-      → OwnOk s x (workDone x (serviceIf s q X a′ b′))
+      → OwnOk s x (workDone x m (serviceIf s q X a′ b′))
   service-ok q X a′ b′ land leave wt =
-      cond-ok (λ w. OwnOk s x (workDone x w)) (has s X) _ _
+      cond-ok (λ w. OwnOk s x (workDone x m w)) (has s X) _ _
       (λ h.
       queues-good a′ b′ (λ p t. hits p t (Serviced q s)) land leave
       (λ p t. omega (arith, wt p t, keep-owes s p t q X 1 (bit-in s X h))))
@@ -93,11 +108,11 @@ module _ (s : ℕ) (x : Site) (ok : SiteOk s x) where
       queues-good a′ b′ (λ p t. 0) land leave
       (λ p t. omega (arith, wt p t, keep-owes s p t q X 0 (bit-out s X h), no-hit (eqb p q) (eqb t s))))
 
-  popped : isNone (front .terminator) ≡ false → Landing (popIn a) (outAt x 0)
+  popped : isNone (front .terminator) ≡ false → Landing (popIn a) o
   popped f =
       record {
-        fits = fits-pop (a .entries) (a .count) (ok .landing .fits) noInEntry;
-        last = λ h. pop-waiting a _ _ f (ok .landing .last h);
+        fits = fits-pop (a .entries) (a .count) (was .fits) noInEntry;
+        last = λ h. pop-waiting a _ _ f (was .last h);
       }
 
   module _ (D : ℕ) (deep : D ≤ queueRoom) (some : 0 < a .count) where
@@ -106,12 +121,12 @@ module _ (s : ℕ) (x : Site) (ok : SiteOk s x) where
     pop-owes k e p t =
         omega (
           arith,
-          sum-popped (a .entries) (a .count) (ok .landing .fits) (owesInEntry s p t) noInEntry some,
+          sum-popped (a .entries) (a .count) (was .fits) (owesInEntry s p t) noInEntry some,
           ap (λ (k : Terminator). owesAs k s p t (front .packet) (front .set)) e,
         )
 
     operate-ok : (k : Terminator) → front .terminator ≡ k
-        → OwnOk s x (workDone x (operate D s a b (front .packet) (front .set) k))
+        → OwnOk s x (workDone x m (operate D s a b (front .packet) (front .set) k))
     unfolding operate
     operate-ok tNone e = tt
     operate-ok tAbort e =
@@ -123,7 +138,7 @@ module _ (s : ℕ) (x : Site) (ok : SiteOk s x) where
     operate-ok tEnd e =
         let q = front .packet in
         let X = front .set in
-        let P : Work → Type 0 = λ w. OwnOk s x (workDone x w) in
+        let P : Work → Type 0 = λ w. OwnOk s x (workDone x m w) in
         cond-ok P (eqb (minus s X) 0) _ _
         (λ z.
         service-ok q X (popIn a) b (popped (ap isNone e)) (ok .leaving)
@@ -151,7 +166,7 @@ module _ (s : ℕ) (x : Site) (ok : SiteOk s x) where
         )))
         (λ h. tt))
 
-  pub operator-ok : (D : ℕ) → D ≤ queueRoom → OwnOk s x (workDone x (operator D s a b))
+  pub operator-ok : (D : ℕ) → D ≤ queueRoom → OwnOk s x (workDone x m (operator D s a b))
   operator-ok D deep =
-      cond-ok (λ w. OwnOk s x (workDone x w)) (ltb 0 (a .count)) _ _
+      cond-ok (λ w. OwnOk s x (workDone x m w)) (ltb 0 (a .count)) _ _
       (λ h. operate-ok D deep (ltb-true 0 (a .count) h) (front .terminator) refl) (λ h. tt)
