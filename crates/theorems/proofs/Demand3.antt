@@ -9,8 +9,8 @@ use native.Mathlib.Decide.{ℕ-discrete}
 use borrow.Author.Tests.{lt-ltb, ne-eqb, eq-eqb}
 use lib.Dec.{eqb, ltb, leb}
 use lib.ListN.{getD, replicate, getD-replicate}
-use Rattle.base.specs.Sizes.{sitesMost, inputCount, outputCount, queueRoom}
-use Rattle.base.specs.Bools.{implies, pick, alike, clash, both, both6, pick-at}
+use Rattle.base.specs.Sizes.{sitesMost, inputCount, outputCount, splitPort, inQueueCount, queueRoom}
+use Rattle.base.specs.Bools.{implies, pick, alike, clash, both, both3, both6, pick-at}
 use Rattle.base.specs.All.{all, all-at}
 use Rattle.base.specs.Lists.{same-at}
 use Rattle.base.specs.Sums.{sum, isum}
@@ -18,29 +18,31 @@ use Rattle.sets.specs.Sets.{bit, targets}
 use Rattle.sets.proofs.Laws.{targets-at}
 use Rattle.sets.proofs.LawsBit.{bit-none}
 use Rattle.theorems.specs.Names.{Seek, Input, Output, OutEntry, Site, State, Network, AfterSend, AfterRun}
-use Rattle.model.specs.Types.{noInput, inputD, noOutput, noOutEntry, noSite, siteD, noState, siteAt, inAt, outOf, outAt, mark}
-use Rattle.types.specs.Phases.{isFree, connected, splitting, aborting}
-use Rattle.model.specs.Range.{tagOk, anyMark, anyRemote, zeroInput, fedBy, inputOk, placeOk, inRange}
+use Rattle.model.specs.Types.{noInput, inputD, noOutput, noOutEntry, noInQueue, inQueueD, noSite, siteD, noState}
+use Rattle.model.specs.Types.{siteAt, inAt, outOf, outAt, mark, queuePort}
+use Rattle.types.specs.Phases.{isFree, connected, splitting, branching, aborting}
+use Rattle.model.specs.Range.{tagOk, anyMark, anyRemote, zeroInput, fedBy, connectionIn, inputOk, placeOk, inRange}
 use Rattle.model.specs.Events.{Event, Send, Run, ran, sent, after, final, answered, setBy, acceptedSet, hits, servicedBy, serviced}
 use Rattle.model.specs.Owing.{owed}
 use Rattle.theorems.proofs.Networks.{valid-ok}
 use Rattle.theorems.proofs.Refusals.{run-passes, send-passes, ran-ways, sent-ways}
 use Rattle.theorems.proofs.Numbered.{below}
-use Rattle.theorems.proofs.Invariant.{due, Conn, SiteOk, Inv, Kept, still}
+use Rattle.theorems.proofs.Invariant.{due, Conn, Landing, SiteOk, Inv, Kept, still}
 use Rattle.theorems.proofs.StepLaws.{run-ok, send-inv, send-owed}
 
 -- ---- out of "in range": the set of an input in seek
 
-input-tag : (S T k : ℕ) (os : List Output) (i : ℕ) (y : Input) → inputOk S T k os i y ≡ true
+input-tag : (edition S T k : ℕ) (os : List Output) (i : ℕ) (y : Input) → inputOk edition S T k os i y ≡ true
     → isFree (y .phase) ≡ false → tagOk S k (y .packet) (y .set) ≡ true
-input-tag S T k os i y h f =
+input-tag edition S T k os i y h f =
     let ph = y .phase in
     let bs = y .outputs in
     let used = tagOk S k (y .packet) (y .set) in
+    let v = both3 _ (alike (mark bs splitPort) (branching ph)) (connectionIn edition ph) h in
     let w =
     both6 (leb (y .tries) T) (pick (isFree ph) (zeroInput y) used) (alike (anyMark bs) (connected ph))
     (all (λ j. implies (mark bs j) (fedBy i (outOf os j))) outputCount) (implies (splitting ph) (mark bs 0))
-    (implies (aborting ph) (splitting ph && not (anyRemote bs))) h in
+    (implies (aborting ph) (splitting ph && not (anyRemote bs))) (v .0) in
     pick-at (isFree ph) (zeroInput y) used (w .1) .1 f
 
 pub seek-set : (n : Network) (st : State) (s : ℕ) → n .sites ≤ sitesMost → inRange n st ≡ true → s < n .sites → (i : ℕ)
@@ -56,8 +58,8 @@ seek-set n st s few h hs i hi e =
     let a = all-at (λ s. placeOk (n .edition) S (n .tries) (n .depth) k s (siteAt (st .sites) s)) s sitesMost (omega arith) h in
     let b = pick-at (ltb s S) _ _ a .0 (lt-ltb s S hs) in
     let c = both _ _ (both _ _ (both _ _ b .0) .0) .0 in
-    let d = all-at (λ i. inputOk S (n .tries) k (x .outputs) i (inAt x i)) i inputCount hi c in
-    let f = input-tag S (n .tries) k (x .outputs) i y d (ap isFree e) in
+    let d = all-at (λ i. inputOk (n .edition) S (n .tries) k (x .outputs) i (inAt x i)) i inputCount hi c in
+    let f = input-tag (n .edition) S (n .tries) k (x .outputs) i y d (ap isFree e) in
     targets-at S (y .set) (both (ltb (y .packet) k) (targets S (y .set)) f .1)
 
 -- ---- an accepted set of number k: what is owed more is what it asks, if k is not answered again
@@ -139,6 +141,13 @@ all-alike P zero a d h e i = e
 all-alike P (suc k) a d h e zero = h
 all-alike P (suc k) a d h e (suc i) = all-alike P k a d h e i
 
+empty-landing : (m : ℕ) → Landing noInQueue (outAt noSite (queuePort m))
+empty-landing m =
+    record {
+      fits = record { room = refl; few = omega arith };
+      last = λ h. absurd (clash (sym h ∙ ap due (same-at outputCount (queuePort m) noOutput)));
+    }
+
 empty-site : (s : ℕ) → SiteOk s noSite
 empty-site s =
     record {
@@ -150,7 +159,8 @@ empty-site s =
             front = λ h. absurd (clash (sym h));
             rest = λ k. ap (λ (d : OutEntry). d .started) (same-at queueRoom (suc k) noOutEntry);
           };
-      landing = record { fits = record { room = refl; few = omega arith }; last = λ h. absurd (clash (sym h)) };
+      queues = refl;
+      landing = λ m hm. rw (getD-replicate inQueueCount m noInQueue inQueueD hm) (empty-landing m);
       conn = λ i. all-alike (λ (y : Input). Conn s i y (outAt noSite)) inputCount noInput inputD tt tt i;
       quiet = λ j h. ap (λ (o : Output). o .terminator) (same-at outputCount j noOutput);
     }

@@ -79,9 +79,9 @@ table =
     -- "P1 seed 1 draws 270369, then 67634689."
     ((drawn 1 ∷ drawn (drawn 1) ∷ []) ∷ [], (270369 ∷ 67634689 ∷ []) ∷ [])
     -- "P2 S = 1: these are codes 8 and 5."
-    ∷ ((drawnCode 1 270369 ∷ drawnCode 1 67634689 ∷ []) ∷ [], (8 ∷ 5 ∷ []) ∷ [])
+    ∷ ((drawnCode 1 1 270369 ∷ drawnCode 1 1 67634689 ∷ []) ∷ [], (8 ∷ 5 ∷ []) ∷ [])
     -- "P3 S = 2: 270369 is site 1, code 8."
-    ∷ ((drawnSite 2 270369 ∷ drawnCode 2 270369 ∷ []) ∷ [], (1 ∷ 8 ∷ []) ∷ [])
+    ∷ ((drawnSite 1 2 270369 ∷ drawnCode 1 2 270369 ∷ []) ∷ [], (1 ∷ 8 ∷ []) ∷ [])
     -- "P4 one site, SEND 0 {0}, codes 10, 0, 5, 10, 0, 5, 11: answers 1 six times, then 2 (packet 0, site 0)."
     ∷ (
       answers (one 1) noState (Send 0 1 ∷ at 0 (10 ∷ 0 ∷ 5 ∷ 10 ∷ 0 ∷ 5 ∷ 11 ∷ [])),
