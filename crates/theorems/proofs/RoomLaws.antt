@@ -19,15 +19,16 @@ use Rattle.sets.proofs.LawsLowest.{lowest-lt}
 use Rattle.sets.proofs.LawsSize.{minus-pos, size-within}
 use Rattle.theorems.specs.Names.{Phase, Free, Seek, Open, Wait, Done, Last, Aborted, FinAbort}
 use Rattle.theorems.specs.Names.{Input, Output, Site, Network}
-use Rattle.model.specs.Types.{noInput, siteAt, inAt, outOf, outAt, carries, withOutQueue, withInQueue, setIn, setOut}
+use Rattle.model.specs.Types.{noInput, siteAt, inAt, outOf, outAt, queueAt, queuePort, isLocal, carries, withOutQueue, setIn}
+use Rattle.model.specs.Types.{setOut, setQueue}
 use Rattle.model.specs.Network.{channelAt, channel, joined, routeOf, choices, listOf, channelOk, channelsOk}
 use Rattle.model.specs.Network.{choice, portOk, listOk, routeOk, routesOk, joinsThen}
 use Rattle.types.specs.Phases.{listening}
 use Rattle.model.specs.Router.{serves, firstPort, gets, unchosen, gatherFrom, gather, route}
 use Rattle.model.specs.NetInput.{Turn, Stay, To, hears, ready, inState, netInput}
 use Rattle.model.specs.Places.{localOutput, channelOutput, outQueue, Work, Rest, Cleared, Service, operator, timeout}
-use Rattle.model.specs.Steps.{farEnd, Act, Idle, Own, Serve, Pass, ownTurn, passTurn, workDone, setBoth, netOutput}
-use Rattle.model.specs.Steps.{act, ends, patch, run}
+use Rattle.model.specs.Steps.{farEnd, Act, Idle, Own, Serve, Pass, ownTurn, passTurn, workDone, operatorAt, setBoth, localAt}
+use Rattle.model.specs.Steps.{netOutput, act, ends, patch, run}
 
 -- ---- what is passed on goes over one of the four channels
 
@@ -46,15 +47,22 @@ pass-on : (x : Site) (j : ℕ) → j < portCount → (r : Turn Output Input) →
 pass-on x j hj Stay = tt
 pass-on x j hj (To o y) = hj
 
-work-on : (x : Site) (w : Work) → OnPort (workDone x w)
-work-on x Rest = tt
-work-on x (Cleared iq oq) = tt
-work-on x (Service iq oq q) = tt
+work-on : (x : Site) (m : ℕ) (w : Work) → OnPort (workDone x m w)
+work-on x m Rest = tt
+work-on x m (Cleared iq oq) = tt
+work-on x m (Service iq oq q) = tt
+
+-- in-queue m: its output, and its operator
+local-on : (D : ℕ) (x : Site) (m : ℕ) → OnPort (localAt D x m)
+local-on D x m =
+    own-on (λ o iq. setOut (setQueue x m iq) (queuePort m) o) (localOutput D (outAt x (queuePort m)) (queueAt x m))
+
+operator-on : (D s : ℕ) (x : Site) (m : ℕ) → OnPort (operatorAt D s x m)
+operator-on D s x m = work-on x m (operator D s (queueAt x m) (x .outgoing))
 
 output-on : (n : Network) (s : ℕ) (x : Site) (far : ℕ → Input) (j : ℕ) → j ≤ portCount → OnPort (netOutput n s x far j)
 unfolding netOutput
-output-on n s x far zero hj =
-    own-on (λ o iq. setOut (withInQueue x iq) 0 o) (localOutput (n .depth) (outAt x 0) (x .incoming))
+output-on n s x far zero hj = local-on (n .depth) x 0
 output-on n s x far (suc j) hj = pass-on x j hj (channelOutput (n .edition) (joined n s (suc j)) (outAt x (suc j)) (far (suc j)))
 
 act-on : (n : Network) (s : ℕ) (x : Site) (far : ℕ → Input) (code : ℕ) → OnPort (act n s x far code)
@@ -69,10 +77,13 @@ act-on n s x far code =
     cond-ok OnPort (eqb code 10) _ _
     (λ c. own-on (λ oq y. setIn (withOutQueue x oq) 0 y) (outQueue (x .outgoing) (inAt x 0)))
     (λ c.
-    cond-ok OnPort (eqb code 11) _ _ (λ d. work-on x (operator (n .depth) s (x .incoming) (x .outgoing)))
+    cond-ok OnPort (eqb code 11) _ _ (λ d. operator-on (n .depth) s x 0)
     (λ d.
     cond-ok OnPort (eqb code 12) _ _
-    (λ e. own-on (setBoth x i) (timeout (x .incoming) (x .outputs) (inAt x i))) (λ e. tt)))))
+    (λ e. own-on (setBoth x i) (timeout (n .edition) (queueAt x 0) (x .outputs) (inAt x i)))
+    (λ e.
+    cond-ok OnPort (eqb code 13) _ _ (λ f. local-on (n .depth) x 1)
+    (λ f. cond-ok OnPort (eqb code 14) _ _ (λ g. operator-on (n .depth) s x 1) (λ g. tt)))))))
 
 -- ---- a network of another version, with other channels and routes
 
@@ -179,16 +190,19 @@ module _ (n : Network) (v : ℕ) (cs rs : List ℕ) (hc : (m : ℕ) → m < port
             (channel-at s j hs (leb-true (suc j) portCount e))))
             (λ e. rw e refl)
 
-        -- beyond output 4 there is no input that listens
+        -- the split output hears without a channel; beyond output 4 there is no input that listens
         hears-same : (j : ℕ) → hears (joined other s) (ends n xs s) j ≡ hears (joined n s) (ends n xs s) j
         unfolding hears
         hears-same zero = refl
         hears-same (suc j) =
             either-way (leb (suc j) portCount)
             (λ e.
-            ap (λ (b : ℕ). not (eqb b noChannel) && listening (ends n xs s (suc j) .phase))
+            ap (λ (b : ℕ). isLocal (suc j) || not (eqb b noChannel) && listening (ends n xs s (suc j) .phase))
             (channel-at s j hs (leb-true (suc j) portCount e)))
-            (λ e. rw e (and-false (joined other s (suc j)) ∙ sym (and-false (joined n s (suc j)))))
+            (λ e.
+            rw e
+            (ap (λ (b : Bool). isLocal (suc j) || b)
+            (and-false (joined other s (suc j)) ∙ sym (and-false (joined n s (suc j))))))
 
         ready-same : (os : List Output)
             → ready (joined other s) (ends other xs s) os ≡ ready (joined n s) (ends n xs s) os
