@@ -4,16 +4,16 @@ use Prim.Native.Nat.{ℕ, _+_}
 use mathlib.Core.Path.{_≡_, refl}
 use mathlib.Core.List.{List, [], _∷_, _++_, map}
 use lib.Count.{trailingZeros}
-use Rattle.base.specs.Sizes.{noChannel}
+use Rattle.base.specs.Sizes.{splitPort, noChannel}
 use Rattle.base.specs.All.{all, any}
 use Rattle.base.specs.Over.{over}
 use Rattle.base.specs.Sums.{sum, isum, upto}
 use Rattle.sets.specs.Sets.{has, plus, minus, sizeIn, lowest}
-use Rattle.theorems.specs.Names.{Network}
-use Rattle.model.specs.Types.{noState}
+use Rattle.theorems.specs.Names.{Site, Network}
+use Rattle.model.specs.Types.{noState, siteAt, inAt, outAt}
 use Rattle.model.specs.Network.{networkRefusal}
 use Rattle.model.specs.Range.{inRange}
-use Rattle.model.specs.Router.{firstPort, gatherFrom, gather, spread, orElse, route}
+use Rattle.model.specs.Router.{firstPort, gatherFrom, gather, spread, branch, orElse, route}
 use Rattle.model.specs.NetInput.{hears, give, occupy, marksOf, seek, inState}
 use Rattle.model.specs.Places.{localOutput, deliver, channelOutput, outQueue, operate, cutAt}
 use Rattle.model.specs.Steps.{netOutput, act, run, enqueue}
@@ -21,13 +21,17 @@ use Rattle.model.specs.Events.{Event, Send, Run, ran, sent, runRefusal, sendRef
 use Rattle.model.specs.Owing.{owed}
 use Rattle.model.specs.Runs.{unplayed, atDraw, playedSingly, inBook, inEntries, bookBytes}
 use Rattle.theorems.proofs.Examples.{two, at}
-use Rattle.model.proofs.Made.{net}
+use Rattle.model.proofs.Made.{net, netIn}
 
 -- three sites in a ring, 0 to 1 to 2 to 0, all by ports 1
+abbrev forward : List ℕ
+forward = 4 ∷ noChannel ∷ noChannel ∷ noChannel ∷ 8 ∷ noChannel ∷ noChannel ∷ noChannel ∷ 0 ∷ []
+
+abbrev around : List ℕ
+around = 0 ∷ 4096 ∷ 4096 ∷ 4096 ∷ 0 ∷ 4096 ∷ 4096 ∷ 4096 ∷ 0 ∷ []
+
 abbrev ring : Network
-ring =
-    net 3 3 8 (4 ∷ noChannel ∷ noChannel ∷ noChannel ∷ 8 ∷ noChannel ∷ noChannel ∷ noChannel ∷ 0 ∷ [])
-    (0 ∷ 4096 ∷ 4096 ∷ 4096 ∷ 0 ∷ 4096 ∷ 4096 ∷ 4096 ∷ 0 ∷ [])
+ring = net 3 3 8 forward around
 
 -- packet p at sites 0, 1, 2: the times it stands in the book of the events there, and the places that owe it
 row : Network → ℕ → List Event → List ℕ
@@ -100,3 +104,51 @@ unfolding number-rows orders numbered at acceptedSet timesAnswered serviced play
     gatherFrom gather spread orElse route hears give occupy marksOf seek inState localOutput deliver channelOutput
     outQueue operate cutAt netOutput act run enqueue
 numbers-read = refl
+
+-- ---- edition 3, L10: "a packet splits only into its local target and one way onward, through a split-port of its own"
+
+abbrev parting : Network
+parting = netIn 2 3 noChannel 0 3 3 8 forward around
+
+-- {0,1,2}: {0} goes to site 0's split output, {1,2} to port 1, and at site 1 {1} and {2} part likewise
+parted : List Event
+parted = Send 0 7 ∷ at 0 (10 ∷ 0 ∷ 13 ∷ 6 ∷ []) ++ (Run 1 1 ∷ at 0 (12 ∷ [])) ++ at 1 (13 ∷ 6 ∷ []) ++ (Run 2 1 ∷ [])
+
+-- the same, ended at both branches of both sites; the channel from 0 to 1 is held until its input is free
+finished : List Event
+finished = parted ++ at 0 (10 ∷ 0 ∷ 6 ∷ []) ++ (Run 1 1 ∷ at 0 (6 ∷ []))
+
+-- then {0,1}, site 0's split output still busy: the whole set goes to port 1; the split output ends its entry, its operator
+-- services it
+whole : List Event
+whole = finished ++ (Send 0 3 ∷ at 0 (10 ∷ 0 ∷ 6 ∷ 13 ∷ 14 ∷ 14 ∷ []))
+
+-- the sets at a site's split output, at its output 1 and at its input 1
+abbrev setsAt : Site → List ℕ
+setsAt x = outAt x splitPort .set ∷ outAt x 1 .set ∷ inAt x 1 .set ∷ []
+
+-- these sets at sites 0 and 1, the book of the events, all at draw 259, and the rows of packets 0 and 1
+ways : List Event → List (List ℕ)
+ways es =
+    let g = playedSingly parting unplayed (atDraw 259 es) in
+    let xs = g .state .sites in
+    let held : ℕ → List ℕ = λ p. map (λ t. inBook p t (g .book) + owed xs p t) (0 ∷ 1 ∷ 2 ∷ []) in
+    setsAt (siteAt xs 0) ∷ setsAt (siteAt xs 1) ∷ bookBytes (g .book) ∷ held 0 ∷ held 1 ∷ []
+
+pub parting-rows : List (List (List ℕ) × List (List ℕ))
+parting-rows =
+    -- "{s} goes there and the rest to the first empty output of the lowest other target"; "timeouts do nothing"
+    (ways parted, (1 ∷ 6 ∷ 0 ∷ []) ∷ (2 ∷ 4 ∷ 6 ∷ []) ∷ [] ∷ (1 ∷ 1 ∷ 1 ∷ []) ∷ (0 ∷ 0 ∷ 0 ∷ []) ∷ [])
+    -- "With the split output busy ..: the whole set that way."; one service, by code 14
+    ∷ (
+      ways whole,
+      (0 ∷ 3 ∷ 0 ∷ []) ∷ (2 ∷ 4 ∷ 3 ∷ []) ∷ (1 ∷ 3 ∷ 0 ∷ 0 ∷ []) ∷ (1 ∷ 1 ∷ 1 ∷ []) ∷ (1 ∷ 1 ∷ 0 ∷ []) ∷ [],
+    )
+    ∷ []
+
+pub parting-read : map (λ pair. pair .0) parting-rows ≡ map (λ pair. pair .1) parting-rows
+unfolding parting-rows ways parted finished whole at playedSingly bookBytes owed ran sent runRefusal sendRefusal
+    networkRefusal inRange all any over sum isum upto has plus minus sizeIn lowest trailingZeros firstPort gatherFrom gather
+    spread branch orElse route hears give occupy marksOf seek inState localOutput deliver channelOutput outQueue operate
+    cutAt netOutput act run enqueue
+parting-read = refl
