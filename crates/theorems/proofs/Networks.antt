@@ -52,7 +52,8 @@ sizes-at n h =
     let b = both _ (leb 1 (n .depth)) (a .0) in
     let c = both _ (leb 1 (n .tries)) (b .0) in
     let d = both (leb 1 (n .sites)) (leb (n .sites) (sitesIn (n .version))) (c .0) in
-    (leb-true _ _ (d .0), omega (arith, leb-true (n .sites) (sitesIn (n .version)) (d .1), sites-in (n .version)), leb-true _ _ (c .1), leb-true _ _ (b .1), leb-true _ _ (a .1))
+    let few : n .sites ≤ sitesMost = omega (arith, leb-true (n .sites) (sitesIn (n .version)) (d .1), sites-in (n .version)) in
+    (leb-true _ _ (d .0), few, leb-true _ _ (c .1), leb-true _ _ (b .1), leb-true _ _ (a .1))
 
 module _ (n : Network) (h : networkRefusal n ≡ 0) where
   channel-ok : (c : ℕ) → c < portCount * n .sites → (channelAt n c ≡ noChannel → ⊥)
