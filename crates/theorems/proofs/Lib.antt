@@ -36,3 +36,5 @@ pub mod Alike
 pub mod Trimmed
 pub mod Versions
 pub mod Editions
+pub mod CalmPlaces
+pub mod Calm

@@ -11,11 +11,11 @@ use Rattle.base.specs.Sizes.{setBits}
 use Rattle.base.specs.Sums.{sum, isum, upto, upto-ext, upto-add, upto-zero, upto-one, upto-sum, upto-isum}
 use Rattle.sets.specs.Sets.{bit}
 use Rattle.sets.proofs.LawsBit.{count-has, size-upto}
-use Rattle.theorems.specs.Names.{Terminator, tNone, tEnd, tAbort, tKeep, Site}
-use Rattle.model.specs.Types.{inputD, noOutput, noOutEntry, noInEntry, siteD, siteAt, inAt, outAt, outEntry, inEntry}
+use Rattle.theorems.specs.Names.{Terminator, tNone, tEnd, tAbort, tKeep, InQueue, Site}
+use Rattle.model.specs.Types.{inputD, noOutput, noOutEntry, noInEntry, inQueueD, siteD, siteAt, inAt, outAt, outEntry, queueAt, inEntry}
 use Rattle.types.specs.Phases.{held}
 use Rattle.model.specs.Owing.{owesAs, owesInput, owesOutput, owesOutEntry, owesInEntry, owesOutQueue, owesInQueue, owesSite, owed}
-use Rattle.model.specs.Owing.{pairsAs, pairsInput, pairsOutput, pairsOutEntry, pairsInEntry, pairsSite, owedPairs}
+use Rattle.model.specs.Owing.{pairsAs, pairsInput, pairsOutput, pairsOutEntry, pairsInEntry, pairsInQueue, pairsSite, owedPairs}
 
 -- sums of what is the same at each place; what holds of each entry holds of each of the first ones
 sum-same : {A : Type 0} (f g : A → ℕ) (l : List A) (d : A) → ((i : ℕ) → f (getD l i d) ≡ g (getD l i d)) → sum f l ≡ sum g l
@@ -91,13 +91,23 @@ module _ (P : ℕ) where
     pub ins : (i : ℕ) → inAt x i .packet < P
     pub outs : (j : ℕ) → outAt x j .packet < P
     pub out-entries : (m : ℕ) → outEntry (x .outgoing) m .packet < P
-    pub in-entries : (m : ℕ) → inEntry (x .incoming) m .packet < P
+    pub in-entries : (m e : ℕ) → inEntry (queueAt x m) e .packet < P
+
+  -- an in-queue
+  queue-pairs : (s : ℕ) (iq : InQueue) → 0 < P → s < setBits → ((e : ℕ) → inEntry iq e .packet < P)
+      → grand P (λ p t. owesInQueue s p t iq) ≡ pairsInQueue s iq
+  queue-pairs s iq z l ok =
+      grand-sum (owesInEntry s) (take (iq .count) (iq .entries))
+      ∙ sum-same _ (pairsInEntry s) _ noInEntry
+      (λ e.
+      place-pairs (getD (take (iq .count) (iq .entries)) e noInEntry .terminator) s _ _
+      (take-all (λ a. a .packet < P) _ noInEntry z ok (iq .count) e) l)
 
   pub site-pairs : (s : ℕ) (x : Site) → 0 < P → s < setBits → SmallSite x → grand P (λ p t. owesSite p t s x) ≡ pairsSite s x
   site-pairs s x z l ok =
       grand-add
       (λ p t. sum (owesInput s p t) (x .inputs) + sum (owesOutput s p t) (x .outputs) + owesOutQueue s p t (x .outgoing))
-      (λ p t. owesInQueue s p t (x .incoming))
+      (λ p t. sum (owesInQueue s p t) (x .incoming))
       ∙ ap₂ (λ (a b : ℕ). a + b)
       (grand-add (λ p t. sum (owesInput s p t) (x .inputs) + sum (owesOutput s p t) (x .outputs)) (λ p t. owesOutQueue s p t (x .outgoing))
       ∙ ap₂ (λ (a b : ℕ). a + b)
@@ -111,11 +121,8 @@ module _ (P : ℕ) where
       ∙ sum-same _ (pairsOutEntry s) _ noOutEntry
       (λ m.
       place-pairs tEnd s _ _ (take-all (λ d. d .packet < P) _ noOutEntry z (ok .out-entries) (x .outgoing .count) m) l)))
-      (grand-sum (owesInEntry s) (take (x .incoming .count) (x .incoming .entries))
-      ∙ sum-same _ (pairsInEntry s) _ noInEntry
-      (λ m.
-      place-pairs (getD (take (x .incoming .count) (x .incoming .entries)) m noInEntry .terminator) s _ _
-      (take-all (λ a. a .packet < P) _ noInEntry z (ok .in-entries) (x .incoming .count) m) l))
+      (grand-sum (owesInQueue s) (x .incoming)
+      ∙ sum-same _ (pairsInQueue s) (x .incoming) inQueueD (λ m. queue-pairs s (queueAt x m) z l (ok .in-entries m)))
 
   -- all sites
   pub state-pairs : (st : List Site) → 0 < P → length st ≤ setBits → ((s : ℕ) → s < length st → SmallSite (siteAt st s))
