@@ -21,8 +21,9 @@ pub mod ChannelLaws
 pub mod StepLaws
 pub mod Demand3
 pub mod RangeTests
-pub mod RangePlaces
+pub mod RangeQueues
 pub mod RangeSites
+pub mod RangePlaces
 pub mod RangeInputs
 pub mod RangeRun
 pub mod RangePackets

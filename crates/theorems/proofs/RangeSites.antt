@@ -1,77 +1,39 @@
 -- In range as facts of a site and of all sites: the tests of specs/Range.antt in both directions, with the lengths of the
 -- arrays, which the types give; and what a change of one place asks. Assumes nothing.
-use Prim.Native.Nat.{ℕ, suc, _+_, _-_, _≤_, _<_}
+use Prim.Native.Nat.{ℕ, _≤_, _<_}
 use mathlib.Core.Path.{_≡_, refl, sym, _∙_}
-use mathlib.Core.List.{List, [], _∷_, _++_}
+use mathlib.Core.List.{List, []}
 use mathlib.Core.Bool.{Bool, true, false, _&&_}
 use native.Mathlib.Decide.{decLt}
 use native.Mathlib.Omega.{arith}
 use borrow.Author.Tests.{lt-ltb, le-ltb, ltb-true, ltb-false}
 use lib.Dec.{ltb}
-use lib.ListN.{set, drop, length, length-set}
-use Rattle.base.specs.Sizes.{sitesMost, inputCount, outputCount, queueRoom}
-use Rattle.base.specs.Bools.{clash, and, both, and3, both3, pick-at, pick-by}
-use Rattle.base.specs.All.{all, any, all-at, all-by}
-use Rattle.base.specs.Lists.{beyond, all-set, all-but, rel-set, pop-at, length-pop}
+use lib.ListN.{length, length-set}
+use Rattle.base.specs.Sizes.{sitesMost, inputCount, outputCount, splitPort, inQueueCount, queueRoom}
+use Rattle.base.specs.Bools.{clash, and, both, and3, both3, pick, pick-at, pick-by}
+use Rattle.base.specs.All.{all, any, all-at, all-by, any-at}
+use Rattle.base.specs.Lists.{beyond, all-set, rel-set}
 use Rattle.theorems.specs.Names.{Input, Output, OutQueue, InQueue, Site, Network}
 use Rattle.model.specs.Shapes.{SiteShaped}
-use Rattle.model.specs.Types.{noOutput, inputD, siteD, siteAt, inAt, outAt, withOutQueue, withInQueue, setIn, setOut, setSite}
-use Rattle.model.specs.Range.{anyMark, inputOk, outputOk, outQueueOk, inQueueOk, siteOk, zeroSite, placeOk}
+use Rattle.model.specs.Types.{noOutput, inputD, inQueueD, siteD, siteAt, inAt, outAt, mark, queueAt, withOutQueue, setIn, setOut, setQueue, setSite}
+use Rattle.draws.specs.Draws.{restricted}
+use Rattle.model.specs.Range.{anyMark, inputOk, outputOk, outQueueOk, inQueueOk, depthOf, siteOk, zeroSite, placeOk}
 use Rattle.theorems.proofs.Invariant.{Fed}
-use Rattle.theorems.proofs.RangeTests.{Tagged, InputAt, InputIn, OutputIn, Queued, OutQueueIn, InQueueIn, unmarked, input-at}
-use Rattle.theorems.proofs.RangeTests.{input-by, output-at, output-by, out-queue-at, out-queue-by, in-queue-at, in-queue-by}
-
--- ---- queues in arrays
-
-module _ {A : Type 0} (U : ℕ → A → Type 0) (Z : A → Bool) (d : A) {D c : ℕ} {l : List A} where
-  -- one more at the back
-  pub queue-push : (v : A) → c < D → D ≤ queueRoom → U c v → Queued U Z d D c l → Queued U Z d D (c + 1) (set l c v)
-  queue-push v h deep u q =
-      record {
-        long = length-set l c v ∙ q .long;
-        few = omega arith;
-        each =
-            all-but (λ m a. (m < c + 1 → U m a) × (c + 1 ≤ m → Z a ≡ true)) l c v d (omega (arith, q .long))
-            (λ e. u, λ e. absurd (omega arith))
-            (λ m ne. (λ e. q .each m .0 (omega arith), λ e. q .each m .1 (omega arith)));
-      }
-
-  -- the front away
-  pub queue-pop : ((m : ℕ) (a : A) → U (suc m) a → U m a) → Queued U Z d D c l
-      → Queued U Z d D (c - 1) (drop 1 l ++ (d ∷ []))
-  queue-pop f q =
-      record {
-        long = length-pop l d 7 (q .long);
-        few = omega (arith, q .few);
-        each =
-            λ m.
-            rw (pop-at l d m)
-            (λ e. f m _ (q .each (suc m) .0 (omega arith)), λ e. q .each (suc m) .1 (omega arith));
-      }
-
-  -- one entry changed
-  pub queue-set : (i : ℕ) (v : A) → i < c → U i v → Queued U Z d D c l → Queued U Z d D c (set l i v)
-  queue-set i v h u q =
-      record {
-        long = length-set l i v ∙ q .long;
-        few = q .few;
-        each =
-            all-set (λ m a. (m < c → U m a) × (c ≤ m → Z a ≡ true)) l i v d (λ e. u, λ e. absurd (omega arith))
-            (q .each);
-      }
-
-  -- under a weaker fact
-  pub queue-map : (W : ℕ → A → Type 0) → ((m : ℕ) (a : A) → U m a → W m a) → Queued U Z d D c l → Queued W Z d D c l
-  queue-map W f q = record { long = q .long; few = q .few; each = λ m. (λ e. f m _ (q .each m .0 e), q .each m .1) }
+use Rattle.theorems.proofs.RangeTests.{Tagged, InputAt, InputIn, OutputIn, unmarked, input-at, input-by, output-at, output-by}
+use Rattle.theorems.proofs.RangeQueues.{OutQueueIn, InQueueIn, out-queue-at, out-queue-by, in-queue-at, in-queue-by}
 
 -- ---- inputs
 
+-- without a connection there is none that an edition lacks
+no-kind : (edition : ℕ) → pick (restricted edition) true true ≡ true
+no-kind edition = pick-by (restricted edition) true true (λ e. refl) (λ e. refl)
+
 -- a free input, and one that seeks
 pub blank-in : (n : Network) (k i : ℕ) (bs : List Bool) (o : ℕ → Output) → (i < inputCount → length bs ≡ outputCount)
-    → anyMark bs ≡ false → InputAt n k i true false false false 0 0 0 bs o
-blank-in n k i bs o five h =
+    → anyMark bs ≡ false → InputAt n k i true false false false false 0 0 0 bs o
+blank-in n k i bs o full h =
     record {
-      five = five;
+      full = full;
       tries = omega arith;
       blank = λ e. (refl, refl, refl);
       tagged = λ e. absurd (clash e);
@@ -79,14 +41,16 @@ blank-in n k i bs o five h =
       fed = λ j l m. absurd (unmarked bs h j l m);
       zeroth = λ e. absurd (clash (sym e));
       sole = λ e. absurd (clash (sym e));
+      parted = any-at (mark bs) splitPort outputCount (omega arith) h;
+      kind = no-kind (n .edition);
     }
 
 pub seek-in : (n : Network) (k i q z t : ℕ) (bs : List Bool) (o : ℕ → Output)
     → (i < inputCount → length bs ≡ outputCount) → anyMark bs ≡ false → Tagged n k q z → t ≤ n .tries
-    → InputAt n k i false false false false q z t bs o
-seek-in n k i q z t bs o five h tg ht =
+    → InputAt n k i false false false false false q z t bs o
+seek-in n k i q z t bs o full h tg ht =
     record {
-      five = five;
+      full = full;
       tries = ht;
       blank = λ e. absurd (clash (sym e));
       tagged = λ e. tg;
@@ -94,14 +58,16 @@ seek-in n k i q z t bs o five h tg ht =
       fed = λ j l m. absurd (unmarked bs h j l m);
       zeroth = λ e. absurd (clash (sym e));
       sole = λ e. absurd (clash (sym e));
+      parted = any-at (mark bs) splitPort outputCount (omega arith) h;
+      kind = no-kind (n .edition);
     }
 
 -- an input whose outputs still are fed by it
-pub frame : {n : Network} {k i : ℕ} {f c s a : Bool} {q z t : ℕ} {bs : List Bool} {o : ℕ → Output} (o′ : ℕ → Output)
-    → ((j : ℕ) → Fed i (o j) → Fed i (o′ j)) → InputAt n k i f c s a q z t bs o → InputAt n k i f c s a q z t bs o′
+pub frame : {n : Network} {k i : ℕ} {f c s p a : Bool} {q z t : ℕ} {bs : List Bool} {o : ℕ → Output} (o′ : ℕ → Output)
+    → ((j : ℕ) → Fed i (o j) → Fed i (o′ j)) → InputAt n k i f c s p a q z t bs o → InputAt n k i f c s p a q z t bs o′
 frame o′ h y =
     record {
-      five = y .five;
+      full = y .full;
       tries = y .tries;
       blank = y .blank;
       tagged = y .tagged;
@@ -109,6 +75,8 @@ frame o′ h y =
       fed = λ j l m. h j (y .fed j l m);
       zeroth = y .zeroth;
       sole = y .sole;
+      parted = y .parted;
+      kind = y .kind;
     }
 
 unread : anyMark [] ≡ false
@@ -123,30 +91,35 @@ pub record SiteIn (n : Network) (k : ℕ) (x : Site) : Type 0 where
   pub ins : (i : ℕ) → InputIn n k i (outAt x) (inAt x i)
   pub outs : (j : ℕ) → OutputIn n k j (outAt x j)
   pub outgoing : OutQueueIn n k (x .outgoing)
-  pub incoming : InQueueIn n k (x .incoming)
+  pub incoming : length (x .incoming) ≡ inQueueCount
+  pub queues : (m : ℕ) → m < inQueueCount → InQueueIn n k m (queueAt x m)
 
 pub site-shaped : (n : Network) (k : ℕ) (x : Site) → SiteIn n k x → SiteShaped x
 site-shaped n k x h =
     record {
       inputs = h .inputs;
-      marks = λ i l. h .ins i .five l;
+      marks = λ i l. h .ins i .full l;
       outputs = h .outputs;
       outgoing = h .outgoing .long;
-      incoming = h .incoming .long;
+      incoming = h .incoming;
+      arrived = λ m l. h .queues m l .long;
     }
 
 module _ (n : Network) (k : ℕ) (x : Site) where
   abbrev inputTest : ℕ → Bool
-  inputTest i = inputOk (n .sites) (n .tries) k (x .outputs) i (inAt x i)
+  inputTest i = inputOk (n .edition) (n .sites) (n .tries) k (x .outputs) i (inAt x i)
 
   abbrev outputTest : ℕ → Bool
   outputTest j = outputOk (n .edition) (n .sites) k j (outAt x j)
+
+  abbrev queueTest : ℕ → Bool
+  queueTest m = inQueueOk (n .sites) (depthOf (n .edition) (n .depth) m) k (queueAt x m)
 
   pub site-at : SiteShaped x → n .depth ≤ queueRoom → siteOk (n .edition) (n .sites) (n .tries) (n .depth) k x ≡ true → SiteIn n k x
   site-at len deep h =
       let w =
       both3 (all inputTest inputCount && all outputTest outputCount) (outQueueOk (n .sites) (n .depth) k (x .outgoing))
-      (inQueueOk (n .sites) (n .depth) k (x .incoming)) h in
+      (all queueTest inQueueCount) h in
       let u = both (all inputTest inputCount) (all outputTest outputCount) (w .0) in
       record {
         inputs = len .inputs;
@@ -160,17 +133,20 @@ module _ (n : Network) (k : ℕ) (x : Site) where
             (λ j l. output-at n k j (outAt x j) (all-at outputTest j outputCount l (u .1)))
             (λ j l. output-at n k j noOutput refl);
         outgoing = out-queue-at n k (x .outgoing) (len .outgoing) deep (w .1);
-        incoming = in-queue-at n k (x .incoming) (len .incoming) deep (w .2);
+        incoming = len .incoming;
+        queues =
+            λ m l. in-queue-at n k m (queueAt x m) (len .arrived m l) deep (all-at queueTest m inQueueCount l (w .2));
       }
 
   pub site-by : SiteIn n k x → siteOk (n .edition) (n .sites) (n .tries) (n .depth) k x ≡ true
   site-by h =
       and3 (all inputTest inputCount && all outputTest outputCount) (outQueueOk (n .sites) (n .depth) k (x .outgoing))
-      (inQueueOk (n .sites) (n .depth) k (x .incoming))
+      (all queueTest inQueueCount)
       (and (all inputTest inputCount) (all outputTest outputCount)
       (all-by inputTest inputCount (λ i l. input-by n k (x .outputs) i (inAt x i) (h .ins i)))
       (all-by outputTest outputCount (λ j l. output-by n k j (outAt x j) (h .outs j))))
-      (out-queue-by n k (x .outgoing) (h .outgoing)) (in-queue-by n k (x .incoming) (h .incoming))
+      (out-queue-by n k (x .outgoing) (h .outgoing))
+      (all-by queueTest inQueueCount (λ m l. in-queue-by n k m (queueAt x m) (h .queues m l)))
 
   -- one place of a site in range changed
   module _ (ok : SiteIn n k x) where
@@ -183,6 +159,7 @@ module _ (n : Network) (k : ℕ) (x : Site) where
           outs = ok .outs;
           outgoing = ok .outgoing;
           incoming = ok .incoming;
+          queues = ok .queues;
         }
 
     pub out-set : (j : ℕ) (v : Output) → OutputIn n k j v → ((i : ℕ) → Fed i (outAt x j) → Fed i v)
@@ -198,6 +175,7 @@ module _ (n : Network) (k : ℕ) (x : Site) where
           outs = all-set (λ m o. OutputIn n k m o) (x .outputs) j v noOutput h (ok .outs);
           outgoing = ok .outgoing;
           incoming = ok .incoming;
+          queues = ok .queues;
         }
 
     pub outgoing-set : (q : OutQueue) → OutQueueIn n k q → SiteIn n k (withOutQueue x q)
@@ -209,17 +187,20 @@ module _ (n : Network) (k : ℕ) (x : Site) where
           outs = ok .outs;
           outgoing = h;
           incoming = ok .incoming;
+          queues = ok .queues;
         }
 
-    pub incoming-set : (q : InQueue) → InQueueIn n k q → SiteIn n k (withInQueue x q)
-    incoming-set q h =
+    pub incoming-set : (m : ℕ) (q : InQueue) → InQueueIn n k m q → SiteIn n k (setQueue x m q)
+    incoming-set m q h =
         record {
           inputs = ok .inputs;
           outputs = ok .outputs;
           ins = ok .ins;
           outs = ok .outs;
           outgoing = ok .outgoing;
-          incoming = h;
+          incoming = length-set (x .incoming) m q ∙ ok .incoming;
+          queues =
+              all-set (λ m iq. m < inQueueCount → InQueueIn n k m iq) (x .incoming) m q inQueueD (λ l. h) (ok .queues);
         }
 
 -- ---- the sites
