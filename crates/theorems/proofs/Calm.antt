@@ -47,10 +47,10 @@ module _ (n : Network) (e : restricted (n .edition) ≡ true) (s : ℕ) (x : Sit
     abbrev y : Input
     y = inAt x i
 
-    opened-calm : (c : Connection) (sets : List ℕ) → splits c ≡ false → CalmTurn (opened i y (x .outputs) c sets)
+    opened-calm : (c : Connection) (sets : List ℕ) → not (splits c) ≡ true → CalmTurn (opened i y (x .outputs) c sets)
     unfolding occupy
     opened-calm c sets h =
-        over-outs (set-in ok i _ (ap not h)) _
+        over-outs (set-in ok i _ h) _
         (λ j.
         cond-ok (λ (o : Output). mild (o .terminator) ≡ true) (isChosen sets j) (taken (y .packet) i (getD sets j 0)) (outAt x j)
         (λ a. refl) (λ a. ok .outputs j))

@@ -4,23 +4,22 @@ use Prim.Native.Nat.{ℕ, zero, suc}
 use mathlib.Core.Path.{_≡_, refl, sym, ap, _∙_}
 use mathlib.Core.List.{List, [], _∷_}
 use mathlib.Core.Bool.{Bool, true, false, not, _&&_}
-use lib.Dec.{eqb}
 use lib.ListN.{getD, set}
-use Rattle.base.specs.Sizes.{outputCount, splitPort}
-use Rattle.base.specs.Bools.{clash, cond-ok, both}
+use Rattle.base.specs.Sizes.{outputCount}
+use Rattle.base.specs.Bools.{clash, both, pick-at}
 use Rattle.base.specs.Lists.{all-set, pop-at}
 use Rattle.base.specs.Over.{over}
-use Rattle.sets.specs.Sets.{has, only, minus, size, lowest}
 use Rattle.draws.specs.Draws.{restricted}
 use Rattle.theorems.specs.Names.{Connection, Unicast, Passthru, AllRemote, SomeLocal, Handed, Branch, Received, gotEnd, gotAbort}
 use Rattle.theorems.specs.Names.{Terminator, tNone, tEnd, tAbort, tKeep, Phase, Free, Seek, Open, Wait, Done, Last, Aborted}
 use Rattle.theorems.specs.Names.{FinAbort, Input, Output, InEntry, InQueue, Site, State, Network}
 use Rattle.model.specs.Types.{noOutput, noInEntry, inputD, inQueueD, siteAt, outOf}
 use Rattle.model.specs.Types.{inEntry, popIn}
-use Rattle.types.specs.Phases.{splits, receive, held}
-use Rattle.model.specs.Network.{listOf}
-use Rattle.model.specs.Router.{Choice, Chosen, Unserved, isEmpty, firstEmpty, onPort, branch, route}
+use Rattle.types.specs.Phases.{branches, splits, receive, held}
+use Rattle.model.specs.Router.{Choice, Chosen, Unserved, route}
 use Rattle.model.specs.NetInput.{table}
+use Rattle.theorems.proofs.RouterChoices.{ChoiceIn}
+use Rattle.theorems.proofs.RouterLaws.{route-in}
 
 -- ---- what holds no abort
 
@@ -154,21 +153,12 @@ calm-held (FinAbort c r) h = absurd (clash (sym h))
 
 abbrev pub CalmChoice : Choice → Type 0
 CalmChoice Unserved = Unit {0}
-CalmChoice (Chosen c sets) = splits c ≡ false
+CalmChoice (Chosen c sets) = not (splits c) ≡ true
 
--- edition 3 splits by connection 6 alone
+-- edition 3 has no connection 3 or 4
 pub route-calm : (n : Network) (s : ℕ) (os : List Output) (X : ℕ) → restricted (n .edition) ≡ true → CalmChoice (route n s os X)
-unfolding route branch
-route-calm n s os X e =
-    let port : (c : Connection) (j : ℕ) → splits c ≡ false → CalmChoice (onPort c X j) =
-    λ c j h. cond-ok CalmChoice (eqb j 0) _ _ (λ a. tt) (λ a. h) in
-    let j = firstEmpty os (listOf n s (lowest (minus s X))) in
-    cond-ok CalmChoice (eqb X (only s)) _ _ (λ a. cond-ok CalmChoice (isEmpty os 0) _ _ (λ b. refl) (λ b. tt))
-    (λ a.
-    cond-ok CalmChoice (eqb (size X) 1) _ _ (λ b. port Unicast (firstEmpty os (listOf n s (lowest X))) refl)
-    (λ b.
-    cond-ok CalmChoice (restricted (n .edition)) _ _
-    (λ c.
-    cond-ok CalmChoice (has s X && isEmpty os splitPort) _ _
-    (λ d. cond-ok CalmChoice (eqb j 0) _ _ (λ f. tt) (λ f. refl)) (λ d. port Passthru j refl))
-    (λ c. absurd (clash (sym e ∙ c)))))
+route-calm n s os X e = go (route n s os X) (route-in n s X os)
+  where
+    go : (r : Choice) → ChoiceIn (n .edition) r → CalmChoice r
+    go Unserved h = tt
+    go (Chosen c sets) h = pick-at (restricted (n .edition)) (not (splits c)) (not (branches c)) h .0 e

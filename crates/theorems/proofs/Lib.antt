@@ -25,6 +25,7 @@ pub mod RangeQueues
 pub mod RangeSites
 pub mod RangePlaces
 pub mod RangeInputs
+pub mod RangeTimeouts
 pub mod RangeRun
 pub mod RangePackets
 pub mod RangeKept

@@ -1,4 +1,4 @@
--- The rules of a net-input and the timeout keep in range the input and the outputs that they change, and change the input.
+-- The rules of a net-input keep in range the input and the outputs that they change, and change the input.
 -- Assumes of the network only its number of sites, where the router is asked.
 use Prim.Native.Nat.{ℕ, zero, suc, _+_, _^_, _≤_, _<_}
 use mathlib.Core.Path.{_≡_, refl, sym, ap, _∙_, subst}
@@ -9,31 +9,32 @@ use borrow.Author.Tests.{ltb-true, ne-eqb, not-true}
 use lib.Dec.{ltb, eqb·suc-zero}
 use lib.ListN.{getD, set, length, length-set}
 use lib.Pow.{pow-pos}
-use Rattle.base.specs.Sizes.{sitesMost, inputCount, outputCount}
-use Rattle.base.specs.Bools.{clash, cond-ok}
-use Rattle.base.specs.All.{any, any-by}
-use Rattle.base.specs.Lists.{all-set, same-at}
-use Rattle.theorems.specs.Names.{Connection, Unicast, Passthru, AllRemote, SomeLocal, Handed, Received, gotEnd, gotAbort}
+use Rattle.base.specs.Sizes.{sitesMost, inputCount, outputCount, splitPort}
+use Rattle.base.specs.Bools.{clash, cond-ok, either-way, pick-at}
+use Rattle.base.specs.All.{any-by}
+use Rattle.base.specs.Lists.{all-set}
+use Rattle.theorems.specs.Names.{Connection, Unicast, Passthru, AllRemote, SomeLocal, Handed, Branch, Received, gotEnd, gotAbort}
 use Rattle.theorems.specs.Names.{Terminator, tEnd, tAbort, tKeep, Phase, Free, Seek, Open, Wait, Done, Last, Aborted}
 use Rattle.theorems.specs.Names.{FinAbort, Input, Output, Network}
 use Rattle.model.specs.Types.{noMarks, noInput, noOutput, outOf, mark, inPhase, outTerm}
 use Rattle.types.specs.Numbers.{stateNumber}
-use Rattle.types.specs.Phases.{splits, isKeep, asTerminator}
+use Rattle.types.specs.Phases.{splits, branches, isKeep, asTerminator}
+use Rattle.draws.specs.Draws.{restricted}
+use Rattle.model.specs.Range.{connectionIn}
 use Rattle.model.specs.Router.{Choice, Chosen, Unserved, unchosen, isEmpty, isChosen, route}
 use Rattle.model.specs.NetInput.{Turn, To, allReady, table, give, taken, marksOf, opened, seek, inState}
-use Rattle.model.specs.Places.{remote, cutOff, cutAt}
 use Rattle.theorems.proofs.RouterGather.{zeros, chosen-at}
-use Rattle.theorems.proofs.RouterLaws.{Routed, ChoiceOk, ChoiceWithin, only-ok, route-ok, route-within}
+use Rattle.theorems.proofs.RouterChoices.{Routed, ChoiceOk, ChoiceWithin, ChoiceIn, only-ok}
+use Rattle.theorems.proofs.RouterLaws.{route-ok, route-within, route-in}
 use Rattle.theorems.proofs.OutputReads.{length-give, give-ok, length-occupy, occupy-at, occupy-ok, length-marks, mark-at}
-use Rattle.theorems.proofs.OutputReads.{remote-mark, remote-zero}
 use Rattle.theorems.proofs.Invariant.{Fed}
 use Rattle.theorems.proofs.RangeTests.{Tagged, InputAt, InputBy, InputIn, OutputIn, no-marks}
-use Rattle.theorems.proofs.RangeSites.{blank-in, seek-in}
+use Rattle.theorems.proofs.RangeSites.{no-kind, blank-in, seek-in}
 use Rattle.theorems.proofs.RangePlaces.{TurnIn, used-out}
 
 -- outputs changed on behalf of input i: each in range, and those of another input still fed by it
 pub record OutputsTo (n : Network) (k i : ℕ) (os os′ : List Output) : Type 0 where
-  pub five : length os′ ≡ outputCount
+  pub full : length os′ ≡ outputCount
   pub each : (j : ℕ) → OutputIn n k j (outOf os′ j)
   pub others : (m : ℕ) → (m ≡ i → ⊥) → (j : ℕ) → Fed m (outOf os j) → Fed m (outOf os′ j)
 
@@ -51,6 +52,7 @@ table-keep gotAbort c (suc j) e = absurd (clash (sym e))
 table-keep gotEnd Unicast (suc j) e = absurd (clash (sym e))
 table-keep gotEnd Passthru (suc j) e = absurd (clash (sym e))
 table-keep gotEnd Handed (suc j) e = absurd (clash (sym e))
+table-keep gotEnd Branch (suc j) e = absurd (clash (sym e))
 table-keep gotEnd AllRemote (suc j) e = absurd (clash (sym e ∙ ap (λ b. isKeep (cond b tAbort tEnd)) (eqb·suc-zero j)))
 table-keep gotEnd SomeLocal (suc j) e = absurd (clash (sym e ∙ ap (λ b. isKeep (cond b tKeep tEnd)) (eqb·suc-zero j)))
 
@@ -58,21 +60,21 @@ received-keep : (r : Received) → isKeep (asTerminator r) ≡ true → ⊥
 received-keep gotEnd e = clash (sym e)
 received-keep gotAbort e = clash (sym e)
 
-module _ (n : Network) (k i : ℕ) (y : Input) (os : List Output) (hi : i < inputCount) (five : length os ≡ outputCount)
+module _ (n : Network) (k i : ℕ) (y : Input) (os : List Output) (hi : i < inputCount) (full : length os ≡ outputCount)
     (ok : InputIn n k i (outOf os) y) (outs : (j : ℕ) → OutputIn n k j (outOf os j)) where
-  abbrev Kept : Turn Input (List Output) → Type 0
+  abbrev pub Kept : Turn Input (List Output) → Type 0
   Kept = TurnIn (InputOutputsTo n k i y os)
 
   -- the input's facts at its state
-  at-phase : (ph : Phase) → y .phase ≡ ph
+  pub at-phase : (ph : Phase) → y .phase ≡ ph
       → InputBy n k i ph (y .packet) (y .set) (y .tries) (y .outputs) (outOf os)
   at-phase ph e = subst (λ h. InputBy n k i h (y .packet) (y .set) (y .tries) (y .outputs) (outOf os)) e ok
 
-  other-phase : (ph : Phase) (v : Input) → y .phase ≡ ph → (stateNumber (v .phase) ≡ stateNumber ph → ⊥) → v ≡ y → ⊥
+  pub other-phase : (ph : Phase) (v : Input) → y .phase ≡ ph → (stateNumber (v .phase) ≡ stateNumber ph → ⊥) → v ≡ y → ⊥
   other-phase ph v e h a = h (ap (λ (w : Input). stateNumber (w .phase)) a ∙ ap stateNumber e)
 
   same-outs : OutputsTo n k i os os
-  same-outs = record { five = five; each = outs; others = λ m ne j f. f }
+  same-outs = record { full = full; each = outs; others = λ m ne j f. f }
 
   -- a state changed; the input freed
   move : (ph ph′ : Phase) → y .phase ≡ ph → (stateNumber ph′ ≡ stateNumber ph → ⊥)
@@ -92,24 +94,24 @@ module _ (n : Network) (k i : ℕ) (y : Input) (os : List Output) (hi : i < inpu
   term-out j t f kp =
       let u = f .used in
       used-out n k j (outTerm (outOf os j) t) u (outs j .tagged u) (outs j .from u) kp
-      (λ c. absurd (clash (sym c ∙ f .stays)))
+      (λ c. absurd (clash (sym c ∙ f .stays))) (outs j .split u)
 
-  give-outs : (f : ℕ → Terminator) (bs : List Bool)
+  pub give-outs : (f : ℕ → Terminator) (bs : List Bool)
       → ((j : ℕ) → j < outputCount → mark bs j ≡ true → Fed i (outOf os j))
       → ((j : ℕ) → isKeep (f j) ≡ true → j ≡ 0) → OutputsTo n k i os (give f bs os)
   give-outs f bs fed kp =
       record {
-        five = length-give f bs os five;
+        full = length-give f bs os full;
         each =
-            λ j. give-ok f bs os five (λ o. OutputIn n k j o) j (λ l m. term-out j (f j) (fed j l m) (kp j)) (outs j);
-        others = λ m ne j g. give-ok f bs os five (Fed m) j (λ l e. absurd (ne (sym (g .from) ∙ fed j l e .from))) g;
+            λ j. give-ok f bs os full (λ o. OutputIn n k j o) j (λ l m. term-out j (f j) (fed j l m) (kp j)) (outs j);
+        others = λ m ne j g. give-ok f bs os full (Fed m) j (λ l e. absurd (ne (sym (g .from) ∙ fed j l e .from))) g;
       }
 
   -- output 0 alone
   zeroth-outs : (t : Terminator) → Fed i (outOf os 0) → OutputsTo n k i os (set os 0 (outTerm (outOf os 0) t))
   zeroth-outs t f =
       record {
-        five = length-set os 0 (outTerm (outOf os 0) t) ∙ five;
+        full = length-set os 0 (outTerm (outOf os 0) t) ∙ full;
         each =
             all-set (λ j o. OutputIn n k j o) os 0 (outTerm (outOf os 0) t) noOutput (term-out 0 t f (λ e. refl)) outs;
         others =
@@ -121,30 +123,30 @@ module _ (n : Network) (k i : ℕ) (y : Input) (os : List Output) (hi : i < inpu
   -- ---- the router's choice put to work
 
   opened-in : (s : ℕ) (c : Connection) (sets : List ℕ) → y .phase ≡ Seek → Routed s (y .set) os c sets
-      → ((j : ℕ) → getD sets j 0 < 2 ^ n .sites) → Kept (opened i y os c sets)
-  opened-in s c sets e r low =
+      → ((j : ℕ) → getD sets j 0 < 2 ^ n .sites) → connectionIn (n .edition) (Open c) ≡ true → Kept (opened i y os c sets)
+  opened-in s c sets e r low kind =
       record {
         outs =
             record {
-              five = length-occupy q i sets os five;
+              full = length-occupy q i sets os full;
               each =
                   λ j.
-                  occupy-ok q i sets os five (λ o. OutputIn n k j o) j
+                  occupy-ok q i sets os full (λ o. OutputIn n k j o) j
                   (λ l a.
                   used-out n k j (taken q i (getD sets j 0)) refl
                   (record { under = tag .under; some = omega (arith, chosen-at sets j a); within = low j }) hi
-                  (λ z. absurd (clash (sym z))) (λ z. absurd (clash (sym z))))
+                  (λ z. absurd (clash (sym z))) (λ z. absurd (clash (sym z))) (λ p. third (rw p at a)))
                   (outs j);
               others =
                   λ m ne j f.
-                  occupy-ok q i sets os five (Fed m) j
+                  occupy-ok q i sets os full (Fed m) j
                   (λ l a.
                   absurd (clash (sym (f .used) ∙ not-true (outOf os j .used) (r .free j (chosen-at sets j a)))))
                   f;
             };
         inn =
             record {
-              five = λ l. length-marks sets;
+              full = λ l. length-marks sets;
               tries = here .tries;
               blank = λ z. absurd (clash (sym z));
               tagged = λ z. tag;
@@ -154,11 +156,13 @@ module _ (n : Network) (k i : ℕ) (y : Input) (os : List Output) (hi : i < inpu
                   (mark-at sets (w .0) (w .1) ∙ chosen (w .0) (w .2));
               fed =
                   λ j l m.
-                  rw (occupy-at q i sets os five j l, sym (mark-at sets j l) ∙ m)
+                  rw (occupy-at q i sets os full j l, sym (mark-at sets j l) ∙ m)
                   (record { used = refl; from = refl; bare = refl; stays = refl });
               zeroth =
                   λ sp. mark-at sets 0 (omega arith) ∙ chosen 0 (λ z. let x = r .zeroth sp in omega (arith, tag .some));
               sole = λ z. absurd (clash (sym z));
+              parted = mark-at sets splitPort (omega arith) ∙ r .split;
+              kind = kind;
             };
         moved = other-phase Seek _ e (λ a. omega arith);
       }
@@ -166,7 +170,7 @@ module _ (n : Network) (k i : ℕ) (y : Input) (os : List Output) (hi : i < inpu
       q : ℕ
       q = y .packet
 
-      here : InputAt n k i false false false false (y .packet) (y .set) (y .tries) (y .outputs) (outOf os)
+      here : InputAt n k i false false false false false (y .packet) (y .set) (y .tries) (y .outputs) (outOf os)
       here = at-phase Seek e
 
       tag : Tagged n k (y .packet) (y .set)
@@ -175,12 +179,20 @@ module _ (n : Network) (k i : ℕ) (y : Input) (os : List Output) (hi : i < inpu
       chosen : (j : ℕ) → (getD sets j 0 ≡ 0 → ⊥) → isChosen sets j ≡ true
       chosen j h = ap not (ne-eqb (getD sets j 0) 0 h)
 
+      -- the split output is chosen by connection 6, which edition 3 alone has
+      third : isChosen sets splitPort ≡ true → restricted (n .edition) ≡ true
+      third a =
+          either-way (restricted (n .edition)) (λ h. h)
+          (λ h.
+          let w = pick-at (restricted (n .edition)) (not (splits c)) (not (branches c)) kind .1 h in
+          absurd (clash (sym a ∙ r .split ∙ not-true (branches c) w)))
+
   seek-kept : (s : ℕ) (r : Choice) → y .phase ≡ Seek → ChoiceOk s (y .set) os r → ChoiceWithin (n .sites) r
-      → Kept (seek (n .tries) i y os r)
+      → ChoiceIn (n .edition) r → Kept (seek (n .tries) i y os r)
   unfolding seek
-  seek-kept s (Chosen c sets) e h low = opened-in s c sets e h low
-  seek-kept s Unserved e h low =
-      let here : InputAt n k i false false false false (y .packet) (y .set) (y .tries) (y .outputs) (outOf os) =
+  seek-kept s (Chosen c sets) e h low kind = opened-in s c sets e h low kind
+  seek-kept s Unserved e h low kind =
+      let here : InputAt n k i false false false false false (y .packet) (y .set) (y .tries) (y .outputs) (outOf os) =
       at-phase Seek e in
       let tag = here .tagged refl in
       cond-ok Kept (ltb (y .tries) (n .tries)) _ _
@@ -189,7 +201,7 @@ module _ (n : Network) (k i : ℕ) (y : Input) (os : List Output) (hi : i < inpu
         outs = same-outs;
         inn =
             subst (λ h. InputBy n k i h (y .packet) (y .set) (y .tries + 1) (y .outputs) (outOf os)) (sym e)
-            (seek-in n k i (y .packet) (y .set) (y .tries + 1) (y .outputs) (outOf os) (here .five) (here .marks) tag
+            (seek-in n k i (y .packet) (y .set) (y .tries + 1) (y .outputs) (outOf os) (here .full) (here .marks) tag
             (omega (arith, ltb-true (y .tries) (n .tries) a)));
         moved = λ b. let z = ap (λ (v : Input). v .tries) b in omega arith;
       })
@@ -197,9 +209,10 @@ module _ (n : Network) (k i : ℕ) (y : Input) (os : List Output) (hi : i < inpu
       cond-ok Kept (isEmpty os 0) _ _
       (λ b.
       opened-in s Handed (set unchosen 0 (y .set)) e
-      (only-ok s (y .set) os Handed 0 (λ j. refl) refl (λ z. omega (arith, tag .some)) (omega arith) b)
+      (only-ok s (y .set) os Handed 0 (λ j. refl) refl refl (λ z. omega (arith, tag .some)) (omega arith) b)
       (all-set (λ j z. z < 2 ^ n .sites) unchosen 0 (y .set) 0 (tag .within)
-      (λ j. omega (arith, zeros j, pow-pos (n .sites)))))
+      (λ j. omega (arith, zeros j, pow-pos (n .sites))))
+      (no-kind (n .edition)))
       (λ b. tt))
 
   -- ---- a net-input by its state
@@ -212,7 +225,7 @@ module _ (n : Network) (k i : ℕ) (y : Input) (os : List Output) (hi : i < inpu
       let tag = at-phase Seek e .tagged refl in
       seek-kept s (route n s os (y .set)) e
       (route-ok n s (y .set) os few hs (λ z. omega (arith, tag .some)) (tag .within))
-      (route-within n s (y .set) os few hs (λ z. omega (arith, tag .some)) (tag .within))
+      (route-within n s (y .set) os few hs (λ z. omega (arith, tag .some)) (tag .within)) (route-in n s (y .set) os)
   inState-in few s hs isReady (Open c) e =
       cond-ok Kept (allReady isReady (y .outputs)) _ _ (λ h. tt)
       (λ h. move (Open c) (Wait c) e (λ a. omega arith) (at-phase (Open c) e))
@@ -236,62 +249,3 @@ module _ (n : Network) (k i : ℕ) (y : Input) (os : List Output) (hi : i < inpu
       free-in (FinAbort c r) _ e (λ a. omega arith)
       (zeroth-outs (asTerminator r) (here .fed 0 (omega arith) (here .zeroth (here .sole refl .0)))))
       (λ h. tt)
-
-  -- ---- timeout
-
-  -- only output 0 is left connected; ph′ is the state that follows
-  cut-in : (c : Connection) (ph ph′ : Phase) → y .phase ≡ ph → splits c ≡ true → (stateNumber ph′ ≡ stateNumber ph → ⊥)
-      → InputAt n k i false true (splits c) false (y .packet) (y .set) (y .tries) (y .outputs) (outOf os)
-      → ((bs : List Bool) (o : ℕ → Output)
-      → InputAt n k i false true (splits c) true (y .packet) (y .set) (y .tries) bs o
-      → InputBy n k i ph′ (y .packet) (y .set) (y .tries) bs o)
-      → Kept (cutOff y os ph′)
-  unfolding any
-  cut-in c ph ph′ e sp ne here to =
-      record {
-        outs =
-            give-outs (λ j. tAbort) (remote (y .outputs)) (λ j l m. here .fed j l (remote-mark (y .outputs) j m))
-            (λ j a. absurd (clash (sym a)));
-        inn =
-            to (set noMarks 0 (mark (y .outputs) 0)) _
-            (record {
-              five = λ l. refl;
-              tries = here .tries;
-              blank = here .blank;
-              tagged = here .tagged;
-              marks = rw first refl;
-              fed = fed;
-              zeroth = λ h. first;
-              sole = λ h. (sp, refl);
-            });
-        moved = other-phase ph _ e ne;
-      }
-    where
-      first : mark (y .outputs) 0 ≡ true
-      first = here .zeroth sp
-
-      fed : (j : ℕ) → j < outputCount → mark (set noMarks 0 (mark (y .outputs) 0)) j ≡ true
-          → Fed i (outOf (give (λ j. tAbort) (remote (y .outputs)) os) j)
-      fed zero l m =
-          give-ok (λ j. tAbort) (remote (y .outputs)) os five (Fed i) 0
-          (λ h a. absurd (clash (sym a ∙ remote-zero (y .outputs)))) (here .fed 0 l first)
-      fed (suc j) l m = absurd (clash (sym m ∙ same-at 4 j false))
-
-  pub cutAt-in : (ph : Phase) → y .phase ≡ ph → Kept (cutAt y os ph)
-  unfolding cutAt
-  cutAt-in Free e = tt
-  cutAt-in Seek e = tt
-  cutAt-in (Open c) e =
-      cond-ok Kept (splits c) _ _
-      (λ h. cut-in c (Open c) (Aborted c) e h (λ a. omega arith) (at-phase (Open c) e) (λ bs o a. a)) (λ h. tt)
-  cutAt-in (Wait c) e =
-      cond-ok Kept (splits c) _ _
-      (λ h. cut-in c (Wait c) (Aborted c) e h (λ a. omega arith) (at-phase (Wait c) e) (λ bs o a. a)) (λ h. tt)
-  cutAt-in (Done c r) e =
-      cond-ok Kept (splits c) _ _
-      (λ h. cut-in c (Done c r) (FinAbort c r) e h (λ a. omega arith) (at-phase (Done c r) e) (λ bs o a. a)) (λ h. tt)
-  cutAt-in (Last c r) e =
-      cond-ok Kept (splits c) _ _
-      (λ h. cut-in c (Last c r) (FinAbort c r) e h (λ a. omega arith) (at-phase (Last c r) e) (λ bs o a. a)) (λ h. tt)
-  cutAt-in (Aborted c) e = tt
-  cutAt-in (FinAbort c r) e = tt

@@ -25,7 +25,7 @@ use Rattle.theorems.proofs.RangeQueues.{OutQueueIn, InQueueIn, out-queu
 -- ---- inputs
 
 -- without a connection there is none that an edition lacks
-no-kind : (edition : ℕ) → pick (restricted edition) true true ≡ true
+pub no-kind : (edition : ℕ) → pick (restricted edition) true true ≡ true
 no-kind edition = pick-by (restricted edition) true true (λ e. refl) (λ e. refl)
 
 -- a free input, and one that seeks
