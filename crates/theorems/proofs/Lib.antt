@@ -26,6 +26,7 @@ pub mod RangeSites
 pub mod RangePlaces
 pub mod RangeInputs
 pub mod RangeTimeouts
+pub mod RangeActs
 pub mod RangeRun
 pub mod RangePackets
 pub mod RangeKept

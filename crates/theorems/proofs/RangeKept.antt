@@ -7,15 +7,16 @@ use mathlib.Core.List.{List, [], _∷_}
 use mathlib.Core.Bool.{true, _&&_}
 use native.Mathlib.Omega.{arith}
 use borrow.Author.Tests.{le-leb, eqb-true}
-use lib.Dec.{eqb, ltb}
+use lib.Dec.{eqb, ltb, leb}
 use lib.ListN.{length, getD-replicate}
-use Rattle.base.specs.Sizes.{sitesMost, codeCount, packetsMost}
-use Rattle.base.specs.Bools.{cond-ok, pick-by}
+use Rattle.base.specs.Sizes.{sitesMost, inputCount, outputCount, inQueueCount, queueRoom, packetsMost}
+use Rattle.base.specs.Bools.{cond-ok, either-way, pick-by}
 use Rattle.base.specs.All.{all, any, all-by}
 use Rattle.sets.specs.Sets.{targets}
 use Rattle.sets.proofs.Laws.{targets-at}
-use Rattle.theorems.specs.Names.{Input, State, Network, AfterSend, AfterRun}
-use Rattle.model.specs.Types.{noInput, noSite, noState, inputD, siteD, siteAt, inAt}
+use Rattle.theorems.specs.Names.{Input, InQueue, State, Network, AfterSend, AfterRun}
+use Rattle.draws.specs.Draws.{restricted, codesIn}
+use Rattle.model.specs.Types.{noInput, noInQueue, noSite, noState, inputD, inQueueD, siteD, siteAt, inAt, queueAt}
 use Rattle.model.specs.Network.{versionOk, editionOk, sizesOk, channelsOk, routesOk, networkRefusal}
 use Rattle.model.specs.Range.{siteOk, zeroSite, placeOk, inRange}
 use Rattle.model.specs.Steps.{run}
@@ -50,11 +51,14 @@ empty-shaped =
       site =
           λ s l.
           rw (getD-replicate sitesMost s noSite siteD l)
-          (record { inputs = refl; marks = five; outputs = refl; outgoing = refl; incoming = refl });
+          (record { inputs = refl; marks = marks; outputs = refl; outgoing = refl; incoming = refl; arrived = arrived });
     }
   where
-    five : (i : ℕ) → i < 5 → length (inAt noSite i .outputs) ≡ 5
-    five i l = ap (λ (y : Input). length (y .outputs)) (getD-replicate 5 i noInput inputD l)
+    marks : (i : ℕ) → i < inputCount → length (inAt noSite i .outputs) ≡ outputCount
+    marks i l = ap (λ (y : Input). length (y .outputs)) (getD-replicate inputCount i noInput inputD l)
+
+    arrived : (m : ℕ) → m < inQueueCount → length (queueAt noSite m .entries) ≡ queueRoom
+    arrived m l = ap (λ (iq : InQueue). length (iq .entries)) (getD-replicate inQueueCount m noInQueue inQueueD l)
 
 zero-site : zeroSite noSite ≡ true
 unfolding all any
@@ -62,7 +66,10 @@ zero-site = refl
 
 zero-ok : (E S T D k : ℕ) → siteOk E S T D k noSite ≡ true
 unfolding all any
-zero-ok E S T D k = rw (le-leb 0 D (omega arith), le-leb 0 T (omega arith)) refl
+zero-ok E S T D k =
+    let few : leb 0 D ≡ true = le-leb 0 D (omega arith) in
+    let some : leb 0 T ≡ true = le-leb 0 T (omega arith) in
+    either-way (restricted E) (λ e. rw (e, few, some) refl) (λ e. rw (e, few, some) refl)
 
 pub empty-in-range : (n : Network) → inRange n noState ≡ true
 unfolding inRange
@@ -151,7 +158,8 @@ network-other n =
     (λ a e. omega arith)
 
 run-other : (n : Network) (s code : ℕ) → Other (runFault n s code)
-run-other n s code = cond-ok Other (ltb s (n .sites) && ltb code codeCount) 0 9 (λ a e. omega arith) (λ a e. omega arith)
+run-other n s code =
+    cond-ok Other (ltb s (n .sites) && ltb code (codesIn (n .edition))) 0 9 (λ a e. omega arith) (λ a e. omega arith)
 
 send-other : (n : Network) (st : State) (s X : ℕ) → Other (sendFault n st s X)
 send-other n st s X =

@@ -7,14 +7,14 @@ use native.Mathlib.Decide.{decLt}
 use native.Mathlib.Omega.{arith}
 use borrow.Author.Tests.{eqb-true}
 use lib.Dec.{eqb}
-use Rattle.base.specs.Sizes.{sitesMost, inputCount, outputCount, queueRoom}
+use Rattle.base.specs.Sizes.{sitesMost, inputCount, outputCount, inQueueCount, queueRoom}
 use Rattle.base.specs.Bools.{either-way, both, both3, both6}
 use Rattle.base.specs.All.{all, all-at}
 use Rattle.base.specs.Lists.{beyond}
 use Rattle.theorems.specs.Names.{Input, Output, OutEntry, InEntry, Site, State, Network}
-use Rattle.model.specs.Types.{inputD, noOutput, noOutEntry, noInEntry, siteAt, inAt, outAt, outEntry, inEntry}
+use Rattle.model.specs.Types.{inputD, noOutput, noOutEntry, noInEntry, inQueueD, siteAt, inAt, outAt, outEntry, queueAt, inEntry}
 use Rattle.types.specs.Phases.{isFree, isNone}
-use Rattle.model.specs.Range.{anyMark, zeroInput, zeroOutput, zeroOutEntry, zeroInEntry, zeroSite, inRange}
+use Rattle.model.specs.Range.{anyMark, zeroInput, zeroOutput, zeroOutEntry, zeroInEntry, zeroInQueue, zeroSite, inRange}
 use Rattle.theorems.proofs.Networks.{Valid}
 use Rattle.theorems.proofs.Pairs.{SmallSite}
 use Rattle.theorems.proofs.RangeSites.{SiteIn}
@@ -58,7 +58,9 @@ module _ (n : Network) (k : ℕ) (x : Site) (ok : SiteIn n k x) where
             either-way (outAt x j .used) (λ e. omega (arith, ok .outs j .tagged e .under))
             (λ e. omega (arith, output-zero (outAt x j) (ok .outs j .blank e)));
         out-entries = λ m. out-small m (decLt m (x .outgoing .count));
-        in-entries = λ m. in-small m (decLt m (x .incoming .count));
+        in-entries =
+            beyond (λ m iq. (e : ℕ) → inEntry iq e .packet < k + 1) (x .incoming) inQueueD inQueueCount (ok .incoming)
+            (λ m l e. in-small m l e (decLt e (queueAt x m .count))) (λ m l e. omega arith);
       }
     where
       out-small : (m : ℕ) → Dec (m < x .outgoing .count) → outEntry (x .outgoing) m .packet < k + 1
@@ -66,9 +68,10 @@ module _ (n : Network) (k : ℕ) (x : Site) (ok : SiteIn n k x) where
       out-small m (no l) =
           omega (arith, out-entry-zero (outEntry (x .outgoing) m) (ok .outgoing .each m .1 (omega arith)))
 
-      in-small : (m : ℕ) → Dec (m < x .incoming .count) → inEntry (x .incoming) m .packet < k + 1
-      in-small m (yes l) = omega (arith, ok .incoming .each m .0 l .under)
-      in-small m (no l) = omega (arith, in-entry-zero (inEntry (x .incoming) m) (ok .incoming .each m .1 (omega arith)))
+      in-small : (m : ℕ) → m < inQueueCount → (e : ℕ) → Dec (e < queueAt x m .count) → inEntry (queueAt x m) e .packet < k + 1
+      in-small m l e (yes h) = omega (arith, ok .queues m l .each e .0 h .under)
+      in-small m l e (no h) =
+          omega (arith, in-entry-zero (inEntry (queueAt x m) e) (ok .queues m l .each e .1 (omega arith)))
 
 module _ (k : ℕ) (x : Site) (len : SiteShaped x) (h : zeroSite x ≡ true) where
   abbrev inputZero : ℕ → Bool
@@ -80,18 +83,20 @@ module _ (k : ℕ) (x : Site) (len : SiteShaped x) (h : zeroSite x ≡ true) whe
   abbrev outEntryZero : ℕ → Bool
   outEntryZero m = zeroOutEntry (outEntry (x .outgoing) m)
 
-  abbrev inEntryZero : ℕ → Bool
-  inEntryZero m = zeroInEntry (inEntry (x .incoming) m)
+  abbrev queueZero : ℕ → Bool
+  queueZero m = zeroInQueue (queueAt x m)
+
+  abbrev inEntryZero : ℕ → ℕ → Bool
+  inEntryZero m e = zeroInEntry (inEntry (queueAt x m) e)
 
   zero-small : SmallSite (k + 1) x
   zero-small =
       let w =
       both3 (all inputZero inputCount && all outputZero outputCount)
       (eqb (x .outgoing .count) 0 && all outEntryZero queueRoom)
-      (eqb (x .incoming .count) 0 && all inEntryZero queueRoom) h in
+      (all queueZero inQueueCount) h in
       let u = both (all inputZero inputCount) (all outputZero outputCount) (w .0) in
       let out = both (eqb (x .outgoing .count) 0) (all outEntryZero queueRoom) (w .1) in
-      let inn = both (eqb (x .incoming .count) 0) (all inEntryZero queueRoom) (w .2) in
       record {
         ins =
             beyond (λ i y. y .packet < k + 1) (x .inputs) inputD inputCount (len .inputs)
@@ -106,9 +111,15 @@ module _ (k : ℕ) (x : Site) (len : SiteShaped x) (h : zeroSite x ≡ true) whe
             omega (arith, out-entry-zero (outEntry (x .outgoing) m) (all-at outEntryZero m queueRoom l (out .1))))
             (λ m l. omega arith);
         in-entries =
-            beyond (λ m a. a .packet < k + 1) (x .incoming .entries) noInEntry queueRoom (len .incoming)
-            (λ m l. omega (arith, in-entry-zero (inEntry (x .incoming) m) (all-at inEntryZero m queueRoom l (inn .1))))
-            (λ m l. omega arith);
+            beyond (λ m iq. (e : ℕ) → inEntry iq e .packet < k + 1) (x .incoming) inQueueD inQueueCount (len .incoming)
+            (λ m l.
+            let inn =
+            both (eqb (queueAt x m .count) 0) (all (inEntryZero m) queueRoom) (all-at queueZero m inQueueCount l (w .2)) in
+            beyond (λ e a. a .packet < k + 1) (queueAt x m .entries) noInEntry queueRoom (len .arrived m l)
+            (λ e h.
+            omega (arith, in-entry-zero (inEntry (queueAt x m) e) (all-at (inEntryZero m) e queueRoom h (inn .1))))
+            (λ e h. omega arith))
+            (λ m l e. omega arith);
       }
 
 -- ---- a state in range
