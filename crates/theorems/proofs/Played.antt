@@ -8,10 +8,10 @@ use native.Mathlib.Omega.{arith}
 use borrow.Author.Tests.{lt-ltb}
 use lib.Dec.{eqb}
 use lib.ListN.{length}
-use Rattle.base.specs.Sizes.{codeCount}
 use Rattle.base.specs.Bools.{cond-ok}
 use Rattle.base.specs.Sums.{sum, sum-append}
 use Rattle.sets.specs.Sets.{size, bit}
+use Rattle.draws.specs.Draws.{valueAfter, codesIn}
 use Rattle.draws.proofs.Laws.{site-below, code-below}
 use Rattle.theorems.specs.Names.{State, Network, Run as StoredRun, StoredSend, Ran, Nothing, Changed, Serviced, RunRefused, AfterSend}
 use Rattle.model.specs.Types.{noState}
@@ -114,44 +114,46 @@ module _ (n : Network) (a t : ℕ) where
 
 -- ---- the events of a run: what a draw names lies within the network
 
-abbrev pub Named : ℕ → Event → Type 0
-Named S (Send s X) = Unit {0}
-Named S (Run s code) = (s < S) × (code < codeCount)
+abbrev pub Named : Network → Event → Type 0
+Named n (Send s X) = Unit {0}
+Named n (Run s code) = (s < n .sites) × (code < codesIn (n .edition))
 
-abbrev pub AllNamed : ℕ → List Timed → Type 0
-AllNamed S [] = Unit {0}
-AllNamed S (e ∷ es) = Named S (e .event) × AllNamed S es
+abbrev pub AllNamed : Network → List Timed → Type 0
+AllNamed n [] = Unit {0}
+AllNamed n (e ∷ es) = Named n (e .event) × AllNamed n es
 
-named-append : (S : ℕ) (k l : List Timed) → AllNamed S k → AllNamed S l → AllNamed S (k ++ l)
-named-append S [] l a b = b
-named-append S (e ∷ k) l a b = (a .0, named-append S k l (a .1) b)
+named-append : (n : Network) (k l : List Timed) → AllNamed n k → AllNamed n l → AllNamed n (k ++ l)
+named-append n [] l a b = b
+named-append n (e ∷ k) l a b = (a .0, named-append n k l (a .1) b)
 
-marked-named : (S d c : ℕ) (l : List StoredSend) → AllNamed S (atDraw c (marked d l))
+marked-named : (n : Network) (d c : ℕ) (l : List StoredSend) → AllNamed n (atDraw c (marked d l))
 unfolding marked
-marked-named S d c [] = tt
-marked-named S d c (e ∷ l) =
-    cond-ok (λ (m : List Event). AllNamed S (atDraw c m)) (eqb (e .draw) d) _ _ (λ h. (tt, marked-named S d c l))
-    (λ h. marked-named S d c l)
+marked-named n d c [] = tt
+marked-named n d c (e ∷ l) =
+    cond-ok (λ (m : List Event). AllNamed n (atDraw c m)) (eqb (e .draw) d) _ _ (λ h. (tt, marked-named n d c l))
+    (λ h. marked-named n d c l)
 
 at-append : (c : ℕ) (k l : List Event) → atDraw c (k ++ l) ≡ atDraw c k ++ atDraw c l
 at-append c [] l = refl
 at-append c (e ∷ k) l = ap (λ (m : List Timed). record { draw = c; event = e } ∷ m) (at-append c k l)
 
 module _ (r : StoredRun) (some : 1 ≤ r .network .sites) where
-  abbrev S : ℕ
-  S = r .network .sites
+  abbrev net : Network
+  net = r .network
 
-  upto-named : (d : ℕ) → AllNamed S (scriptTo r d)
+  upto-named : (d : ℕ) → AllNamed net (scriptTo r d)
   unfolding scriptTo
   upto-named zero = tt
   upto-named (suc d) =
-      named-append S (scriptTo r d) _ (upto-named d)
+      let v = valueAfter (d + 1) (r .seed) in
+      named-append net (scriptTo r d) _ (upto-named d)
       (rw (at-append d (sendsAt r d) (drawAt r d ∷ []))
-      (named-append S (atDraw d (sendsAt r d)) _ (marked-named S d d _) ((site-below S _ some, code-below S _), tt)))
+      (named-append net (atDraw d (sendsAt r d)) _ (marked-named net d d _)
+      ((site-below (net .edition) (net .sites) v some, code-below (net .edition) (net .sites) v), tt)))
 
-  pub script-named : AllNamed S (script r)
+  pub script-named : AllNamed net (script r)
   unfolding script
-  script-named = named-append S (scriptTo r (r .draws)) _ (upto-named (r .draws)) (marked-named S (r .draws) (r .draws) _)
+  script-named = named-append net (scriptTo r (r .draws)) _ (upto-named (r .draws)) (marked-named net (r .draws) (r .draws) _)
 
 -- ---- where a state is in range and the network valid, of the refusals only the event's own are left
 
@@ -163,16 +165,18 @@ module _ (n : Network) (v : networkRefusal n ≡ 0) where
   unfolding sent sendRefusal
   same-send st s X h = rw (only-own st (sendFault n st s X) h) refl
 
-  same-run : (st : State) (s code : ℕ) → inRange n st ≡ true → s < n .sites → code < codeCount → runs n st s code ≡ ran n st s code
+  same-run : (st : State) (s code : ℕ) → inRange n st ≡ true → s < n .sites → code < codesIn (n .edition)
+      → runs n st s code ≡ ran n st s code
   unfolding ran runRefusal
-  same-run st s code h hs hc = rw (only-own st (runFault n s code) h, lt-ltb s (n .sites) hs, lt-ltb code codeCount hc) refl
+  same-run st s code h hs hc =
+      rw (only-own st (runFault n s code) h, lt-ltb s (n .sites) hs, lt-ltb code (codesIn (n .edition)) hc) refl
 
-  same-step : (p : Played) (d : ℕ) (e : Event) → inRange n (p .state) ≡ true → Named (n .sites) e → advance n p d e ≡ advanceSingly n p d e
+  same-step : (p : Played) (d : ℕ) (e : Event) → inRange n (p .state) ≡ true → Named n e → advance n p d e ≡ advanceSingly n p d e
   same-step p d (Send s X) h m = ap (λ (a : AfterSend). sendPlayed p X a (a .answer)) (same-send (p .state) s X h)
   same-step p d (Run s code) h m = ap (runPlayed p d) (same-run (p .state) s code h (m .0) (m .1))
 
   -- from a state in range on, step by step
-  pub same-played : (p : Played) (es : List Timed) → Shaped (p .state) → inRange n (p .state) ≡ true → AllNamed (n .sites) es
+  pub same-played : (p : Played) (es : List Timed) → Shaped (p .state) → inRange n (p .state) ≡ true → AllNamed n es
       → played n p es ≡ playedSingly n p es
   unfolding played playedSingly
   same-played p [] sh h m = refl

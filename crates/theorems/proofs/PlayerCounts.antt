@@ -148,7 +148,7 @@ more-room P Q x h ok =
       ins = λ i. omega (arith, ok .ins i);
       outs = λ j. omega (arith, ok .outs j);
       out-entries = λ m. omega (arith, ok .out-entries m);
-      in-entries = λ m. omega (arith, ok .in-entries m);
+      in-entries = λ m e. omega (arith, ok .in-entries m e);
     }
 
 -- services and owed pairs make up the pairs, for any events singly applied
