@@ -1,21 +1,23 @@
--- Document 02, L6: where the editions differ, and that nothing else does. A RUN other than that of the net-outputs 1 to 4 is the
--- same in every edition; so is every RUN where no channel is, and with it a stored run played. Assumes nothing: the network, its
--- edition and the state may be any.
+-- Document 02, L6 and L10: where the editions differ, and that nothing else does. RUN of a net-input that asks the router and of the
+-- timeout is the same in two editions that are both edition 3 or both not, that of the net-outputs 1 to 4 in two that hold their
+-- channels alike, any other RUN in all. Where no channel is every RUN is the same in two that are both edition 3 or both not, and with it a stored run played.
+-- Assumes nothing: the network, its edition and the state may be any.
 use Prim.Native.Nat.{ℕ, zero, suc, _+_, _-_, _≤_, _<_}
 use mathlib.Core.Path.{_≡_, refl, sym, ap, _∙_, fun-ext}
 use mathlib.Core.List.{List, [], _∷_}
-use mathlib.Core.Bool.{Bool, true, false, cond, _&&_}
+use mathlib.Core.Logic.{_⊎_, ⊎-elim}
+use mathlib.Core.Bool.{Bool, false, cond, _&&_}
 use native.Mathlib.Omega.{arith}
-use native.Mathlib.Decide.{decLt}
-use borrow.Author.Tests.{ltb-true}
-use lib.Dec.{ltb, leb}
+use borrow.Author.Tests.{ltb-true, eqb-true}
+use lib.Dec.{eqb, ltb, leb}
 use Rattle.base.specs.Sizes.{portCount}
 use Rattle.base.specs.Bools.{cond-ok, either-way}
 use Rattle.sets.specs.Sets.{minus}
+use Rattle.draws.specs.Draws.{restricted}
 use Rattle.theorems.specs.Names.{Terminator, tNone, tEnd, tAbort, tKeep, Phase, Free, Seek, Open, Wait, Done, Last, Aborted}
 use Rattle.theorems.specs.Names.{FinAbort, Input, Output, Site, Network, AfterRun, Run as StoredRun}
 use Rattle.model.specs.Types.{noInput, siteAt, inAt, outAt}
-use Rattle.model.specs.Network.{channel, isChannel, joined, listOf, byEdition}
+use Rattle.model.specs.Network.{channel, isChannel, joined, listOf, holds, byEdition}
 use Rattle.model.specs.Router.{serves, firstPort, gets, unchosen, gatherFrom, gather, route}
 use Rattle.model.specs.NetInput.{Turn, Stay, ready, inState}
 use Rattle.model.specs.Places.{deliver, channelOutput}
@@ -23,13 +25,6 @@ use Rattle.model.specs.Steps.{farEnd, Act, Idle, Own, Serve, Pass, Stepped, own
 use Rattle.model.specs.Events.{Event, Send, Run}
 use Rattle.model.specs.Runs.{Timed, Played, runBy, scriptTo, script, runPlayed, advance, played, playedRun, unplayed}
 use Rattle.theorems.proofs.Played.{Named, AllNamed, script-named}
-
-not-above : (code : ℕ) → code < 10 → (5 < code → code < 10 → ⊥) → code - 5 ≡ 0
-not-above code l apart = go (decLt 5 code)
-  where
-    go : Dec (5 < code) → code - 5 ≡ 0
-    go (yes h) = absurd (apart h l)
-    go (no h) = omega arith
 
 -- ---- an output without a channel does nothing, closing or not
 
@@ -50,9 +45,28 @@ unjoined edition o y =
     told tAbort = refl
     told tKeep = refl
 
+-- ---- outputs 1 to 4 by two editions that hold their channels alike
+
+deliver-same : (a b : ℕ) → holds a ≡ holds b → (there : Bool) (o : Output) (y : Input) (h : Terminator)
+    → deliver a there o y h ≡ deliver b there o y h
+unfolding deliver
+deliver-same a b e there o y tNone = refl
+deliver-same a b e there o y tEnd = rw e refl
+deliver-same a b e there o y tAbort = rw e refl
+deliver-same a b e there o y tKeep = refl
+
+channelOutput-same : (a b : ℕ) → holds a ≡ holds b → (there : Bool) (o : Output) (y : Input)
+    → channelOutput a there o y ≡ channelOutput b there o y
+unfolding channelOutput
+channelOutput-same a b e there o y = rw (deliver-same a b e there o y (o .terminator)) refl
+
 -- ---- the same network by edition e
 
 module _ (e : ℕ) (n : Network) where
+  -- both are edition 3, or neither
+  abbrev pub Agree : Type 0
+  Agree = restricted e ≡ restricted (n .edition)
+
   abbrev other : Network
   other = byEdition e n
 
@@ -75,7 +89,7 @@ module _ (e : ℕ) (n : Network) where
   patch-same xs s (Serve x q) = refl
   patch-same xs s (Pass x j y) = rw (channel-same s j) refl
 
-  -- the router and the net-inputs read sites, routes and tries
+  -- the router and the net-inputs read sites, routes and tries, and whether it is edition 3
   gather-same : (s : ℕ) (os : List Output) (Y more t : ℕ) (sets : List ℕ)
       → gatherFrom other s os Y more t sets ≡ gatherFrom n s os Y more t sets
   unfolding gatherFrom byEdition
@@ -84,34 +98,39 @@ module _ (e : ℕ) (n : Network) where
       let found = gets sets (firstPort (serves os sets) (listOf n s t)) t in
       rw (gather-same s os Y more (t + 1) found, gather-same s os Y more (t + 1) sets) refl
 
-  route-same : (s : ℕ) (os : List Output) (X : ℕ) → route other s os X ≡ route n s os X
+  route-same : Agree → (s : ℕ) (os : List Output) (X : ℕ) → route other s os X ≡ route n s os X
   unfolding route gather byEdition
-  route-same s os X = rw (gather-same s os (minus s X) (n .sites) 0 unchosen) refl
+  route-same agree s os X = rw (agree, gather-same s os (minus s X) (n .sites) 0 unchosen) refl
 
-  state-same : (s i : ℕ) (y : Input) (os : List Output) (isReady : ℕ → Bool) (ph : Phase)
+  state-same : (s i : ℕ) (y : Input) (os : List Output) (isReady : ℕ → Bool) (ph : Phase) → (ph ≡ Seek → Agree)
       → inState other s i y os isReady ph ≡ inState n s i y os isReady ph
   unfolding inState byEdition
-  state-same s i y os isReady Free = refl
-  state-same s i y os isReady Seek = rw (route-same s os (y .set)) refl
-  state-same s i y os isReady (Open c) = refl
-  state-same s i y os isReady (Wait c) = refl
-  state-same s i y os isReady (Done c r) = refl
-  state-same s i y os isReady (Last c r) = refl
-  state-same s i y os isReady (Aborted c) = refl
-  state-same s i y os isReady (FinAbort c r) = refl
+  state-same s i y os isReady Free asks = refl
+  state-same s i y os isReady Seek asks = rw (route-same (asks refl) s os (y .set)) refl
+  state-same s i y os isReady (Open c) asks = refl
+  state-same s i y os isReady (Wait c) asks = refl
+  state-same s i y os isReady (Done c r) asks = refl
+  state-same s i y os isReady (Last c r) asks = refl
+  state-same s i y os isReady (Aborted c) asks = refl
+  state-same s i y os isReady (FinAbort c r) asks = refl
 
   -- what RUN decides, where it decides the same of a net-output
-  act-by : (s : ℕ) (x : Site) (far : ℕ → Input) (code : ℕ)
-      → (ltb code 10 ≡ true → netOutput other s x far (code - 5) ≡ netOutput n s x far (code - 5))
+  act-by : (s : ℕ) (x : Site) (far : ℕ → Input) (code : ℕ) → (code < 5 → inAt x code .phase ≡ Seek → Agree)
+      → (code ≡ 12 → Agree)
+      → (code < 10 → netOutput other s x far (code - 5) ≡ netOutput n s x far (code - 5))
       → act other s x far code ≡ act n s x far code
   unfolding act byEdition
-  act-by s x far code h =
+  act-by s x far code inputs timeouts outputs =
       let isReady = ready (joined n s) far (x .outputs) in
       either-way (ltb code 5)
       (λ c.
       rw (c, joined-same s)
-      (ap (ownTurn (setBoth x code)) (state-same s code (inAt x code) (x .outputs) isReady (inAt x code .phase))))
-      (λ c. either-way (ltb code 10) (λ d. rw (c, d) (h d)) (λ d. rw (c, d) refl))
+      (ap (ownTurn (setBoth x code))
+      (state-same s code (inAt x code) (x .outputs) isReady (inAt x code .phase) (inputs (ltb-true code 5 c)))))
+      (λ c.
+      either-way (ltb code 10) (λ d. rw (c, d) (outputs (ltb-true code 10 d)))
+      (λ d.
+      either-way (eqb code 12) (λ f. rw (c, d, timeouts (eqb-true code 12 f)) refl) (λ f. rw (c, d, f) refl)))
 
   -- RUN, where it decides the same
   run-by : (xs : List Site) (s code : ℕ)
@@ -123,20 +142,40 @@ module _ (e : ℕ) (n : Network) where
       ap (λ (f : ℕ → Input). patch other xs s (act other s x f code)) (ends-same xs s)
       ∙ ap (patch other xs s) same ∙ patch-same xs s (act n s x (ends n xs s) code)
 
-  -- the editions differ at the codes 6 to 9 alone
-  codes-act : (s : ℕ) (x : Site) (far : ℕ → Input) (code : ℕ) → (5 < code → code < 10 → ⊥)
-      → act other s x far code ≡ act n s x far code
+  output-by : (s : ℕ) (x : Site) (far : ℕ → Input) (j : ℕ) → (0 < j → holds e ≡ holds (n .edition))
+      → netOutput other s x far j ≡ netOutput n s x far j
   unfolding netOutput byEdition
-  codes-act s x far code apart =
-      act-by s x far code
-      (λ c. let z : code - 5 ≡ 0 = not-above code (ltb-true code 10 c) apart in rw z refl)
+  output-by s x far zero h = refl
+  output-by s x far (suc j) h =
+      ap (passTurn x (suc j))
+      (channelOutput-same e (n .edition) (h (omega arith)) (joined n s (suc j)) (outAt x (suc j)) (far (suc j)))
 
-  pub codes-same : (xs : List Site) (s code : ℕ) → (5 < code → code < 10 → ⊥) → run other xs s code ≡ run n xs s code
-  codes-same xs s code apart = run-by xs s code (codes-act s (siteAt xs s) (ends n xs s) code apart)
+  -- what each code asks of two editions: a net-input that seeks and the timeout that both are edition 3 or neither, the net-outputs
+  -- 1 to 4 that both hold their channels or neither; any other code nothing
+  pub codes-by : (xs : List Site) (s code : ℕ) → (code < 5 → inAt (siteAt xs s) code .phase ≡ Seek → Agree)
+      → (5 < code → code < 10 → holds e ≡ holds (n .edition)) → (code ≡ 12 → Agree) → run other xs s code ≡ run n xs s code
+  codes-by xs s code inputs outputs timeouts =
+      let x = siteAt xs s in
+      let far = ends n xs s in
+      run-by xs s code
+      (act-by s x far code inputs timeouts (λ c. output-by s x far (code - 5) (λ h. outputs (omega arith) c)))
+
+  -- the codes but 6 to 9
+  pub codes-same : Agree → (xs : List Site) (s code : ℕ) → (5 < code → code < 10 → ⊥) → run other xs s code ≡ run n xs s code
+  codes-same agree xs s code apart = codes-by xs s code (λ h p. agree) (λ a b. absurd (apart a b)) (λ h. agree)
+
+  -- in all editions: the outputs that have an in-queue, the out-queue and both operators
+  pub queues-same : (xs : List Site) (s code : ℕ) → (code ≡ 5) ⊎ ((10 ≤ code) × (code ≡ 12 → ⊥)) → run other xs s code ≡ run n xs s code
+  queues-same xs s code h =
+      ⊎-elim
+      (λ a. codes-by xs s code (λ b p. absurd (omega arith)) (λ b c. absurd (omega arith)) (λ b. absurd (omega arith)))
+      (λ a.
+      codes-by xs s code (λ b p. absurd (omega (arith, a .0))) (λ b c. absurd (omega (arith, a .0))) (λ b. absurd (a .1 b)))
+      h
 
   -- ---- no channel
 
-  module _ (bare : (s j : ℕ) → s < n .sites → j < portCount → joined n s (suc j) ≡ false) where
+  module _ (agree : Agree) (bare : (s j : ℕ) → s < n .sites → j < portCount → joined n s (suc j) ≡ false) where
     output-same : (s : ℕ) (x : Site) (far : ℕ → Input) (j : ℕ) → s < n .sites → j ≤ portCount
         → netOutput other s x far j ≡ netOutput n s x far j
     unfolding netOutput byEdition
@@ -153,9 +192,9 @@ module _ (e : ℕ) (n : Network) where
         let x = siteAt xs s in
         let far = ends n xs s in
         run-by xs s code
-        (act-by s x far code (λ c. output-same s x far (code - 5) hs (omega (arith, ltb-true code 10 c))))
+        (act-by s x far code (λ h p. agree) (λ h. agree) (λ c. output-same s x far (code - 5) hs (omega arith)))
 
-    step-same : (g : Played) (d : ℕ) (v : Event) → Named (n .sites) v → advance other g d v ≡ advance n g d v
+    step-same : (g : Played) (d : ℕ) (v : Event) → Named n v → advance other g d v ≡ advance n g d v
     unfolding byEdition
     step-same g d (Send s X) m = refl
     step-same g d (Run s code) m =
@@ -163,7 +202,7 @@ module _ (e : ℕ) (n : Network) where
         λ w. record { answer = w .answer; state = record { sites = w .sites; counter = g .state .counter } } in
         ap (λ (w : Stepped). runPlayed g d (left w)) (bare-run (g .state .sites) s code (m .0))
 
-    played-same : (g : Played) (es : List Timed) → AllNamed (n .sites) es → played other g es ≡ played n g es
+    played-same : (g : Played) (es : List Timed) → AllNamed n es → played other g es ≡ played n g es
     unfolding played
     played-same g [] m = refl
     played-same g (v ∷ es) m =
@@ -172,11 +211,11 @@ module _ (e : ℕ) (n : Network) where
 
 -- ---- a stored run without a channel, played by edition e: the same book, the same counts, the same state
 
-module _ (e : ℕ) (r : StoredRun) where
+module _ (e : ℕ) (r : StoredRun) (agree : restricted e ≡ restricted (r .network .edition)) where
   script-to : (d : ℕ) → scriptTo (runBy e r) d ≡ scriptTo r d
   unfolding scriptTo runBy byEdition
   script-to zero = refl
-  script-to (suc d) = rw (script-to d) refl
+  script-to (suc d) = rw (agree, script-to d) refl
 
   same-script : script (runBy e r) ≡ script r
   unfolding script runBy
@@ -188,4 +227,4 @@ module _ (e : ℕ) (r : StoredRun) where
   unfolding playedRun runBy
   bare-played some bare =
       ap (played (byEdition e (r .network)) unplayed) same-script
-      ∙ played-same e (r .network) bare unplayed (script r) (script-named r some)
+      ∙ played-same e (r .network) agree bare unplayed (script r) (script-named r some)
