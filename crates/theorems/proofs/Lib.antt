@@ -40,4 +40,5 @@ pub mod Trimmed
 pub mod Versions
 pub mod Editions
 pub mod CalmPlaces
+pub mod CalmRules
 pub mod Calm

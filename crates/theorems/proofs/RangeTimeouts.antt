@@ -17,8 +17,7 @@ use Rattle.types.specs.Numbers.{stateNumber}
 use Rattle.types.specs.Phases.{splits, branches}
 use Rattle.model.specs.NetInput.{Turn, give}
 use Rattle.model.specs.Places.{remote, cutOff, cutAt}
-use Rattle.theorems.proofs.OutputReads.{give-ok}
-use Rattle.theorems.proofs.OutputReads.{remote-mark, remote-zero}
+use Rattle.theorems.proofs.OutputReads.{give-ok, remote-mark, remote-zero}
 use Rattle.theorems.proofs.Invariant.{Fed}
 use Rattle.theorems.proofs.RangeTests.{InputAt, InputBy, InputIn, OutputIn}
 use Rattle.theorems.proofs.RangeInputs.{Kept, at-phase, other-phase, give-outs}
