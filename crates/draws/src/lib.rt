@@ -21,11 +21,18 @@ pub fn draw(x: u32) -> u32
     b ^ (b << 5)
 }
 
+// Whether an edition is 3, the restricted one.
+pub fn is_restricted(edition: u8) -> bool
+    ensures { λ r. ⌜ r ≡ spec.restricted edition ⌝ }
+{
+    edition == 3
+}
+
 // The codes of RUN in an edition: fifteen in edition 3, else thirteen.
 pub fn codes_in(edition: u8) -> usize
     ensures { λ r. ⌜ r ≡ spec.codesIn edition ⌝ }
 {
-    if edition == 3 {
+    if is_restricted(edition) {
         base::SPLIT_CODES
     } else {
         base::CODES
@@ -50,7 +57,7 @@ pub fn event_of(value: u32, sites: usize, edition: u8) -> DrawnEvent
     ensures { λ r. ⌜ r ≡ spec.eventOf edition sites value ⌝ }
 {
     if (1 <= sites) & (sites <= base::SITES) {
-        if edition == 3 {
+        if is_restricted(edition) {
             return named(value, sites, base::SPLIT_CODES);
         }
         return named(value, sites, base::CODES);

@@ -1,4 +1,4 @@
--- The router asked with any routes: what its test tells, and that it reads of a network the sites and the routes only.
+-- The router asked with any routes: what its test tells, and that it reads of a network the edition, the sites and the routes only.
 -- Assumes nothing.
 use mathlib.Core.Path.{_≡_, refl, ap, _∙_}
 use mathlib.Core.Bool.{Bool, true, _&&_, and-true}
@@ -15,7 +15,7 @@ use Rattle.types.specs.declared.Network.{Network}
 use Rattle.types.specs.declared.Output.{Output}
 use Rattle.model.specs.Network.{listOf}
 use Rattle.model.specs.Router.{firstPort, serves, gets, unchosen, gatherFrom, gather, route}
-use Rattle.rules.specs.Router.{proper, askable, Routed}
+use Rattle.rules.specs.Router.{spreadOrPass, proper, askable, Routed}
 
 pub asked : (l : List ℕ) (S s X : ℕ) → askable l S s X ≡ true → Routed l S s × ((0 < X) × (X < 2 ^ S))
 asked l S s X e =
@@ -55,6 +55,10 @@ module _ (n m : Network) (e : n .sites ≡ m .sites) (f : n .routes ≡ m .route
   unfolding gather
   gathers-same Y = ap (λ (k : ℕ). gatherFrom n s os Y k 0 unchosen) e ∙ gather-same Y (m .sites) 0 unchosen
 
-  pub route-same : (X : ℕ) → route n s os X ≡ route m s os X
+  pub spread-same : (X : ℕ) → spreadOrPass n s os X ≡ spreadOrPass m s os X
+  spread-same X = rw (gathers-same (minus s X), e, f)
+
+  -- and of the same edition
+  pub route-same : n .edition ≡ m .edition → (X : ℕ) → route n s os X ≡ route m s os X
   unfolding route
-  route-same X = rw (gathers-same (minus s X), e, f)
+  route-same g X = rw (gathers-same (minus s X), e, f, g)

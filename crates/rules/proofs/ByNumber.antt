@@ -6,6 +6,7 @@ use lib.Dec.{eqb}
 use Prim.Native.Nat.{ℕ, zero, suc, _<_}
 use native.Mathlib.Omega.{arith}
 use lib.ListN.{set}
+use Rattle.base.specs.Sizes.{outputCount}
 use Rattle.base.specs.Over.{over-same}
 use Rattle.types.specs.declared.Connection.{Connection}
 use Rattle.types.specs.declared.Received.{Received}
@@ -22,18 +23,19 @@ use Rattle.rules.specs.Turns.{tableRow, givenAt, givenRow, endedAt, turn
 use Rattle.rules.specs.Router.{ofChoice}
 
 -- the table's row gives what the table gives
-row-at : (r : Received) (c : Connection) (j : ℕ) → j < 5 → givenAt (tableRow r c) j ≡ table r c j
+row-at : (r : Received) (c : Connection) (j : ℕ) → j < outputCount → givenAt (tableRow r c) j ≡ table r c j
 row-at r c zero h = refl
 row-at r c (suc zero) h = refl
 row-at r c (suc (suc zero)) h = refl
 row-at r c (suc (suc (suc zero))) h = refl
 row-at r c (suc (suc (suc (suc zero)))) h = refl
-row-at r c (suc (suc (suc (suc (suc j))))) h = absurd (omega arith)
+row-at r c (suc (suc (suc (suc (suc zero))))) h = refl
+row-at r c (suc (suc (suc (suc (suc (suc j)))))) h = absurd (omega arith)
 
 give-row : (r : Received) (c : Connection) (bs : List Bool) (os : List Output)
     → give (table r c) bs os ≡ give (givenAt (tableRow r c)) bs os
 unfolding give
-give-row r c bs os = over-same _ _ 5 os (λ j h. ap (λ k. endedAt (λ i. k) bs os j) (sym (row-at r c j h)))
+give-row r c bs os = over-same _ _ outputCount os (λ j h. ap (λ k. endedAt (λ i. k) bs os j) (sym (row-at r c j h)))
 
 -- the rule of every state but seek by the state number k, as the code decides
 abbrev numbered : Input → List Output → (ℕ → Bool) → Phase → ℕ → Turn Input (List Output)

@@ -4,7 +4,7 @@ use mathlib.Core.List.{List, [], _∷_}
 use Prim.Native.Nat.{_<_}
 use lib.Dec.{lit<}
 use lib.ListN.{getD}
-use Rattle.types.specs.declared.Connection.the-variants.{the-data as Connection, Unicast, Passthru, AllRemote, SomeLocal, Handed}
+use Rattle.types.specs.declared.Connection.the-variants.{the-data as Connection, Unicast, Passthru, AllRemote, SomeLocal, Handed, Branch}
 use Rattle.types.specs.declared.Received.the-variants.{the-data as Received, End as gotEnd, Abort as gotAbort}
 use Rattle.types.specs.declared.Terminator.the-variants.{the-data as Terminator, None as tNone, End as tEnd, Abort as tAbort, KeepLocal as tKeep}
 use Rattle.types.specs.Numbers.{connectionNumber, receivedNumber}
@@ -16,12 +16,13 @@ pub received-below : (r : Received) → receivedNumber r < 3
 received-below gotEnd = lit< tt
 received-below gotAbort = lit< tt
 
-pub connection-below : (c : Connection) → connectionNumber c < 6
+pub connection-below : (c : Connection) → connectionNumber c < 7
 connection-below Unicast = lit< tt
 connection-below Passthru = lit< tt
 connection-below AllRemote = lit< tt
 connection-below SomeLocal = lit< tt
 connection-below Handed = lit< tt
+connection-below Branch = lit< tt
 
 -- a cell, and the cells by row and place
 abbrev pub cell : Terminator → Terminator → Cell
@@ -32,9 +33,9 @@ cells =
     let none = cell tNone tNone in
     let end = cell tEnd tEnd in
     let abort = cell tAbort tAbort in
-    (none ∷ none ∷ none ∷ none ∷ none ∷ none ∷ [])
-    ∷ (none ∷ end ∷ end ∷ cell tEnd tAbort ∷ cell tEnd tKeep ∷ end ∷ [])
-    ∷ (none ∷ abort ∷ abort ∷ abort ∷ abort ∷ abort ∷ [])
+    (none ∷ none ∷ none ∷ none ∷ none ∷ none ∷ none ∷ [])
+    ∷ (none ∷ end ∷ end ∷ cell tEnd tAbort ∷ cell tEnd tKeep ∷ end ∷ end ∷ [])
+    ∷ (none ∷ abort ∷ abort ∷ abort ∷ abort ∷ abort ∷ abort ∷ [])
     ∷ []
 
 pub right : (r : Received) (c : Connection)
@@ -44,17 +45,21 @@ right gotEnd Passthru = refl
 right gotEnd AllRemote = refl
 right gotEnd SomeLocal = refl
 right gotEnd Handed = refl
+right gotEnd Branch = refl
 right gotAbort Unicast = refl
 right gotAbort Passthru = refl
 right gotAbort AllRemote = refl
 right gotAbort SomeLocal = refl
 right gotAbort Handed = refl
+right gotAbort Branch = refl
 
--- every remote output gets the same
-pub remotes : (r : Received) (c : Connection) → tableRow r c ≡ table r c 0 ∷ table r c 1 ∷ table r c 1 ∷ table r c 1 ∷ table r c 1 ∷ []
+-- every output but 0 gets the same
+pub remotes : (r : Received) (c : Connection)
+    → tableRow r c ≡ table r c 0 ∷ table r c 1 ∷ table r c 1 ∷ table r c 1 ∷ table r c 1 ∷ table r c 1 ∷ []
 remotes gotEnd Unicast = refl
 remotes gotEnd Passthru = refl
 remotes gotEnd AllRemote = refl
 remotes gotEnd SomeLocal = refl
 remotes gotEnd Handed = refl
+remotes gotEnd Branch = refl
 remotes gotAbort c = refl

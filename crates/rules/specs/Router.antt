@@ -10,8 +10,10 @@ use Rattle.sets.specs.Sets.{minus, lowest, targets}
 use Rattle.types.specs.declared.Connection.the-variants.{Unicast, Passthru}
 use Rattle.types.specs.declared.Output.{Output}
 use Rattle.types.specs.declared.Network.{Network}
+use Rattle.draws.specs.Draws.{restricted}
+use Rattle.model.specs.Network.{listOf}
 use Rattle.model.specs.Router.{Choice as ModelChoice, Chosen, Unserved, Gathered, Every, Missing, unchosen, isEmpty}
-use Rattle.model.specs.Router.{gather, spread, orElse, toOther, route}
+use Rattle.model.specs.Router.{firstEmpty, gather, spread, branch, orElse, toOther, route}
 use Rattle.rules.specs.declared.router.Choice.{Choice}
 use Rattle.rules.specs.declared.ports.Gathering.{Gathering}
 
@@ -23,17 +25,28 @@ abbrev pub ofChoice : ModelChoice → Choice
 ofChoice (Chosen c sets) = record { sets = sets; connection = c; served = true }
 ofChoice Unserved = record { sets = unchosen; connection = Unicast; served = false }
 
--- a network of S sites with these routes, all that the router reads of one
-abbrev pub routesOnly : ℕ → List ℕ → Network
-routesOnly S l =
-    record { sites = S; depth = 0; tries = 0; version = 0; edition = 0; channels = []; routes = l }
+-- a network of S sites with these routes in an edition, all that the router reads of one
+abbrev pub routesOnly : ℕ → ℕ → List ℕ → Network
+routesOnly edition S l =
+    record { sites = S; depth = 0; tries = 0; version = 0; edition = edition; channels = []; routes = l }
+
+-- the same without an edition, all that its searches read
+abbrev pub searchOnly : ℕ → List ℕ → Network
+searchOnly S l = routesOnly 0 S l
 
 -- "Two or more targets": the rules after those for a single target, first the spread over the targets in Y
 abbrev pub spreadTargets : Network → ℕ → List Output → ℕ → ℕ → ModelChoice
 spreadTargets n s os X Y = cond (isEmpty os 0) (spread s X (gather n s os Y)) Unserved
 
+abbrev pub spreadOrPass : Network → ℕ → List Output → ℕ → ModelChoice
+spreadOrPass n s os X = orElse (spreadTargets n s os X (minus s X)) (toOther n s os Passthru X (lowest (minus s X)))
+
+-- the rules in their place in edition 3, and both by the edition
+abbrev pub branchOrPass : Network → ℕ → List Output → ℕ → ModelChoice
+branchOrPass n s os X = branch s os X (firstEmpty os (listOf n s (lowest (minus s X))))
+
 abbrev pub several : Network → ℕ → List Output → ℕ → ModelChoice
-several n s os X = orElse (spreadTargets n s os X (minus s X)) (toOther n s os Passthru X (lowest (minus s X)))
+several n s os X = cond (restricted (n .edition)) (branchOrPass n s os X) (spreadOrPass n s os X)
 
 -- site s is one of S sites, X a target set of theirs
 abbrev pub proper : ℕ → ℕ → ℕ → Bool
@@ -43,9 +56,9 @@ proper S s X = ltb s S && leb S sitesMost && targets S X
 abbrev pub askable : List ℕ → ℕ → ℕ → ℕ → Bool
 askable l S s X = ltb s S && leb S sitesMost && eqb (length l) (sitesMost * sitesMost) && targets S X
 
--- what the router says of routes l; where it can not be asked nothing serves
-abbrev pub askedBy : List ℕ → ℕ → ℕ → List Output → ℕ → ModelChoice
-askedBy l S s os X = cond (askable l S s X) (route (routesOnly S l) s os X) Unserved
+-- what the router says of routes l in an edition; where it can not be asked nothing serves
+abbrev pub askedBy : ℕ → List ℕ → ℕ → ℕ → List Output → ℕ → ModelChoice
+askedBy edition l S s os X = cond (askable l S s X) (route (routesOnly edition S l) s os X) Unserved
 
 -- routes of S sites, s one of them, in room for all
 pub record Routed (l : List ℕ) (S s : ℕ) : Type 0 where

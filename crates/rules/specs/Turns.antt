@@ -1,7 +1,7 @@
 -- What a rule decides, as the struct that the code returns: the places as they were where it stays.
 use Prim.Native.Nat.{ℕ}
 use mathlib.Core.List.{List, [], _∷_}
-use mathlib.Core.Bool.{Bool, true, false, cond}
+use mathlib.Core.Bool.{Bool, true, false, cond, _&&_}
 use lib.Dec.{eqb}
 use lib.ListN.{getD, replicate}
 use Rattle.base.specs.Sizes.{outputCount}
@@ -19,7 +19,7 @@ use Rattle.types.specs.Phases.{splits}
 use Rattle.model.specs.Types.{outOf, mark, outTerm}
 use Rattle.model.specs.Router.{Choice as ModelChoice, Chosen, Unserved, isChosen}
 use Rattle.model.specs.NetInput.{Turn, Stay, To, table, taken, seek, netInput}
-use Rattle.model.specs.Places.{Work, Rest, Cleared, Service}
+use Rattle.model.specs.Places.{Work, Rest, Cleared, Service, lastLacks, stalled, cutAt}
 use Rattle.rules.specs.declared.router.Choice.{Choice}
 use Rattle.rules.specs.declared.terminators.Cell.{Cell}
 use Rattle.rules.specs.declared.inputs.InputTurn.{InputTurn}
@@ -54,17 +54,17 @@ abbrev pub shifted : {A : Type 0} → A → List A → List A
 shifted z l =
     getD l 1 z ∷ getD l 2 z ∷ getD l 3 z ∷ getD l 4 z ∷ getD l 5 z ∷ getD l 6 z ∷ getD l 7 z ∷ z ∷ []
 
--- the table's cell: the terminator for the remote outputs, and for output 0
+-- the table's cell: the terminator for the other outputs, and for output 0
 abbrev pub tableCell : Received → Connection → Cell
 tableCell r c = record { remote = table r c 1; local = table r c 0 }
 
--- the table's terminators for the outputs 0 to 4
-abbrev pub tableRow : Received → Connection → List Terminator
-tableRow r c = table r c 0 ∷ table r c 1 ∷ table r c 2 ∷ table r c 3 ∷ table r c 4 ∷ []
-
 -- an array of the code with an entry for each output
-abbrev pub fiveOf : {A : Type 0} → (ℕ → A) → List A
-fiveOf f = f 0 ∷ f 1 ∷ f 2 ∷ f 3 ∷ f 4 ∷ []
+abbrev pub perOutput : {A : Type 0} → (ℕ → A) → List A
+perOutput f = f 0 ∷ f 1 ∷ f 2 ∷ f 3 ∷ f 4 ∷ f 5 ∷ []
+
+-- the table's terminators for the outputs
+abbrev pub tableRow : Received → Connection → List Terminator
+tableRow r c = perOutput (table r c)
 
 -- output j: taken by net-input i for packet q if it is chosen; with the terminator given to it if it is marked
 abbrev pub takenAt : ℕ → ℕ → List ℕ → List Output → ℕ → Output
@@ -73,7 +73,7 @@ takenAt q i sets os j = cond (isChosen sets j) (taken q i (getD sets j 0)) (outO
 abbrev pub endedAt : (ℕ → Terminator) → List Bool → List Output → ℕ → Output
 endedAt given bs os j = cond (mark bs j) (outTerm (outOf os j) (given j)) (outOf os j)
 
--- what a net-input's state gives the outputs 0 to 4, as an array of the code
+-- what a net-input's state gives the outputs, as an array of the code
 abbrev pub givenAt : List Terminator → ℕ → Terminator
 givenAt l j = getD l j tNone
 
@@ -134,3 +134,7 @@ cutPhase (Done c r) = FinAbort c r
 cutPhase (Last c r) = FinAbort c r
 cutPhase (Aborted c) = Aborted c
 cutPhase (FinAbort c r) = FinAbort c r
+
+-- the timeout where the edition has one
+abbrev pub cutIf : InQueue → List Output → Input → Turn Input (List Output)
+cutIf iq os y = cond (lastLacks iq && stalled (outOf os 0)) (cutAt y os (y .phase)) Stay

@@ -8,7 +8,7 @@ ghost use Rattle.model.specs.Types as spec;
 ghost use Rattle.model.specs.NetInput as rule;
 ghost use Rattle.model.specs.NetInput.{Stay, To};
 ghost use Rattle.model.specs.Router.{isChosen};
-ghost use Rattle.rules.specs.Turns.{ofInputTurn, fiveOf, givenAt, givenRow, turned, seekTurn, otherTurn};
+ghost use Rattle.rules.specs.Turns.{ofInputTurn, perOutput, givenAt, givenRow, turned, seekTurn, otherTurn};
 use crate::phases::free_input;
 use crate::phases::held_terminator;
 use crate::phases::in_phase;
@@ -71,7 +71,7 @@ fn occupied(
     ensures { λ r. ⌜ r ≡ rule.occupy packet i sets outputs ⌝ }
 {
     let mut next = outputs;
-    for j in 0usize..5 {
+    for j in 0usize..base::OUTPUTS {
         let output = outputs[j];
         let taken = taken_if(packet, i, sets[j], output);
         next[j] = taken;
@@ -81,7 +81,7 @@ fn occupied(
 
 // The marks of the chosen outputs.
 fn marks(sets: [u64; base::OUTPUTS]) -> [bool; base::OUTPUTS]
-    ensures { λ r. ⌜ r ≡ fiveOf (isChosen sets) ⌝ }
+    ensures { λ r. ⌜ r ≡ perOutput (isChosen sets) ⌝ }
 {
     [
         sets[0] != 0,
@@ -89,6 +89,7 @@ fn marks(sets: [u64; base::OUTPUTS]) -> [bool; base::OUTPUTS]
         sets[2] != 0,
         sets[3] != 0,
         sets[4] != 0,
+        sets[5] != 0,
     ]
 }
 
@@ -101,6 +102,7 @@ pub fn all_ready(ready: [bool; base::OUTPUTS], marks: [bool; base::OUTPUTS]) -> 
         & (!marks[2] | ready[2])
         & (!marks[3] | ready[3])
         & (!marks[4] | ready[4])
+        & (!marks[5] | ready[5])
 }
 
 // A net-input put in open, its chosen outputs in use.

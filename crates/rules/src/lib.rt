@@ -1,6 +1,8 @@
-// The rules of document 01, in edition 2 with L6's, as code, each on the places that it looks at and proved equal to the
-// definitions of crate model: the router, the net-inputs, the net-outputs, the out-queue, the operator and the timeout.
+// The rules of document 01, in edition 2 with L6's and in edition 3 with L10's, as code, each on the places that it looks at
+// and proved equal to the definitions of crate model: the router, the net-inputs, the net-outputs, the out-queue, the
+// operator and the timeout.
 // Every public function takes anything.
+mod branch;
 mod inputs;
 mod phases;
 mod places;

@@ -24,7 +24,7 @@ use types::Output;
 use types::Received;
 use types::Terminator;
 
-// What becomes of output 0 and the in-queue.
+// What becomes of output 0 and its in-queue, or the split output and its.
 pub struct LocalTurn {
     pub queue: InQueue,
     pub output: Output,
@@ -45,7 +45,7 @@ pub struct QueueTurn {
     pub changed: bool,
 }
 
-// Net-output 0's head to the in-queue, if it has room.
+// The head of output 0, or of the split output, to its in-queue, if that has room.
 fn local_head(depth: usize, output: Output, queue: InQueue) -> LocalTurn
     ensures { λ r. ⌜ r ≡ ofLocalTurn output queue (spec.headIn depth output queue) ⌝ }
 {
@@ -69,7 +69,7 @@ fn local_head(depth: usize, output: Output, queue: InQueue) -> LocalTurn
     }
 }
 
-// Net-output 0's terminator, if it has one, to the in-queue's last entry.
+// The terminator of either, if it has one, to the in-queue's last entry.
 fn local_terminator(output: Output, queue: InQueue) -> LocalTurn
     ensures { λ r. ⌜ r ≡ ofLocalTurn output queue (cond (isNone (output .terminator)) Stay (spec.termIn output queue)) ⌝ }
 {
@@ -95,7 +95,7 @@ fn local_terminator(output: Output, queue: InQueue) -> LocalTurn
     }
 }
 
-// Net-output 0: its head to the in-queue, then its terminator to the in-queue's last entry.
+// Net-output 0, or the split output: its head to its in-queue, then its terminator to the in-queue's last entry.
 pub fn local_output(depth: usize, output: Output, queue: InQueue) -> LocalTurn
     ensures { λ r. ⌜ r ≡ ofLocalTurn output queue (spec.localOutput depth output queue) ⌝ }
 {
@@ -132,11 +132,12 @@ fn channel_head(there: bool, output: Output, input: Input) -> ChannelTurn
     }
 }
 
-// What delivery leaves of an output 1 to 4: one that is closing in edition 2, else an empty one.
+// What delivery leaves of an output 1 to 4: one that is closing in editions 2 and 3, else an empty one.
 fn delivered_output(edition: u8, output: Output) -> Output
     ensures { λ r. ⌜ r ≡ spec.delivered edition output ⌝ }
 {
-    if edition == 2 {
+    let restricted = draws::is_restricted(edition);
+    if (edition == 2) | restricted {
         return closing_output(output);
     }
     empty_output()

@@ -3,7 +3,7 @@ ghost use mathlib.Core.Path.{_≡_};
 ghost use Prim.Native.Nat.{_<_};
 ghost use Rattle.model.specs.Network.{choices, listOf};
 ghost use Rattle.model.specs.Router.{serves, firstPort, gather};
-ghost use Rattle.rules.specs.Router.{ofGathered, routesOnly, Routed};
+ghost use Rattle.rules.specs.Router.{ofGathered, searchOnly, Routed};
 use types::Output;
 
 // The sets chosen for the outputs, and whether every target got an output.
@@ -59,7 +59,7 @@ pub(crate) fn first_serving(
 // The ports of the route from s to t.
 pub(crate) fn list_of(routes: &[u16], sites: usize, s: usize, t: usize) -> [usize; base::PORTS]
     requires { ⌜ Routed (now routes) sites s ⌝ ∗ ⌜ t < sites ⌝ }
-    ensures { λ r. ⌜ r ≡ listOf (routesOnly sites (now (routes .entry))) s t ⌝ }
+    ensures { λ r. ⌜ r ≡ listOf (searchOnly sites (now (routes .entry))) s t ⌝ }
 {
     ports(routes[s * sites + t])
 }
@@ -73,7 +73,7 @@ pub(crate) fn gather_outputs(
     others: u64,
 ) -> Gathering
     requires { ⌜ Routed (now routes) sites s ⌝ }
-    ensures { λ r. ⌜ r ≡ ofGathered (gather (routesOnly sites (now (routes .entry))) s outputs others) ⌝ }
+    ensures { λ r. ⌜ r ≡ ofGathered (gather (searchOnly sites (now (routes .entry))) s outputs others) ⌝ }
 {
     let mut sets = [0u64; base::OUTPUTS];
     'targets: for t in 0..sites {

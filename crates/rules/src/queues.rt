@@ -1,4 +1,4 @@
-// The two queues of a site: an entry more at the back, the front away, the last entry's terminator. Any count is taken:
+// The queues of a site, the out-queue and the in-queues: an entry more at the back, the front away, the last entry's terminator. Any count is taken:
 // beyond a queue's room a write does nothing and a read gives the zero entry.
 ghost use mathlib.Core.Path.{_≡_};
 ghost use mathlib.Core.Bool.{cond};

@@ -11,7 +11,7 @@ use types::Phase;
 use types::Received;
 use types::Terminator;
 
-// What the table gives: to the remote outputs, and to output 0.
+// What the table gives: to the other outputs, and to output 0.
 struct Cell {
     remote: Terminator,
     local: Terminator,
@@ -33,9 +33,9 @@ const ABORTS: Cell = Cell {
 };
 
 // The terminator table: a row for each received kind (1 end, 2 abort), in it a cell for each connection (1 unicast,
-// 2 passthru, 3 all-remote, 4 some-local, 5 handed). Row 0 and place 0 are not used.
-const TABLE: [[Cell; 6]; 3] = [
-    [NONES, NONES, NONES, NONES, NONES, NONES],
+// 2 passthru, 3 all-remote, 4 some-local, 5 handed, 6 branch). Row 0 and place 0 are not used.
+const TABLE: [[Cell; 7]; 3] = [
+    [NONES, NONES, NONES, NONES, NONES, NONES, NONES],
     [
         NONES,
         ENDS,
@@ -49,8 +49,9 @@ const TABLE: [[Cell; 6]; 3] = [
             local: Terminator::KeepLocal,
         },
         ENDS,
+        ENDS,
     ],
-    [NONES, ABORTS, ABORTS, ABORTS, ABORTS, ABORTS],
+    [NONES, ABORTS, ABORTS, ABORTS, ABORTS, ABORTS, ABORTS],
 ];
 
 // The table's cell for a received kind and a connection.
@@ -62,17 +63,17 @@ fn cell_of(received: Received, connection: Connection) -> Cell
     TABLE[row][column]
 }
 
-// The terminators that the table gives the outputs 0 to 4.
+// The terminators that the table gives the outputs 0 to 5.
 fn terminators(received: Received, connection: Connection) -> [Terminator; base::OUTPUTS]
     ensures { λ r. ⌜ r ≡ tableRow received connection ⌝ }
 {
     let cell = cell_of(received, connection);
     let local = cell.local;
     let remote = cell.remote;
-    [local, remote, remote, remote, remote]
+    [local, remote, remote, remote, remote, remote]
 }
 
-// The terminators that a net-input's state gives the outputs 0 to 4; none in a state without a received terminator.
+// The terminators that a net-input's state gives the outputs 0 to 5; none in a state without a received terminator.
 pub(crate) fn phase_terminators(phase: Phase) -> [Terminator; base::OUTPUTS]
     ensures { λ r. ⌜ r ≡ givenRow phase ⌝ }
 {
@@ -107,7 +108,7 @@ pub(crate) fn give_terminators(
     ensures { λ r. ⌜ r ≡ rule.give (givenAt given) marks outputs ⌝ }
 {
     let mut next = outputs;
-    for j in 0usize..5 {
+    for j in 0usize..base::OUTPUTS {
         let output = outputs[j];
         let terminator = given[j];
         let ended = ended_if(marks[j], output, terminator);

@@ -1,7 +1,7 @@
 // The timeout, on the in-queue, the outputs and the net-input that feeds output 0.
 ghost use mathlib.Core.Path.{_≡_};
 ghost use Rattle.model.specs.Places as spec;
-ghost use Rattle.rules.specs.Turns.{ofInputTurn, cuts, cutPhase};
+ghost use Rattle.rules.specs.Turns.{ofInputTurn, cuts, cutPhase, cutIf};
 use crate::inputs::InputTurn;
 use crate::queues::last_lacks;
 use crate::terminators::give_terminators;
@@ -57,7 +57,7 @@ fn cut_off(input: Input, outputs: [Output; base::OUTPUTS]) -> InputTurn
         input: Input {
             set: input.set,
             phase: next,
-            outputs: [local, false, false, false, false],
+            outputs: [local, false, false, false, false, false],
             packet: input.packet,
             tries: input.tries,
         },
@@ -74,9 +74,9 @@ fn is_stalled(output: Output) -> bool
     output.used & !output.closing & types::is_none(terminator) & taken
 }
 
-// The timeout: ignored unless output 0 waits for a terminator that a split withholds.
-pub fn time_out(queue: InQueue, outputs: [Output; base::OUTPUTS], input: Input) -> InputTurn
-    ensures { λ r. ⌜ r ≡ ofInputTurn input outputs (spec.timeout queue outputs input) ⌝ }
+// The timeout in editions 1 and 2: ignored unless output 0 waits for a terminator that a split withholds.
+fn cut_if(queue: InQueue, outputs: [Output; base::OUTPUTS], input: Input) -> InputTurn
+    ensures { λ r. ⌜ r ≡ ofInputTurn input outputs (cutIf queue outputs input) ⌝ }
 {
     let own = outputs[0];
     let phase = input.phase;
@@ -91,4 +91,23 @@ pub fn time_out(queue: InQueue, outputs: [Output; base::OUTPUTS], input: Input) 
         input,
         changed: false,
     }
+}
+
+// The timeout: the same, and nothing in edition 3.
+pub fn time_out(
+    edition: u8,
+    queue: InQueue,
+    outputs: [Output; base::OUTPUTS],
+    input: Input,
+) -> InputTurn
+    ensures { λ r. ⌜ r ≡ ofInputTurn input outputs (spec.timeout edition queue outputs input) ⌝ }
+{
+    if draws::is_restricted(edition) {
+        return InputTurn {
+            outputs,
+            input,
+            changed: false,
+        };
+    }
+    cut_if(queue, outputs, input)
 }

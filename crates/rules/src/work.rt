@@ -1,4 +1,4 @@
-// The rule of the operator, on the two queues.
+// The rule of the operator, on an in-queue and the out-queue.
 ghost use mathlib.Core.Path.{_≡_};
 ghost use Rattle.types.specs.declared.Terminator.the-variants.{End as tEnd};
 ghost use Rattle.model.specs.Places as spec;

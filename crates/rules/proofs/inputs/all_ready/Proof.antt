@@ -36,6 +36,12 @@ array-read-result-9 c = search needs
 array-read-result-10 : tie.Need-array-read-result-10
 array-read-result-10 c = search needs
 
+array-read-result-11 : tie.Need-array-read-result-11
+array-read-result-11 c = search needs
+
+array-read-result-12 : tie.Need-array-read-result-12
+array-read-result-12 c = search needs
+
 returns : tie.Need-returns
 unfolding all
 returns c = refl
@@ -54,4 +60,6 @@ all-ready-spec =
     array-read-result-8
     array-read-result-9
     array-read-result-10
+    array-read-result-11
+    array-read-result-12
     returns)

@@ -4,7 +4,7 @@ use native.Mathlib.Omega.{arith}
 use borrow.Author.Needs.{needs}
 use borrow.Author.Tests.{lt-ltb}
 use Rattle.base.specs.Sizes.{setBits}
-use Rattle.rules.specs.Router.{ofGathered, routesOnly}
+use Rattle.rules.specs.Router.{ofGathered, searchOnly}
 use Rattle.rules.proofs.Gather.{Turning, Seeking, starts, done, pass-by, enter, no-port, next-port, port-in, with-port}
 use native.Mathlib.Omega.{arith}
 use borrow.Author.Needs.{needs}
@@ -18,13 +18,13 @@ use Rattle.sets.proofs.member.Reads as member-reads
 use Rattle.sets.proofs.with.Reads as with-reads
 
 abbrev Inv-loop : tie.InvT-loop
-Inv-loop routes sites s outputs others sets₀ t₀ list k₀ sets t k = Seeking (routesOnly sites routes) s outputs others sets t t₀ list k
+Inv-loop routes sites s outputs others sets₀ t₀ list k₀ sets t k = Seeking (searchOnly sites routes) s outputs others sets t t₀ list k
 
 abbrev μ-loop : tie.MeasureT-loop
 μ-loop routes sites s outputs others sets₀ t₀ list k₀ sets t k = 4 - k
 
 abbrev Inv-targets : tie.InvT-targets
-Inv-targets routes sites s outputs others sets₀ t₀ sets t = Turning (routesOnly sites routes) s outputs others sets t
+Inv-targets routes sites s outputs others sets₀ t₀ sets t = Turning (searchOnly sites routes) s outputs others sets t
 
 abbrev μ-targets : tie.MeasureT-targets
 μ-targets routes sites s outputs others sets₀ t₀ sets t = sites - t

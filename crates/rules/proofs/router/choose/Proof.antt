@@ -24,7 +24,7 @@ to-own-requires c κs = search needs
 returns : tie.Need-returns
 returns c =
     let a = c .before .before .before .before .args in
-    let n = routesOnly (a .sites) (a .routes .now) in
+    let n = routesOnly (a .edition) (a .sites) (a .routes .now) in
     let e = sym (own-test (a .s) (a .set) (c .before .before .only .result) (omega arith)
     (c .before .before .only .ensures)) ∙ eq-eqb _ _ (c .before .if1 .taken) in
     rw (c .to-own .ensures) (ap ofChoice (sym (route-own n (a .s) (a .set) (a .outputs) e)))
@@ -43,7 +43,7 @@ to-other-requires c κs = (
 returns-2 : tie.Need-returns-2
 returns-2 c =
     let a = c .before .before .before .before .before .before .args in
-    let n = routesOnly (a .sites) (a .routes .now) in
+    let n = routesOnly (a .edition) (a .sites) (a .routes .now) in
     let e = sym (own-test (a .s) (a .set) (c .before .before .before .before .only .result) (omega arith)
     (c .before .before .before .before .only .ensures)) ∙ ne-eqb _ _ (c .before .before .before .if1 .left) in
     let f = sym (c .before .before .is-single .ensures) ∙ c .before .if2 .taken in
@@ -61,7 +61,7 @@ choose-several-requires c κs =
 returns-3 : tie.Need-returns-3
 returns-3 c =
     let a = c .before .before .before .before .before .before .args in
-    let n = routesOnly (a .sites) (a .routes .now) in
+    let n = routesOnly (a .edition) (a .sites) (a .routes .now) in
     let e = sym (own-test (a .s) (a .set) (c .before .before .before .before .only .result) (omega arith)
     (c .before .before .before .before .only .ensures)) ∙ ne-eqb _ _ (c .before .before .before .if1 .left) in
     let f = sym (c .before .before .is-single .ensures) ∙ c .before .if2 .left in

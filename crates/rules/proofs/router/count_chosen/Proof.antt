@@ -8,6 +8,7 @@ use lib.ListN.{length, take}
 use lib.Seq.{take-all}
 use borrow.Author.Needs.{needs}
 use borrow.Author.Tests.{eq-eqb, ne-eqb}
+use Rattle.base.specs.Sizes.{outputCount}
 use Rattle.base.specs.Bools.{count}
 use Rattle.base.specs.Sums.{sum, sum-next}
 use Rattle.rules.proofs.router.count_chosen.Statement.{statement}
@@ -16,10 +17,10 @@ use Rattle.rules.proofs.router.count_chosen.Reads as reads
 use Rattle.rules.proofs.router.count_chosen.Lts as lts
 
 abbrev Inv-loop : tie.InvT-loop
-Inv-loop sets n₀ j₀ n j = (j ≤ 5) × (n ≤ j) × (n ≡ sum (λ z. count (not (eqb z 0))) (take j sets))
+Inv-loop sets n₀ j₀ n j = (j ≤ outputCount) × (n ≤ j) × (n ≡ sum (λ z. count (not (eqb z 0))) (take j sets))
 
 abbrev μ-loop : tie.MeasureT-loop
-μ-loop sets n₀ j₀ n j = 5 - j
+μ-loop sets n₀ j₀ n j = outputCount - j
 
 loop-holds : tie.Need-loop-holds Inv-loop μ-loop
 unfolding sum
@@ -43,7 +44,7 @@ loop-less c = search needs
 loop-again : tie.Need-loop-again Inv-loop μ-loop
 loop-again c =
     let l = c .before .before .loop in
-    let e : length (c .before .before .before .args .t1) ≡ 5 = search needs in
+    let e : length (c .before .before .before .args .t1) ≡ outputCount = search needs in
     let s = sum-next (λ z. count (not (eqb z 0))) (c .before .before .before .args .t1) (l .j) 0 (omega arith) in
     ⊎-elim (λ w. (
       omega arith,
@@ -70,7 +71,7 @@ loop-again c =
 returns : tie.Need-returns Inv-loop μ-loop
 returns c =
     let l = c .before .loop in
-    let e : length (c .before .before .args .t1) ≡ 5 = search needs in
+    let e : length (c .before .before .args .t1) ≡ outputCount = search needs in
     l .inv .2 ∙ ap (sum (λ z. count (not (eqb z 0)))) (take-all (l .j) (c .before .before .args .t1) (omega arith))
 
 pub count-chosen-spec : {M : Type 1} → statement M

@@ -22,9 +22,9 @@ route-in-requires c κs = search needs
 returns : tie.Need-returns
 returns c =
     let a = c .before .before .args in
-    let c′ = route (routesOnly (a .sites) (a .t1)) (a .s) (a .outputs) (a .set) in
-    let e : length (a .t1) ≡ sitesMost * sitesMost = search needs in
-    c .route-in .ensures ∙ ap (λ b. ofChoice (cond b c′ Unserved)) (asked-whole (a .t1) (a .sites) (a .s) (a .set) e)
+    let c′ = route (routesOnly (a .edition) (a .sites) (a .t2)) (a .s) (a .outputs) (a .set) in
+    let e : length (a .t2) ≡ sitesMost * sitesMost = search needs in
+    c .route-in .ensures ∙ ap (λ b. ofChoice (cond b c′ Unserved)) (asked-whole (a .t2) (a .sites) (a .s) (a .set) e)
 
 pub route-by-spec : {M : Type 1} → statement M
 route-by-spec = tie.close (tie.spec slice-aggregate-route-in route-in-requires returns)

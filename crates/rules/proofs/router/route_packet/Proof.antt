@@ -16,8 +16,8 @@ returns c =
     let n = c .before .before .args .network in
     rw (
       c .route-by .ensures,
-      route-same n (routesOnly (n .sites) (n .routes)) refl refl
-          (c .before .before .args .s) (c .before .before .args .outputs) (c .before .before .args .set),
+      route-same n (routesOnly (n .edition) (n .sites) (n .routes)) refl refl
+          (c .before .before .args .s) (c .before .before .args .outputs) refl (c .before .before .args .set),
     ) refl
 
 pub route-packet-spec : {M : Type 1} → statement M

@@ -3,6 +3,7 @@ use native.Mathlib.Omega.{arith}
 use borrow.Author.Needs.{needs}
 use Prim.Native.Nat.{ℕ, _-_, _≤_}
 use lib.ListN.{length, length-set}
+use Rattle.base.specs.Sizes.{outputCount}
 use Rattle.base.specs.Over.{over, over-none, over-step}
 use Rattle.model.specs.NetInput.{give}
 use Rattle.rules.specs.Turns.{givenAt, endedAt}
@@ -13,10 +14,10 @@ use Rattle.rules.proofs.terminators.give_terminators.Lts as lts
 use Rattle.rules.proofs.terminators.ended_if.Reads as ended-if-reads
 
 abbrev Inv-loop : tie.InvT-loop
-Inv-loop outputs marks given next₀ j₀ next j = (j ≤ 5) × (length next ≡ 5) × (next ≡ over (endedAt (givenAt given) marks outputs) j outputs)
+Inv-loop outputs marks given next₀ j₀ next j = (j ≤ outputCount) × (length next ≡ outputCount) × (next ≡ over (endedAt (givenAt given) marks outputs) j outputs)
 
 abbrev μ-loop : tie.MeasureT-loop
-μ-loop outputs marks given next₀ j₀ next j = 5 - j
+μ-loop outputs marks given next₀ j₀ next j = outputCount - j
 
 loop-holds : tie.Need-loop-holds Inv-loop μ-loop
 loop-holds c = (omega arith, search needs, sym (over-none _ _))
@@ -50,7 +51,7 @@ loop-less c = search needs
 
 loop-again : tie.Need-loop-again Inv-loop μ-loop
 loop-again c =
-    let e : length (c .before .before .before .before .before .args .t1) ≡ 5 = search needs in (
+    let e : length (c .before .before .before .before .before .args .t1) ≡ outputCount = search needs in (
       omega arith,
       simp length-set (c .before .before .before .before .loop .inv .1),
       over-step _ (c .before .before .before .before .loop .j) _ _ _ (c .before .before .before .before .loop .inv .2)
@@ -60,7 +61,7 @@ loop-again c =
 returns : tie.Need-returns Inv-loop μ-loop
 unfolding give
 returns c =
-    let e : c .before .loop .j ≡ 5 = omega arith in
+    let e : c .before .loop .j ≡ outputCount = omega arith in
     c .before .loop .inv .2 ∙ ap (λ (k : ℕ). over (endedAt (givenAt (c .before .before .args .t3))
     (c .before .before .args .t2) (c .before .before .args .t1)) k (c .before .before .args .t1)) e
 
