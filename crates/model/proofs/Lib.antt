@@ -14,3 +14,5 @@ pub mod WorkCases
 pub mod OwingCases
 pub mod CodeCases
 pub mod EditionCases
+pub mod BranchCases
+pub mod BranchRuns

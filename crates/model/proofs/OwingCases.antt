@@ -10,7 +10,7 @@ use Rattle.sets.specs.Sets.{has, sizeIn}
 use Rattle.model.specs.Types.{Unicast, Passthru, AllRemote, SomeLocal, Handed, gotEnd, gotAbort}
 use Rattle.model.specs.Types.{Terminator, tNone, tEnd, tAbort, tKeep}
 use Rattle.model.specs.Types.{Phase, Seek, Open, Wait, Done, Last, Aborted, FinAbort}
-use Rattle.model.specs.Types.{Site, Run as StoredRun, noInput, noOutput}
+use Rattle.model.specs.Types.{Site, Run as StoredRun, noInput, noOutput, noSite, setOut, setQueue}
 use Rattle.model.specs.Owing.{owesAs, owesInput, owesOutput, owesOutEntry, owesInEntry, owed}
 use Rattle.model.specs.Owing.{pairsAs, pairsInput, pairsOutput, pairsOutEntry, pairsInEntry, owedPairs}
 use Rattle.model.specs.Runs.{bookRoom}
@@ -60,6 +60,10 @@ crowded =
       incoming = inQ (arrived 5 3 tEnd ∷ arrived 5 2 tKeep ∷ arrived 5 7 tAbort ∷ arrived 5 7 tNone ∷ []) ∷ inQ [] ∷ [];
     }
 
+-- the split output's end for {0}; in its in-queue an end for {0} and what keep-local leaves of {1, 2}
+abbrev parted : Site
+parted = setQueue (setOut noSite 5 (out 5 1 0 true tEnd)) 1 (inQ (arrived 5 1 tEnd ∷ arrived 5 6 tKeep ∷ []))
+
 pub debts : List (List ℕ × List ℕ)
 debts =
     -- "whose terminator is end owes its set"
@@ -97,6 +101,9 @@ debts =
     -- all places of two sites: packet 5 to the sites 0, 1, 2, 3, packet 6 to the same
     ∷ (map (owed (crowded ∷ crowded ∷ []) 5) (0 ∷ 1 ∷ 2 ∷ 3 ∷ []), 7 ∷ 8 ∷ 6 ∷ 0 ∷ [])
     ∷ (map (owed (crowded ∷ crowded ∷ []) 6) (0 ∷ 1 ∷ 2 ∷ 3 ∷ []), nothing)
+    -- L10: the split output and its in-queue owe as the others do
+    ∷ (map (owed (parted ∷ parted ∷ []) 5) (0 ∷ 1 ∷ 2 ∷ 3 ∷ []), 4 ∷ 1 ∷ 0 ∷ 0 ∷ [])
+    ∷ (owedPairs (parted ∷ []) ∷ owedPairs (parted ∷ parted ∷ []) ∷ [], 2 ∷ 5 ∷ [])
     -- "the owed pairs counted over the final state"
     ∷ (owedPairs (crowded ∷ []) ∷ owedPairs (crowded ∷ crowded ∷ []) ∷ [], 10 ∷ 21 ∷ [])
     ∷ []

@@ -89,14 +89,14 @@ worked = refl
 
 -- Outputs 0, 1 and 2 with packet 5, fed by input 1, output 2's head not taken; output 3 is input 3's; output 4 waits to pass
 -- on packet 4, which input 1 had before, and its abort.
-abbrev outs : Output → List Output
+abbrev pub outs : Output → List Output
 outs zeroth = zeroth ∷ out 5 2 1 true tNone ∷ out 5 4 1 false tNone ∷ out 6 4 3 true tNone ∷ out 4 2 1 false tAbort ∷ []
 
 -- output 0 with its head taken and no terminator; the in-queue's entry of the same packet, which lacks one
-abbrev zeroth : Output
+abbrev pub zeroth : Output
 zeroth = out 5 7 1 true tNone
 
-abbrev lacking : InEntry
+abbrev pub lacking : InEntry
 lacking = arrived 5 7 tNone
 
 abbrev late : List InEntry → List Output → Input → List ℕ
@@ -114,7 +114,7 @@ abbrev pair : List Bool
 pair = true ∷ true ∷ false ∷ false ∷ false ∷ []
 
 -- inputs that a timeout cuts off: in each of the four states, with each of the two connections
-abbrev open-to-it : List Input
+abbrev pub open-to-it : List Input
 open-to-it =
     inp (Open AllRemote) split
     ∷ inp (Open SomeLocal) split
