@@ -74,9 +74,9 @@ goes-edition v r known h goes = go (eqb v 1) (eqb v 2) known goes
     E = r .network .edition
 
     go : (a b : Bool) → (a || b) ≡ true → cond a (leb (r .network .sites) firstSites && eqb E 1) true ≡ true
-        → (eqb E 1 || eqb E 2 && b) ≡ true
+        → (eqb E 1 || (eqb E 2 || eqb E 3) && b) ≡ true
     go true b k g = rw (both (leb (r .network .sites) firstSites) (eqb E 1) g .1) refl
-    go false true k g = second-has (eqb E 1) (eqb E 2) (eqb (r .network .version) 2) h
+    go false true k g = second-has (eqb E 1) (eqb E 2 || eqb E 3) (eqb (r .network .version) 2) h
     go false false k g = absurd (clash (sym k))
 
 module _ (from to : ℕ) (known : (eqb to 1 || eqb to 2) ≡ true) (b : List ℕ) (w : Bytes b) (m : Moves from to b) where

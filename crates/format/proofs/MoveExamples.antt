@@ -90,8 +90,8 @@ pub back-2 : back-one 1 36 ∷ back-two 1 36 2 1 ∷ back-one 2 1 ∷ back-one 2
 unfolding moveRefusal under networkUnder readRefusal headThen bodyRefusal runOf networkOf over all
 back-2 = refl
 
--- editions 0, 3 and 255, 17, before S 0; then as over
-pub back-17-8 : back-one 3 0 ∷ back-one 3 3 ∷ back-one 3 255 ∷ back-two 3 3 4 0 ∷ back-one 4 0 ∷ back-two 4 0 10 0 ∷ back-one 10 0
+-- editions 0, 4 and 255, 17, before S 0; then as over
+pub back-17-8 : back-one 3 0 ∷ back-one 3 4 ∷ back-one 3 255 ∷ back-two 3 4 4 0 ∷ back-one 4 0 ∷ back-two 4 0 10 0 ∷ back-one 10 0
     ∷ back-two 10 0 13 0 ∷ back-one 13 0 ∷ back-two 13 0 15 4 ∷ back-two 14 0 15 4 ∷ back-one 14 0 ∷ back-two 14 0 22 16
     ∷ back-one 22 16 ∷ back-two 22 16 34 0 ∷ back-one 34 0 ∷ []
     ≡ 17 ∷ 17 ∷ 17 ∷ 17 ∷ 3 ∷ 3 ∷ 4 ∷ 4 ∷ 5 ∷ 5 ∷ 6 ∷ 6 ∷ 6 ∷ 7 ∷ 7 ∷ 8 ∷ []
@@ -104,16 +104,18 @@ back-17-8 = refl
 abbrev goes : ℕ → ℕ → ℕ → Bool
 goes v S edition = goesInto v (runOn (netIn 2 edition 0 0 S 3 1 [] []) 1 2 [])
 
--- into version 1 with 1 and 16 sites and edition 1; not with 17 or 64 sites, nor with the editions 0 and 2; into version 2 always
-pub goes-back : goes 1 1 1 ∷ goes 1 16 1 ∷ goes 1 17 1 ∷ goes 1 64 1 ∷ goes 1 16 0 ∷ goes 1 16 2 ∷ goes 1 17 2 ∷ []
-    ≡ true ∷ true ∷ false ∷ false ∷ false ∷ false ∷ false ∷ []
+-- into version 1 with 1 and 16 sites and edition 1; not with 17 or 64 sites, nor with the editions 0, 2 and 3; into version 2 always
+pub goes-back : goes 1 1 1 ∷ goes 1 16 1 ∷ goes 1 17 1 ∷ goes 1 64 1 ∷ goes 1 16 0 ∷ goes 1 16 2 ∷ goes 1 17 2 ∷ goes 1 1 3 ∷ []
+    ≡ true ∷ true ∷ false ∷ false ∷ false ∷ false ∷ false ∷ false ∷ []
 goes-back = refl
 
-pub goes-over : goes 2 1 1 ∷ goes 2 17 1 ∷ goes 2 64 1 ∷ goes 2 16 2 ∷ [] ≡ true ∷ true ∷ true ∷ true ∷ []
+pub goes-over : goes 2 1 1 ∷ goes 2 17 1 ∷ goes 2 64 1 ∷ goes 2 16 2 ∷ goes 2 16 3 ∷ [] ≡ true ∷ true ∷ true ∷ true ∷ true ∷ []
 goes-over = refl
 
--- run R in edition 2 is 15, in no room and in enough; S 0 and the empty set come before it
-pub back-2-15 : back-one 3 2 ∷ backRefusal (set wideR 3 2) 99 ∷ back-two 3 2 4 0 ∷ back-two 3 2 34 0 ∷ [] ≡ 15 ∷ 15 ∷ 3 ∷ 8 ∷ []
+-- run R in editions 2 and 3 is 15, in no room and in enough; S 0 and the empty set come before it
+pub back-2-15 : back-one 3 2 ∷ backRefusal (set wideR 3 2) 99 ∷ back-two 3 2 4 0 ∷ back-two 3 2 34 0
+    ∷ back-one 3 3 ∷ backRefusal (set wideR 3 3) 99 ∷ back-two 3 3 4 0 ∷ back-two 3 3 34 0 ∷ []
+    ≡ 15 ∷ 15 ∷ 3 ∷ 8 ∷ 15 ∷ 15 ∷ 3 ∷ 8 ∷ []
 unfolding moveRefusal under networkUnder readRefusal headThen bodyRefusal runOf networkOf over all
 back-2-15 = refl
 

@@ -1,5 +1,5 @@
 -- Computed examples of the definitions in version 2 (document 02, L4 and L6), typed by hand: run R and two sites stored in version 2,
--- both ways, run R also in edition 2; an archive for each refusal, and the order 1, 2, 17, 3, 4, 5. Assumes nothing.
+-- both ways, run R also in editions 2 and 3; an archive for each refusal, and the order 1, 2, 17, 3, 4, 5. Assumes nothing.
 use mathlib.Core.Path.{_≡_, refl}
 use mathlib.Core.List.{List, [], _∷_, _++_, map}
 use Prim.Native.Nat.{ℕ}
@@ -38,7 +38,7 @@ pub write-R : encode (runIn 2 1) ≡ wideR
 unfolding encode each headBytes channelBytes routeBytes sendsBytes
 write-R = refl
 
--- the same in edition 2
+-- the same in editions 2 and 3
 pub read-R-2 : decode (set wideR 3 2) ≡ record { refusal = 0; run = runIn 2 2 }
 unfolding decode readRefusal headThen bodyRefusal runOf networkOf over all
 read-R-2 = refl
@@ -46,6 +46,14 @@ read-R-2 = refl
 pub write-R-2 : encode (runIn 2 2) ≡ set wideR 3 2
 unfolding encode each headBytes channelBytes routeBytes sendsBytes
 write-R-2 = refl
+
+pub read-R-3 : decode (set wideR 3 3) ≡ record { refusal = 0; run = runIn 2 3 }
+unfolding decode readRefusal headThen bodyRefusal runOf networkOf over all
+read-R-3 = refl
+
+pub write-R-3 : encode (runIn 2 3) ≡ set wideR 3 3
+unfolding encode each headBytes channelBytes routeBytes sendsBytes
+write-R-3 = refl
 
 -- ---- the two sites of docs/FORMAT.md, 14 + 16 + 8 + 22 bytes
 
@@ -115,10 +123,11 @@ pub read-2 : map readRefusal (one 2 0 ∷ one 2 3 ∷ one 2 255 ∷ two 2 3 3 0 
 unfolding readRefusal headThen bodyRefusal runOf networkOf over all
 read-2 = refl
 
--- "17, an edition unknown": 0, 3 and 255; 1 is known, and L6: "17 accepts edition 2"; 17 stands before S 0, which is 3 in edition 2
+-- "17, an edition unknown": 0, 4 and 255; 1 is known, L6: "17 accepts edition 2", L10: "17 accepts edition 3"; 17 stands before S 0,
+-- which is 3 in editions 2 and 3
 pub read-17 : map readRefusal
-    (one 3 0 ∷ one 3 1 ∷ one 3 2 ∷ one 3 3 ∷ one 3 255 ∷ two 3 0 4 0 ∷ two 3 3 4 0 ∷ two 3 2 4 0 ∷ [])
-    ≡ 17 ∷ 0 ∷ 0 ∷ 17 ∷ 17 ∷ 17 ∷ 17 ∷ 3 ∷ []
+    (one 3 0 ∷ one 3 1 ∷ one 3 2 ∷ one 3 3 ∷ one 3 4 ∷ one 3 255 ∷ two 3 0 4 0 ∷ two 3 4 4 0 ∷ two 3 2 4 0 ∷ two 3 3 4 0 ∷ [])
+    ≡ 17 ∷ 0 ∷ 0 ∷ 0 ∷ 17 ∷ 17 ∷ 17 ∷ 17 ∷ 3 ∷ 3 ∷ []
 unfolding readRefusal headThen bodyRefusal runOf networkOf over all
 read-17 = refl
 
@@ -157,12 +166,13 @@ read-8 = refl
 
 -- ---- the writer
 
--- rooms of 35 and 34 bytes; versions 0 and 3 before the edition; editions 0 and 3 in version 2, editions 2 and 3 in version 1;
--- edition 2 in version 2, in rooms of 35 and 34 bytes
+-- rooms of 35 and 34 bytes; versions 0 and 3 before the edition; editions 0 and 4 in version 2, editions 2 and 3 in version 1;
+-- editions 2 and 3 in version 2, in rooms of 35 and 34 bytes
 pub write-refusals : (writeRefusal (runIn 2 1) 35 ∷ writeRefusal (runIn 2 1) 34 ∷ writeRefusal (runIn 0 1) 0 ∷ [])
-    ++ (writeRefusal (runIn 3 2) 0 ∷ writeRefusal (runIn 2 0) 0 ∷ writeRefusal (runIn 2 3) 0 ∷ writeRefusal (runIn 1 2) 0 ∷ [])
+    ++ (writeRefusal (runIn 3 2) 0 ∷ writeRefusal (runIn 2 0) 0 ∷ writeRefusal (runIn 2 4) 0 ∷ writeRefusal (runIn 1 2) 0 ∷ [])
     ++ (writeRefusal (runIn 1 3) 0 ∷ writeRefusal (runIn 2 2) 35 ∷ writeRefusal (runIn 2 2) 34 ∷ [])
-    ≡ 0 ∷ 14 ∷ 2 ∷ 2 ∷ 17 ∷ 17 ∷ 17 ∷ 17 ∷ 0 ∷ 14 ∷ []
+    ++ (writeRefusal (runIn 2 3) 35 ∷ writeRefusal (runIn 2 3) 34 ∷ [])
+    ≡ 0 ∷ 14 ∷ 2 ∷ 2 ∷ 17 ∷ 17 ∷ 17 ∷ 17 ∷ 0 ∷ 14 ∷ 0 ∷ 14 ∷ []
 unfolding writeRefusal storedRefusal bodyRefusal all
 write-refusals = refl
 
