@@ -9,7 +9,7 @@ use Rattle.types.specs.declared.OutQueue.{OutQueue}
 use Rattle.types.specs.declared.InQueue.{InQueue}
 use Rattle.types.specs.declared.Site.{Site}
 use Rattle.types.specs.declared.Network.{Network}
-use Rattle.model.specs.Types.{noInput, setOut, withInQueue, withOutQueue}
+use Rattle.model.specs.Types.{noInput, setOut, setQueue, withOutQueue}
 use Rattle.model.specs.Network.{channel}
 use Rattle.model.specs.NetInput.{Turn, Stay, To}
 use Rattle.model.specs.Places.{Work, Rest, Cleared, Service}
@@ -32,7 +32,7 @@ module _ (n : Network) (s : ℕ) (x : Site) where
   input-took f a b Stay e = ap (λ (r : InputTurn). cond (r .changed) (changed (f (r .input) (r .outputs))) (unchanged x)) e
   input-took f a b (To c d) e = ap (λ (r : InputTurn). cond (r .changed) (changed (f (r .input) (r .outputs))) (unchanged x)) e
 
-  -- output 0 with the in-queue
+  -- an output with its in-queue
   pub local-took : (f : Output → InQueue → Site) (a : Output) (b : InQueue) (t : Turn Output InQueue) {r : LocalTurn}
       → r ≡ ofLocalTurn a b t
       → cond (r .changed) (changed (f (r .output) (r .queue))) (unchanged x) ≡ ofAct n s x (ownTurn f t)
@@ -56,14 +56,15 @@ module _ (n : Network) (s : ℕ) (x : Site) where
   channel-took j a b Stay e = ap (onward j) e
   channel-took j a b (To c d) e = ap (onward j) e
 
-  -- the operator with both queues
-  abbrev worked : OperatorTurn → Change
-  worked r =
-      let z = withOutQueue (withInQueue x (r .incoming)) (r .outgoing) in
+  -- the operator with in-queue m and the out-queue
+  abbrev worked : ℕ → OperatorTurn → Change
+  worked m r =
+      let z = withOutQueue (setQueue x m (r .incoming)) (r .outgoing) in
       cond (r .changed) (cond (r .serviced) (record { site = z; input = noInput; channel = 0; act = didServe (r .packet) }) (changed z))
       (unchanged x)
 
-  pub work-took : (a : InQueue) (b : OutQueue) (w : Work) {r : OperatorTurn} → r ≡ ofWork a b w → worked r ≡ ofAct n s x (workDone x w)
-  work-took a b Rest e = ap worked e
-  work-took a b (Cleared c d) e = ap worked e
-  work-took a b (Service c d q) e = ap worked e
+  pub work-took : (m : ℕ) (a : InQueue) (b : OutQueue) (w : Work) {r : OperatorTurn} → r ≡ ofWork a b w
+      → worked m r ≡ ofAct n s x (workDone x m w)
+  work-took m a b Rest e = ap (worked m) e
+  work-took m a b (Cleared c d) e = ap (worked m) e
+  work-took m a b (Service c d q) e = ap (worked m) e

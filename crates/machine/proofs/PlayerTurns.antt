@@ -132,7 +132,7 @@ module _ {r : Run} {room : List ℕ} {total k : ℕ} {p : Progress} (at : Playin
 
     -- it is not: the clock after the draw, and the event that its value names
     module _ (t : b ≡ false) {c : Clock} (hc : c ≡ advanced (record { value = p .value; draw = p .draw })) {e : DrawnEvent}
-        (he : e ≡ eventOf (r .network .sites) (c .value)) where
+        (he : e ≡ eventOf (r .network .edition) (r .network .sites) (c .value)) where
       pub value-is : c .value ≡ drawn (p .value)
       value-is = ap (λ (c : Clock). c .value) hc
 
@@ -148,8 +148,9 @@ module _ {r : Run} {room : List ℕ} {total k : ℕ} {p : Progress} (at : Playin
           → Playing r room total (k + 1) (later p (a .state) c j q)
       unfolding turned drawTurn
       drawn-on {a = a} ha {j = j} hj {q = q} hq =
+          let E = r .network .edition in
           let S = r .network .sites in
-          let named = he ∙ ap (eventOf S) value-is ∙ event-named S (drawn (p .value)) (network-valid .some) (network-valid .few) in
+          let named = he ∙ ap (eventOf E S) value-is ∙ event-named E S (drawn (p .value)) (network-valid .some) (network-valid .few) in
           let f = ha ∙ ap (λ (w : DrawnEvent). runs (r .network) (p .state) (w .site) (w .code)) named in
           let v = drawn (p .value) in
           let same : later p (a .state) c j q ≡ drew p v (a .state) (a .answer) = rw (value-is, draw-is, hj, hq) refl in
@@ -158,10 +159,11 @@ module _ {r : Run} {room : List ℕ} {total k : ℕ} {p : Progress} (at : Playin
           ∙ ap (λ (b : Bool). cond b (sendTurn r p) (drawTurn r p)) (sym (sym is-told ∙ t)))
 
   -- the site that a draw names is one of the network's
-  pub named-below : (v : ℕ) {e : DrawnEvent} → e ≡ eventOf (r .network .sites) v → e .site < r .network .sites
+  pub named-below : (v : ℕ) {e : DrawnEvent} → e ≡ eventOf (r .network .edition) (r .network .sites) v → e .site < r .network .sites
   named-below v he =
+      let E = r .network .edition in
       let S = r .network .sites in
-      rw (he ∙ event-named S v (network-valid .some) (network-valid .few)) (site-below S v (network-valid .some))
+      rw (he ∙ event-named E S v (network-valid .some) (network-valid .few)) (site-below E S v (network-valid .some))
 
   -- ---- after the last turn
 

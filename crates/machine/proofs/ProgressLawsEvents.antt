@@ -33,8 +33,9 @@ abbrev pub turnEvent : StoredRun → Progress → Event
 turnEvent r p =
     let e = sendAt r (p .next) in
     let v = drawn (p .value) in
+    let E = r .network .edition in
     let S = r .network .sites in
-    cond (due r p) (Send (e .site) (e .set)) (Run (drawnSite S v) (drawnCode S v))
+    cond (due r p) (Send (e .site) (e .set)) (Run (drawnSite E S v) (drawnCode E S v))
 
 -- the events es, and event e of draw d, or before it
 abbrev pub andThen : List Timed → ℕ → Event → List Timed
@@ -84,7 +85,8 @@ turn-same r p l = go (due r p)
     go : (b : Bool)
         → advance (r .network) (asPlayed p l) (p .draw)
         (cond b (Send (sendAt r (p .next) .site) (sendAt r (p .next) .set))
-        (Run (drawnSite (r .network .sites) (drawn (p .value))) (drawnCode (r .network .sites) (drawn (p .value)))))
+        (Run (drawnSite (r .network .edition) (r .network .sites) (drawn (p .value)))
+        (drawnCode (r .network .edition) (r .network .sites) (drawn (p .value)))))
         ≡ asPlayed (cond b (sendTurn r p) (drawTurn r p)) (cond b l (entered (p .draw) (drawnRun r p .answer) l))
     go true =
         let e = sendAt r (p .next) in
@@ -112,15 +114,18 @@ module _ (r : StoredRun) (room : List ℕ) where
     some : 1 ≤ n .sites
     some = valid-ok n (stored-network r ok) .some
 
-    turns-named : (k : ℕ) → AllNamed (n .sites) (eventsTo r room k)
+    turns-named : (k : ℕ) → AllNamed n (eventsTo r room k)
     unfolding eventsTo
     turns-named zero = tt
     turns-named (suc k) =
         let p = progress r room k in
-        named-more (n .sites) (eventsTo r room k) (p .draw) (turnEvent r p) (turns-named k)
-        (cond-ok (λ (e : Event). AllNamed (n .sites) (andThen [] (p .draw) e)) (due r p) _ _
+        let E = n .edition in
+        let S = n .sites in
+        let v = drawn (p .value) in
+        named-more n (eventsTo r room k) (p .draw) (turnEvent r p) (turns-named k)
+        (cond-ok (λ (e : Event). AllNamed n (andThen [] (p .draw) e)) (due r p) _ _
         (λ h. (tt, tt))
-        (λ h. ((site-below (n .sites) (drawn (p .value)) some, code-below (n .sites) (drawn (p .value))), tt)))
+        (λ h. ((site-below E S v some, code-below E S v), tt)))
 
     -- the player by turns is the single events applied in order from the empty state
     pub progress-singly : (k : ℕ)

@@ -236,9 +236,10 @@ module _ (r : StoredRun) (room : List ℕ) (ok : storedRefusal r ≡ 0) where
         → Facts r room k p → Placed r (p .next) (p .draw) → due r p ≡ false
         → andThen es (p .draw) (turnEvent r p) ≡ soFar r (p .next) (suc (p .draw))
     on-script-draw k p es e f at h =
+        let E = r .network .edition in
         let S = r .network .sites in
         rw h
-        (ap₂ (λ (l : List Timed) (v : ℕ). andThen l (p .draw) (Run (drawnSite S v) (drawnCode S v))) e
+        (ap₂ (λ (l : List Timed) (v : ℕ). andThen l (p .draw) (Run (drawnSite E S v) (drawnCode E S v))) e
         (next-value r room k p f)
         ∙ sym (so-far-draw r (p .next) (p .draw) (f .sends) held (at .past)
         (λ j a b z. omega (arith, none-due p at h j a b))))

@@ -6,10 +6,11 @@ use mathlib.Core.Bool.{Bool, true, false, not, _&&_}
 use native.Mathlib.Omega.{arith}
 use borrow.Author.Tests.{ltb-true, eqb-true, lt-ltb}
 use lib.Dec.{eqb, ltb, leb}
-use Rattle.base.specs.Sizes.{sitesMost}
+use Rattle.base.specs.Sizes.{sitesMost, inputCount, outputCount, splitPort, inQueueCount}
 use Rattle.base.specs.Bools.{both, both3, both6, implies, pick, alike, pick-at, either-way}
 use Rattle.base.specs.All.{all, all-at}
 use Rattle.sets.specs.Sets.{targets}
+use Rattle.draws.specs.Draws.{restricted}
 use Rattle.sets.proofs.Laws.{targets-at}
 use Rattle.types.specs.declared.Phase.the-variants.{the-data as Phase, Free, Seek, Open, Wait, Done, Last, Abort as Aborted, FinAbort}
 use Rattle.types.specs.declared.Input.{Input}
@@ -18,10 +19,10 @@ use Rattle.types.specs.declared.Site.{Site}
 use Rattle.types.specs.declared.State.{State}
 use Rattle.types.specs.declared.Network.{Network}
 use Rattle.types.specs.Numbers.{stateNumber}
-use Rattle.types.specs.Phases.{isFree, connected, splitting, aborting, isNone, isKeep}
-use Rattle.model.specs.Types.{inAt, outAt, siteAt, mark, outOf}
+use Rattle.types.specs.Phases.{isFree, connected, splitting, branching, aborting, isNone, isKeep}
+use Rattle.model.specs.Types.{inAt, outAt, queueAt, siteAt, mark, outOf}
 use Rattle.model.specs.Range.{inputOk, outputOk, outQueueOk, inQueueOk, siteOk, zeroSite, placeOk, inRange}
-use Rattle.model.specs.Range.{tagOk, closingOk, zeroInput, zeroOutput, anyMark, anyRemote, fedBy}
+use Rattle.model.specs.Range.{tagOk, closingOk, connectionIn, depthOf, zeroInput, zeroOutput, anyMark, anyRemote, fedBy}
 use Rattle.theorems.proofs.Networks.{Valid}
 use Rattle.machine.specs.Step.{Runnable}
 
@@ -29,15 +30,16 @@ use Rattle.machine.specs.Step.{Runnable}
 
 module _ (E S T D k : ℕ) (x : Site) where
   abbrev ins : Bool
-  ins = all (λ i. inputOk S T k (x .outputs) i (inAt x i)) 5
+  ins = all (λ i. inputOk E S T k (x .outputs) i (inAt x i)) inputCount
 
   abbrev outs : Bool
-  outs = all (λ j. outputOk E S k j (outAt x j)) 5
+  outs = all (λ j. outputOk E S k j (outAt x j)) outputCount
 
   site-parts : siteOk E S T D k x ≡ true → (ins ≡ true) × (outs ≡ true)
   site-parts h =
       let q = outQueueOk S D k (x .outgoing) in
-      let b = both3 ins outs q (both (ins && outs && q) (inQueueOk S D k (x .incoming)) h .0) in
+      let rest = all (λ m. inQueueOk S (depthOf E D m) k (queueAt x m)) inQueueCount in
+      let b = both3 ins outs q (both (ins && outs && q) rest h .0) in
       (b .0, b .1)
 
 -- ---- a place's own
@@ -53,26 +55,31 @@ seek-used (Aborted c) e = refl
 seek-used (FinAbort c r) e = refl
 
 -- an input that seeks has a set of targets
-sought-at : (S T k : ℕ) (os : List Output) (i : ℕ) (y : Input) → inputOk S T k os i y ≡ true → stateNumber (y .phase) ≡ 1
+sought-at : (E S T k : ℕ) (os : List Output) (i : ℕ) (y : Input) → inputOk E S T k os i y ≡ true → stateNumber (y .phase) ≡ 1
     → (0 < y .set) × (y .set < 2 ^ S)
-sought-at S T k os i y h e =
+sought-at E S T k os i y h e =
     let tag = tagOk S k (y .packet) (y .set) in
+    let branched = alike (mark (y .outputs) splitPort) (branching (y .phase)) in
     let own =
     both6 (leb (y .tries) T) (pick (isFree (y .phase)) (zeroInput y) tag) (alike (anyMark (y .outputs)) (connected (y .phase)))
-    (all (λ j. implies (mark (y .outputs) j) (fedBy i (outOf os j))) 5) (implies (splitting (y .phase)) (mark (y .outputs) 0))
-    (implies (aborting (y .phase)) (splitting (y .phase) && not (anyRemote (y .outputs)))) h .1 in
+    (all (λ j. implies (mark (y .outputs) j) (fedBy i (outOf os j))) outputCount) (implies (splitting (y .phase)) (mark (y .outputs) 0))
+    (implies (aborting (y .phase)) (splitting (y .phase) && not (anyRemote (y .outputs))))
+    (both3 _ branched (connectionIn E (y .phase)) h .0) .1 in
     let used = pick-at (isFree (y .phase)) (zeroInput y) tag own .1 (seek-used (y .phase) e) in
     let t = targets-at S (y .set) (both (ltb (y .packet) k) (targets S (y .set)) used .1) in
     (t .0, t .1)
 
 -- an output is fed by one of five inputs
-fed-below : (E S k j : ℕ) (o : Output) → outputOk E S k j o ≡ true → o .input < 5
+fed-below : (E S k j : ℕ) (o : Output) → outputOk E S k j o ≡ true → o .input < inputCount
 fed-below E S k j o h =
     let tag = tagOk S k (o .packet) (o .set) in
     let keep = implies (isKeep (o .terminator)) (eqb j 0) in
     let held = implies (o .closing) (closingOk E j o) in
-    let w = pick-at (o .used) (tag && ltb (o .input) 5 && keep && held) (zeroOutput o) h in
-    either-way (o .used) (λ u. ltb-true (o .input) 5 (both tag (ltb (o .input) 5) (both3 (tag && ltb (o .input) 5) keep held (w .0 u) .0) .1))
+    let split = implies (eqb j splitPort) (restricted E) in
+    let fed = tag && ltb (o .input) inputCount in
+    let w = pick-at (o .used) (fed && keep && held && split) (zeroOutput o) h in
+    either-way (o .used)
+    (λ u. ltb-true (o .input) inputCount (both tag (ltb (o .input) inputCount) (both3 fed keep held (both (fed && keep && held) split (w .0 u) .0) .0) .1))
     (λ u.
     let z =
     both6 (not (o .used) && eqb (o .packet) 0) (eqb (o .set) 0) (eqb (o .input) 0) (not (o .head)) (isNone (o .terminator))
@@ -104,9 +111,9 @@ module _ (n : Network) (val : Valid n) (st : State) (h : inRange n st ≡ true) 
       record {
         site = hs;
         few = val .few;
-        feeder = fed-below E S k 0 (outAt x 0) (all-at (λ j. outputOk E S k j (outAt x j)) 0 5 (omega arith) (parts .1));
+        feeder = fed-below E S k 0 (outAt x 0) (all-at (λ j. outputOk E S k j (outAt x j)) 0 outputCount (omega arith) (parts .1));
         sought =
             λ i hi.
-            sought-at S (n .tries) k (x .outputs) i (inAt x i)
-            (all-at (λ i. inputOk S (n .tries) k (x .outputs) i (inAt x i)) i 5 hi (parts .0));
+            sought-at E S (n .tries) k (x .outputs) i (inAt x i)
+            (all-at (λ i. inputOk E S (n .tries) k (x .outputs) i (inAt x i)) i inputCount hi (parts .0));
       }

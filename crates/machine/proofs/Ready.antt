@@ -4,6 +4,7 @@ use mathlib.Core.Path.{_≡_, refl, ap}
 use mathlib.Core.List.{List}
 use mathlib.Core.Bool.{Bool}
 use native.Mathlib.Omega.{arith}
+use Rattle.base.specs.Sizes.{outputCount}
 use Rattle.base.specs.Bools.{implies}
 use Rattle.base.specs.All.{all-same}
 use Rattle.types.specs.declared.Phase.the-variants.{the-data as Phase, Free, Seek, Open, Wait, Done, Last, Abort as Aborted, FinAbort}
@@ -11,24 +12,25 @@ use Rattle.types.specs.declared.Input.{Input}
 use Rattle.types.specs.declared.Output.{Output}
 use Rattle.types.specs.declared.Network.{Network}
 use Rattle.types.specs.declared.Site.{Site}
-use Rattle.model.specs.Types.{mark, outAt, setOut, withInQueue}
+use Rattle.model.specs.Types.{mark, outAt}
 use Rattle.model.specs.Network.{joined}
 use Rattle.model.specs.NetInput.{allReady, hears, ready, inState}
-use Rattle.model.specs.Places.{localOutput, channelOutput}
-use Rattle.model.specs.Steps.{ownTurn, passTurn, netOutput}
+use Rattle.model.specs.Places.{channelOutput}
+use Rattle.model.specs.Steps.{passTurn, localAt, netOutput}
 use Rattle.machine.specs.Step.{flags, fourFlags, thereAt}
 
-pub flag-at : (f : ℕ → Bool) (j : ℕ) → j < 5 → mark (flags f) j ≡ f j
+pub flag-at : (f : ℕ → Bool) (j : ℕ) → j < outputCount → mark (flags f) j ≡ f j
 flag-at f zero h = refl
 flag-at f (suc zero) h = refl
 flag-at f (suc (suc zero)) h = refl
 flag-at f (suc (suc (suc zero))) h = refl
 flag-at f (suc (suc (suc (suc zero)))) h = refl
-flag-at f (suc (suc (suc (suc (suc j))))) h = absurd (omega arith)
+flag-at f (suc (suc (suc (suc (suc zero))))) h = refl
+flag-at f (suc (suc (suc (suc (suc (suc j)))))) h = absurd (omega arith)
 
 pub all-flags : (f : ℕ → Bool) (bs : List Bool) → allReady (mark (flags f)) bs ≡ allReady f bs
 all-flags f bs =
-    all-same (λ j. implies (mark bs j) (mark (flags f) j)) (λ j. implies (mark bs j) (f j)) 5
+    all-same (λ j. implies (mark bs j) (mark (flags f) j)) (λ j. implies (mark bs j) (f j)) outputCount
     (λ j h. ap (λ (b : Bool). implies (mark bs j) b) (flag-at f j h))
 
 pub by-flags : (n : Network) (s i : ℕ) (y : Input) (os : List Output) (f : ℕ → Bool) (ph : Phase)
@@ -52,7 +54,7 @@ flags-there n s far os = refl
 -- ---- net-output 0, and j for any other
 
 pub output-zero : (n : Network) (s : ℕ) (x : Site) (far : ℕ → Input)
-    → netOutput n s x far 0 ≡ ownTurn (λ o q. setOut (withInQueue x q) 0 o) (localOutput (n .depth) (outAt x 0) (x .incoming))
+    → netOutput n s x far 0 ≡ localAt (n .depth) x 0
 unfolding netOutput
 output-zero n s x far = refl
 

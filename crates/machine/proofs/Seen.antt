@@ -2,11 +2,12 @@
 use Prim.Native.Nat.{ℕ, zero, suc, _-_, _/_, _%_, _<_, _*_}
 use mathlib.Core.Path.{_≡_, refl, sym, ap, ap₂, _∙_}
 use mathlib.Core.List.{List}
-use mathlib.Core.Bool.{Bool, true, false, cond, _&&_}
+use mathlib.Core.Bool.{Bool, true, false, cond, _&&_, _||_}
 use native.Mathlib.Omega.{arith}
-use borrow.Author.Tests.{ltb-true, le-leb}
+use native.Mathlib.Decide.{decLt}
+use borrow.Author.Tests.{ltb-true, le-leb, eq-eqb}
 use lib.Dec.{eqb, ltb, leb}
-use Rattle.base.specs.Sizes.{portCount, sitesMost}
+use Rattle.base.specs.Sizes.{outputCount, splitPort, portCount, sitesMost}
 use Rattle.base.specs.Bools.{cond-ok, clash, implies, either-way}
 use Rattle.base.specs.All.{all-same}
 use Rattle.types.specs.declared.Phase.the-variants.{the-data as Phase, Free, Seek, Open, Wait, Done, Last, Abort as Aborted, FinAbort}
@@ -14,12 +15,12 @@ use Rattle.types.specs.declared.Input.{Input}
 use Rattle.types.specs.declared.Output.{Output}
 use Rattle.types.specs.declared.Site.{Site}
 use Rattle.types.specs.declared.Network.{Network}
-use Rattle.model.specs.Types.{noInput, siteAt, inAt, outAt, mark, outOf, carries, setIn, setOut, withInQueue, withOutQueue}
+use Rattle.model.specs.Types.{noInput, siteAt, inAt, outAt, queueAt, queuePort, isLocal, mark, outOf, carries, setIn, setOut, setQueue, withOutQueue}
 use Rattle.model.specs.Network.{joined, channel, isChannel, endPort}
 use Rattle.types.specs.Phases.{listening}
 use Rattle.model.specs.NetInput.{Turn, Stay, To, allReady, hears, ready, inState, netInput}
 use Rattle.model.specs.Places.{Work, Rest, Cleared, Service, localOutput, channelOutput, outQueue, operator, timeout}
-use Rattle.model.specs.Steps.{Act, ownTurn, passTurn, workDone, setBoth, netOutput, act, farEnd, ends}
+use Rattle.model.specs.Steps.{Act, ownTurn, passTurn, workDone, operatorAt, localAt, setBoth, netOutput, act, farEnd, ends}
 use Rattle.theorems.proofs.Networks.{Valid}
 use Rattle.theorems.proofs.Editions.{unjoined}
 use Rattle.machine.specs.Step.{ofAct, EndsWithin, Passable, farAt, fourEnds}
@@ -28,15 +29,19 @@ use Rattle.machine.specs.Step.{ofAct, EndsWithin, Passable, farAt, fourE
 
 module _ (n : Network) (s : ℕ) (x : Site) (f g : ℕ → Input)
     (same : (j : ℕ) → j < 4 → joined n s (suc j) ≡ true → f (suc j) ≡ g (suc j)) where
-  ready-same : (os : List Output) (j : ℕ) → j < 5 → ready (joined n s) f os j ≡ ready (joined n s) g os j
+  hears-same : (j : ℕ) → j < outputCount → hears (joined n s) f j ≡ hears (joined n s) g j
   unfolding hears
-  ready-same os zero h = refl
-  ready-same os (suc j) h =
-      ap (λ (b : Bool). carries (outOf os (suc j)) && outOf os (suc j) .head && b) (go (joined n s (suc j)) refl)
+  hears-same zero h = refl
+  hears-same (suc j) h = go (decLt j portCount) (joined n s (suc j)) refl
     where
-      go : (b : Bool) → joined n s (suc j) ≡ b → (b && listening (f (suc j) .phase)) ≡ (b && listening (g (suc j) .phase))
-      go true e = ap (λ (y : Input). listening (y .phase)) (same j (omega arith) e)
-      go false e = refl
+      go : Dec (j < portCount) → (b : Bool) → joined n s (suc j) ≡ b
+          → (isLocal (suc j) || b && listening (f (suc j) .phase)) ≡ (isLocal (suc j) || b && listening (g (suc j) .phase))
+      go (yes l) true e = ap (λ (y : Input). isLocal (suc j) || listening (y .phase)) (same j l e)
+      go d false e = refl
+      go (no l) true e = let z : suc j ≡ splitPort = omega arith in rw (eq-eqb (suc j) splitPort z) refl
+
+  ready-same : (os : List Output) (j : ℕ) → j < outputCount → ready (joined n s) f os j ≡ ready (joined n s) g os j
+  ready-same os j h = ap (λ (b : Bool). carries (outOf os j) && outOf os j .head && b) (hears-same j h)
 
   -- readiness as the rules see it
   abbrev by : (ℕ → Input) → List Output → ℕ → Bool
@@ -44,7 +49,7 @@ module _ (n : Network) (s : ℕ) (x : Site) (f g : ℕ → Input)
 
   all-same-ready : (os : List Output) (bs : List Bool) → allReady (by f os) bs ≡ allReady (by g os) bs
   all-same-ready os bs =
-      all-same (λ j. implies (mark bs j) (by f os j)) (λ j. implies (mark bs j) (by g os j)) 5
+      all-same (λ j. implies (mark bs j) (by f os j)) (λ j. implies (mark bs j) (by g os j)) outputCount
       (λ j h. ap (λ (b : Bool). implies (mark bs j) b) (ready-same os j h))
 
   state-same : (i : ℕ) (y : Input) (os : List Output) (ph : Phase) → inState n s i y os (by f os) ph ≡ inState n s i y os (by g os) ph
@@ -97,10 +102,17 @@ module _ (n : Network) (val : Valid n) (s : ℕ) (x : Site) (hs : s < n .sites) 
   own-ok f Stay h = absurd (clash (sym h))
   own-ok f (To a b) h = absurd (clash (sym h))
 
-  work-ok : (w : Work) → PassOk (workDone x w)
-  work-ok Rest h = absurd (clash (sym h))
-  work-ok (Cleared a b) h = absurd (clash (sym h))
-  work-ok (Service a b q) h = absurd (clash (sym h))
+  work-ok : (m : ℕ) (w : Work) → PassOk (workDone x m w)
+  work-ok m Rest h = absurd (clash (sym h))
+  work-ok m (Cleared a b) h = absurd (clash (sym h))
+  work-ok m (Service a b q) h = absurd (clash (sym h))
+
+  operator-ok : (m : ℕ) → PassOk (operatorAt (n .depth) s x m)
+  operator-ok m = work-ok m (operator (n .depth) s (queueAt x m) (x .outgoing))
+
+  local-ok : (m : ℕ) → PassOk (localAt (n .depth) x m)
+  local-ok m =
+      own-ok (λ o q. setOut (setQueue x m q) (queuePort m) o) (localOutput (n .depth) (outAt x (queuePort m)) (queueAt x m))
 
   along : (j : ℕ) (t : Turn Output Input) → channel n s (suc j) < portCount * sitesMost → PassOk (passTurn x (suc j) t)
   along j Stay l h = absurd (clash (sym h))
@@ -115,7 +127,7 @@ module _ (n : Network) (val : Valid n) (s : ℕ) (x : Site) (hs : s < n .sites) 
 
   output-ok : (far : ℕ → Input) (j : ℕ) → j < 5 → PassOk (netOutput n s x far j)
   unfolding netOutput
-  output-ok far zero h = own-ok (λ o q. setOut (withInQueue x q) 0 o) (localOutput (n .depth) (outAt x 0) (x .incoming))
+  output-ok far zero h = local-ok 0
   output-ok far (suc j) h = channel-ok j (outAt x (suc j)) (far (suc j)) (omega arith)
 
   pub act-passable : (far : ℕ → Input) (code : ℕ) → PassOk (act n s x far code)
@@ -128,11 +140,13 @@ module _ (n : Network) (val : Valid n) (s : ℕ) (x : Site) (hs : s < n .sites) 
       (λ h.
       cond-ok PassOk (eqb code 10) _ _ (λ h. own-ok (λ q y. setIn (withOutQueue x q) 0 y) (outQueue (x .outgoing) (inAt x 0)))
       (λ h.
-      cond-ok PassOk (eqb code 11) _ _ (λ h. work-ok (operator (n .depth) s (x .incoming) (x .outgoing)))
+      cond-ok PassOk (eqb code 11) _ _ (λ h. operator-ok 0)
       (λ h.
       let i = outAt x 0 .input in
-      cond-ok PassOk (eqb code 12) _ _ (λ h. own-ok (setBoth x i) (timeout (x .incoming) (x .outputs) (inAt x i)))
-      (λ h e. absurd (clash (sym e)))))))
+      cond-ok PassOk (eqb code 12) _ _ (λ h. own-ok (setBoth x i) (timeout (n .edition) (queueAt x 0) (x .outputs) (inAt x i)))
+      (λ h.
+      cond-ok PassOk (eqb code 13) _ _ (λ h. local-ok 1)
+      (λ h. cond-ok PassOk (eqb code 14) _ _ (λ h. operator-ok 1) (λ h e. absurd (clash (sym e)))))))))
 
 -- the channels of a valid network end within the sites
 pub valid-ends : (n : Network) → Valid n → (s : ℕ) → s < n .sites → EndsWithin n s
@@ -141,8 +155,8 @@ valid-ends n val s hs j hj e = omega (arith, val .ends s j hs hj e, val .few)
 -- ---- the far ends as the code reads them
 
 -- y is read by the channel b from the site u at its end
-pub end-seen : (n : Network) (xs : List Site) (s : ℕ) → EndsWithin n s → (j : ℕ) → j < 4 → {b : ℕ} → b ≡ channel n s (suc j) → {u : ℕ} → u ≡ b / portCount % sitesMost
-    → {y : Input} → y ≡ cond (isChannel b) (inAt (siteAt xs u) (endPort b)) noInput → y ≡ ends n xs s (suc j)
+pub end-seen : (n : Network) (xs : List Site) (s : ℕ) → EndsWithin n s → (j : ℕ) → j < 4 → {b : ℕ} → b ≡ channel n s (suc j)
+    → {u : ℕ} → u ≡ b / portCount % sitesMost → {y : Input} → y ≡ cond (isChannel b) (inAt (siteAt xs u) (endPort b)) noInput → y ≡ ends n xs s (suc j)
 end-seen n xs s within j hj {b = b} e {u = u} eu ey = ey ∙ go (isChannel b) refl ∙ ap byChannel e
   where
     byChannel : ℕ → Input

@@ -6,9 +6,10 @@ use mathlib.Core.Bool.{Bool, true, false, cond, _&&_}
 use native.Mathlib.Omega.{arith}
 use borrow.Author.Tests.{ne-eqb, ltb-true}
 use lib.Dec.{eqb, ltb}
-use Rattle.base.specs.Sizes.{codeCount, sitesMost, queueRoom, packetsMost}
+use Rattle.base.specs.Sizes.{sitesMost, queueRoom, packetsMost}
 use Rattle.base.specs.Bools.{first-of}
 use Rattle.sets.specs.Sets.{targets}
+use Rattle.draws.specs.Draws.{codesIn}
 use Rattle.types.specs.declared.Network.{Network}
 use Rattle.types.specs.declared.Site.{Site}
 use Rattle.types.specs.declared.State.{State}
@@ -51,11 +52,11 @@ module _ (n : Network) (st : State) where
     unfolding ran runRefusal
     run-shared k e ne = rw (shared (runFault n s code) (λ z. ne (e ∙ z)), ← e, ne-eqb k 0 ne) refl
 
-    pub run-none : refusalThen n st 0 ≡ 0 → (ltb s (n .sites) && ltb code codeCount) ≡ false → record { answer = RunRefused 9; state = st } ≡ ran n st s code
+    pub run-none : refusalThen n st 0 ≡ 0 → (ltb s (n .sites) && ltb code (codesIn (n .edition))) ≡ false → record { answer = RunRefused 9; state = st } ≡ ran n st s code
     unfolding ran runRefusal
     run-none h e = rw (alone (runFault n s code) h, e) refl
 
-    pub run-passes-on : refusalThen n st 0 ≡ 0 → (ltb s (n .sites) && ltb code codeCount) ≡ true → runs n st s code ≡ ran n st s code
+    pub run-passes-on : refusalThen n st 0 ≡ 0 → (ltb s (n .sites) && ltb code (codesIn (n .edition))) ≡ true → runs n st s code ≡ ran n st s code
     unfolding ran runRefusal
     run-passes-on h e = rw (alone (runFault n s code) h, e) refl
 

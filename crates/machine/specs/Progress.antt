@@ -131,8 +131,9 @@ drew p v y a =
 abbrev pub drawnRun : Run → Progress → AfterRun
 drawnRun r p =
     let v = drawn (p .value) in
+    let E = r .network .edition in
     let S = r .network .sites in
-    runs (r .network) (p .state) (drawnSite S v) (drawnCode S v)
+    runs (r .network) (p .state) (drawnSite E S v) (drawnCode E S v)
 
 unfoldable pub drawTurn : Run → Progress → Progress
 drawTurn r p = drew p (drawn (p .value)) (drawnRun r p .state) (drawnRun r p .answer)

@@ -43,7 +43,7 @@ thereAt l zero = false
 thereAt l (suc j) = getD l j false
 
 abbrev pub flags : (ℕ → Bool) → List Bool
-flags f = f 0 ∷ f 1 ∷ f 2 ∷ f 3 ∷ f 4 ∷ []
+flags f = f 0 ∷ f 1 ∷ f 2 ∷ f 3 ∷ f 4 ∷ f 5 ∷ []
 
 -- which outputs 1 to 4 have a channel, as an array
 abbrev pub fourFlags : (ℕ → Bool) → List Bool

@@ -44,6 +44,10 @@ fn empty_site() -> Site
         terminator: Terminator::None,
         packet: 0,
     };
+    let queue = InQueue {
+        entries: [arrived; base::QUEUE],
+        count: 0,
+    };
     Site {
         inputs: [input; base::INPUTS],
         outputs: [output; base::OUTPUTS],
@@ -51,10 +55,7 @@ fn empty_site() -> Site
             entries: [leaving; base::QUEUE],
             count: 0,
         },
-        incoming: InQueue {
-            entries: [arrived; base::QUEUE],
-            count: 0,
-        },
+        incoming: [queue; base::IN_QUEUES],
     }
 }
 
@@ -105,7 +106,7 @@ pub fn run(network: Network, state: State, site: usize, code: usize) -> AfterRun
             state,
         };
     }
-    if (site < sites) & (code < base::CODES) {
+    if (site < sites) & (code < draws::codes_in(network.edition)) {
         return run_checked(network, state, site, code);
     }
     AfterRun {

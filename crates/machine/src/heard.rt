@@ -26,7 +26,7 @@ fn is_taken(output: Output) -> bool
     output.used & !output.closing & output.head
 }
 
-// Whether output 0 is ready.
+// Whether output 0 or the split output is ready.
 fn is_ready(output: Output) -> bool
     ensures { λ r. ⌜ r ≡ (carries output && output .head && true) ⌝ }
 {
@@ -96,5 +96,6 @@ pub(crate) fn ready_outputs(
         is_heard(there, far, outputs, 1),
         is_heard(there, far, outputs, 2),
         is_heard(there, far, outputs, 3),
+        is_ready(outputs[base::SPLIT_PORT]),
     ]
 }

@@ -9,6 +9,7 @@ ghost use Rattle.base.specs.Sums.{sum};
 ghost use Rattle.model.specs.Owing as spec;
 use rules::held_terminator;
 use types::InEntry;
+use types::InQueue;
 use types::Input;
 use types::OutEntry;
 use types::Output;
@@ -43,54 +44,80 @@ fn entry_pairs(terminator: Terminator, s: usize, set: u64, m: usize, count: usiz
     0
 }
 
-// Of the net-inputs and the net-outputs of site s.
-fn net_pairs(s: usize, inputs: [Input; base::INPUTS], outputs: [Output; base::OUTPUTS]) -> usize
-    ensures { λ r. ⌜ (r ≡ sum (spec.pairsInput s) inputs + sum (spec.pairsOutput s) outputs) × (r ≤ 640) ⌝ }
+// Of the net-inputs of site s, of its net-outputs.
+fn input_pairs(s: usize, inputs: [Input; base::INPUTS]) -> usize
+    ensures { λ r. ⌜ (r ≡ sum (spec.pairsInput s) inputs) × (r ≤ 320) ⌝ }
 {
     let mut n = 0usize;
-    for i in 0usize..5 {
+    for i in 0usize..base::INPUTS {
         let input = inputs[i];
         let phase = input.phase;
         let held = held_terminator(phase);
-        let output = outputs[i];
-        let terminator = output.terminator;
-        n += place_pairs(held, s, input.set) + place_pairs(terminator, s, output.set);
+        n += place_pairs(held, s, input.set);
     }
     n
 }
 
-// Of the first `left` entries of an out-queue and the first `came` of an in-queue.
-fn queue_pairs(
-    s: usize,
-    leaving: [OutEntry; base::QUEUE],
-    left: usize,
-    arrived: [InEntry; base::QUEUE],
-    came: usize,
-) -> usize
-    ensures { λ r. ⌜ (r ≡ sum (spec.pairsOutEntry s) (take left leaving) + sum (spec.pairsInEntry s) (take came arrived)) × (r ≤ 1024) ⌝ }
+fn output_pairs(s: usize, outputs: [Output; base::OUTPUTS]) -> usize
+    ensures { λ r. ⌜ (r ≡ sum (spec.pairsOutput s) outputs) × (r ≤ 384) ⌝ }
 {
     let mut n = 0usize;
-    for m in 0usize..8 {
-        let first = leaving[m];
-        let second = arrived[m];
-        let terminator = second.terminator;
-        n += entry_pairs(Terminator::End, s, first.set, m, left)
-            + entry_pairs(terminator, s, second.set, m, came);
+    for j in 0usize..base::OUTPUTS {
+        let output = outputs[j];
+        let terminator = output.terminator;
+        n += place_pairs(terminator, s, output.set);
     }
     n
+}
+
+// Of the entries of an out-queue, of an in-queue.
+fn out_queue_pairs(s: usize, leaving: [OutEntry; base::QUEUE], left: usize) -> usize
+    ensures { λ r. ⌜ (r ≡ sum (spec.pairsOutEntry s) (take left leaving)) × (r ≤ 512) ⌝ }
+{
+    let mut n = 0usize;
+    for m in 0usize..base::QUEUE {
+        let entry = leaving[m];
+        n += entry_pairs(Terminator::End, s, entry.set, m, left);
+    }
+    n
+}
+
+fn in_queue_pairs(s: usize, arrived: [InEntry; base::QUEUE], came: usize) -> usize
+    ensures { λ r. ⌜ (r ≡ sum (spec.pairsInEntry s) (take came arrived)) × (r ≤ 512) ⌝ }
+{
+    let mut n = 0usize;
+    for m in 0usize..base::QUEUE {
+        let entry = arrived[m];
+        let terminator = entry.terminator;
+        n += entry_pairs(terminator, s, entry.set, m, came);
+    }
+    n
+}
+
+// Of both in-queues.
+fn in_queues_pairs(s: usize, queues: [InQueue; base::IN_QUEUES]) -> usize
+    ensures { λ r. ⌜ (r ≡ sum (spec.pairsInQueue s) queues) × (r ≤ 1024) ⌝ }
+{
+    let own = queues[0];
+    let split = queues[1];
+    let came = own.entries;
+    let parted = split.entries;
+    in_queue_pairs(s, came, own.count) + in_queue_pairs(s, parted, split.count)
 }
 
 // The owed pairs of site s. Of a queue whose count is above its room every entry counts.
 pub fn site_pairs(s: usize, site: Site) -> usize
-    ensures { λ r. ⌜ (r ≡ spec.pairsSite s site) × (r ≤ 1664) ⌝ }
+    ensures { λ r. ⌜ (r ≡ spec.pairsSite s site) × (r ≤ 2240) ⌝ }
 {
     let inputs = site.inputs;
     let outputs = site.outputs;
     let outgoing = site.outgoing;
     let leaving = outgoing.entries;
     let incoming = site.incoming;
-    let arrived = incoming.entries;
-    net_pairs(s, inputs, outputs) + queue_pairs(s, leaving, outgoing.count, arrived, incoming.count)
+    input_pairs(s, inputs)
+        + output_pairs(s, outputs)
+        + out_queue_pairs(s, leaving, outgoing.count)
+        + in_queues_pairs(s, incoming)
 }
 
 // The owed pairs of all sites.

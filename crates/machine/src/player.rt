@@ -89,7 +89,7 @@ fn play_run(
             continue;
         }
         clock = ticked(clock);
-        let named = draws::event_of(clock.value, network.sites);
+        let named = draws::event_of(clock.value, network.sites, network.edition);
         let s = named.site;
         let change = change_of(network, state, s, named.code);
         let act = change.act;

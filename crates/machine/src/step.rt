@@ -1,8 +1,8 @@
 // RUN on a site by value: what the event sees in (the site, the inputs at the ends of its channels), what becomes of it out.
 ghost use mathlib.Core.Path.{_≡_};
-ghost use Prim.Native.Nat.{_<_};
+ghost use Prim.Native.Nat.{_<_, _≤_};
 ghost use mathlib.Core.Bool.{cond};
-ghost use Rattle.base.specs.Sizes.{sitesMost, inputCount, outputCount, portCount};
+ghost use Rattle.base.specs.Sizes.{sitesMost, inputCount, inQueueCount, portCount};
 ghost use Rattle.model.specs.Types as spec;
 ghost use Rattle.model.specs.Steps as steps;
 ghost use Rattle.machine.specs.Step.{ofAct, unchanged, changed, farAt, Runnable};
@@ -89,20 +89,22 @@ fn input_step(network: Network, s: usize, site: Site, far: [Input; base::PORTS],
     took(site, next, moved)
 }
 
-// Code 5: net-output 0.
-fn local_step(network: Network, s: usize, site: Site) -> Change
-    ensures { λ r. ⌜ r ≡ ofAct network s site (localAct (network .depth) site) ⌝ }
+// Codes 5 and 13: the net-output that fills in-queue m, output 0 or the split output.
+fn local_step(network: Network, s: usize, site: Site, m: usize) -> Change
+    requires { ⌜ m < inQueueCount ⌝ }
+    ensures { λ r. ⌜ r ≡ ofAct network s site (localAct (network .depth) site m) ⌝ }
 {
     let depth = network.depth;
-    let output = site.outputs[0];
-    let queue = site.incoming;
+    let j = base::SPLIT_PORT * m;
+    let output = site.outputs[j];
+    let queue = site.incoming[m];
     let turn = local_output(depth, output, queue);
     let after = turn.queue;
     let now = turn.output;
     let moved = turn.changed;
     let mut next = site;
-    next.incoming = after;
-    next.outputs[0] = now;
+    next.incoming[m] = after;
+    next.outputs[j] = now;
     took(site, next, moved)
 }
 
@@ -153,19 +155,20 @@ fn queue_step(network: Network, s: usize, site: Site) -> Change
     took(site, next, moved)
 }
 
-// Code 11: the operator.
-fn operator_step(network: Network, s: usize, site: Site) -> Change
-    ensures { λ r. ⌜ r ≡ ofAct network s site (operatorAct (network .depth) s site) ⌝ }
+// Codes 11 and 14: the operator of in-queue m.
+fn operator_step(network: Network, s: usize, site: Site, m: usize) -> Change
+    requires { ⌜ m < inQueueCount ⌝ }
+    ensures { λ r. ⌜ r ≡ ofAct network s site (operatorAct (network .depth) s site m) ⌝ }
 {
     let depth = network.depth;
-    let incoming = site.incoming;
+    let incoming = site.incoming[m];
     let outgoing = site.outgoing;
     let turn = operator(depth, s, incoming, outgoing);
     let arrived = turn.incoming;
     let leaving = turn.outgoing;
     if turn.changed {
         let mut next = site;
-        next.incoming = arrived;
+        next.incoming[m] = arrived;
         next.outgoing = leaving;
         if turn.serviced {
             return Change {
@@ -183,14 +186,14 @@ fn operator_step(network: Network, s: usize, site: Site) -> Change
 // Code 12: the timeout.
 fn timeout_step(network: Network, s: usize, site: Site) -> Change
     requires { ⌜ spec.outAt site 0 .input < inputCount ⌝ }
-    ensures { λ r. ⌜ r ≡ ofAct network s site (timeoutAct site) ⌝ }
+    ensures { λ r. ⌜ r ≡ ofAct network s site (timeoutAct (network .edition) site) ⌝ }
 {
     let own = site.outputs[0];
     let i = own.input as usize;
     let input = site.inputs[i];
-    let queue = site.incoming;
+    let queue = site.incoming[0];
     let outputs = site.outputs;
-    let turn = time_out(queue, outputs, input);
+    let turn = time_out(network.edition, queue, outputs, input);
     let after = turn.outputs;
     let now = turn.input;
     let moved = turn.changed;
@@ -208,16 +211,17 @@ fn output_step(
     far: [Input; base::PORTS],
     j: usize,
 ) -> Change
-    requires { ⌜ Runnable network s site ⌝ ∗ ⌜ j < outputCount ⌝ }
+    requires { ⌜ Runnable network s site ⌝ ∗ ⌜ j ≤ portCount ⌝ }
     ensures { λ r. ⌜ r ≡ ofAct network s site (steps.netOutput network s site (farAt far) j) ⌝ }
 {
     if j == 0 {
-        return local_step(network, s, site);
+        return local_step(network, s, site, 0);
     }
     channel_step(network, s, site, far, j - 1)
 }
 
-// RUN at site s: codes 0 to 4 are the net-inputs, 5 to 9 the net-outputs, 10 the out-queue, 11 the operator, 12 the timeout.
+// RUN at site s: codes 0 to 4 are the net-inputs, 5 to 9 the net-outputs, 10 the out-queue, 11 the operator, 12 the timeout, 13 the
+// split output, 14 its operator.
 pub(crate) fn step(
     network: Network,
     s: usize,
@@ -232,8 +236,10 @@ pub(crate) fn step(
         0..=4 => input_step(network, s, site, far, code),
         5..=9 => output_step(network, s, site, far, code - 5),
         10 => queue_step(network, s, site),
-        11 => operator_step(network, s, site),
+        11 => operator_step(network, s, site, 0),
         12 => timeout_step(network, s, site),
+        13 => local_step(network, s, site, 1),
+        14 => operator_step(network, s, site, 1),
         _ => stays(site),
     }
 }
