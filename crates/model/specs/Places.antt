@@ -30,8 +30,9 @@ lastLacks iq = ltb 0 (iq .count) && isNone (lastOf iq .terminator)
 abbrev pub endLast : InQueue → Terminator → InQueue
 endLast iq h = record { entries = set (iq .entries) (iq .count - 1) (entryTerm (lastOf iq) h); count = iq .count }
 
--- Net-output 0 and the split output (L10: "delivers and waits as output 0 does"), each with its in-queue. "In use, head not taken: output 0 appends (packet, set, no terminator) to the in-queue if it has room"; "Head taken
--- with a terminator: if ready, deliver it and become empty"; "if the queue is empty or that entry has one already, nothing changes."
+-- Net-output 0 and the split output (L10: "delivers and waits as output 0 does"), each with its in-queue. "In use, head not taken:
+-- output 0 appends (packet, set, no terminator) to the in-queue if it has room"; "Head taken with a terminator: if ready, deliver it
+-- and become empty"; "if the queue is empty or that entry has one already, nothing changes."
 abbrev pub headIn : ℕ → Output → InQueue → Turn Output InQueue
 headIn D o iq =
     cond (ltb (iq .count) D)

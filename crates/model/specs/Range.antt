@@ -1,4 +1,5 @@
--- Document 01, "In range means: ..", with L6's mark and L10's split output, clause by clause, and no more than they say. Tests are joined without a branch, place by place.
+-- Document 01, "In range means: ..", with L6's mark and L10's split output, clause by clause, and no more than they say. Tests are
+-- joined without a branch, place by place.
 -- What a type already says is no clause: packets, tries, feeders and the counter are bytes; a connection exists exactly in the
 -- states 2 to 7, a received terminator exactly in 4, 5 and 7; arrays have their lengths.
 use Prim.Native.Nat.{ℕ, suc}
