@@ -10,12 +10,13 @@ ghost use Rattle.model.specs.Network.{sitesIn, channelsOk, routeOk, routesOk, n
 ghost use Rattle.checks.specs.Network.{kindIn, sizesIn, partsRefusal, portsBy, portsOf, routeBy};
 use types::Network;
 
-// 2 for a version that is neither 1 nor 2, 17 for an edition that is not 1, nor 2 in version 2, else 0.
+// 2 for a version that is neither 1 nor 2, 17 for an edition that is not 1, nor 2 or 3 in version 2, else 0.
 pub fn kind_refusal(version: u8, edition: u8) -> u8
     ensures { λ r. ⌜ r ≡ kindIn version edition ⌝ }
 {
+    let restricted = draws::is_restricted(edition);
     if (version == 1) | (version == 2) {
-        if (edition == 1) | ((edition == 2) & (version == 2)) {
+        if (edition == 1) | (((edition == 2) | restricted) & (version == 2)) {
             return 0;
         }
         return 17;

@@ -8,7 +8,7 @@ ghost use mathlib.Core.Path.{_≡_};
 ghost use mathlib.Core.Bool.{_&&_};
 ghost use Rattle.model.specs.Range as spec;
 ghost use Rattle.model.specs.Events.{refusalThen};
-ghost use Rattle.checks.specs.Range.{netPlacesOk};
+ghost use Rattle.checks.specs.Range.{netPlacesOk, inQueuesOk};
 use crate::network::network_refusal;
 use crate::range::places::in_entry_ok;
 use crate::range::places::input_ok;
@@ -22,7 +22,7 @@ use types::Output;
 use types::Site;
 use types::State;
 
-// The net-inputs and the net-outputs of a site: five of each.
+// The net-inputs and the net-outputs of a site: five of each, and the split output.
 fn net_places_ok(
     edition: u8,
     sites: usize,
@@ -39,30 +39,89 @@ fn net_places_ok(
         let input = inputs[i];
         let output = outputs[i];
         ok = ok
-            & (input_ok(sites, limit, counter, outputs, i, input)
+            & (input_ok(edition, sites, limit, counter, outputs, i, input)
                 & output_ok(edition, sites, counter, i, output));
         i += 1;
+    }
+    let split = outputs[base::SPLIT_PORT];
+    ok & output_ok(edition, sites, counter, base::SPLIT_PORT, split)
+}
+
+// The out-queue: eight places.
+fn out_queue_ok(sites: usize, depth: usize, counter: u8, queue: OutQueue) -> bool
+    ensures { λ r. ⌜ r ≡ spec.outQueueOk sites depth counter queue ⌝ }
+{
+    let count = queue.count;
+    let mut ok = true;
+    let mut m: usize = 0;
+    while m < base::QUEUE {
+        let entry = queue.entries[m];
+        ok = ok & out_entry_ok(sites, counter, count, m, entry);
+        m += 1;
+    }
+    (count <= depth) & ok
+}
+
+// An in-queue: eight places.
+fn in_queue_ok(sites: usize, depth: usize, counter: u8, queue: InQueue) -> bool
+    ensures { λ r. ⌜ r ≡ spec.inQueueOk sites depth counter queue ⌝ }
+{
+    let count = queue.count;
+    let mut ok = true;
+    let mut m: usize = 0;
+    while m < base::QUEUE {
+        let entry = queue.entries[m];
+        ok = ok & in_entry_ok(sites, counter, count, m, entry);
+        m += 1;
+    }
+    (count <= depth) & ok
+}
+
+// The depth of in-queue m: that of the split output has none but in edition 3.
+fn depth_of(edition: u8, depth: usize, m: usize) -> usize
+    ensures { λ r. ⌜ r ≡ spec.depthOf edition depth m ⌝ }
+{
+    let restricted = draws::is_restricted(edition);
+    if (m == 0) | restricted {
+        return depth;
+    }
+    0
+}
+
+// Both in-queues.
+fn in_queues_ok(
+    edition: u8,
+    sites: usize,
+    depth: usize,
+    counter: u8,
+    incoming: [InQueue; base::IN_QUEUES],
+) -> bool
+    ensures { λ r. ⌜ r ≡ inQueuesOk edition sites depth counter incoming ⌝ }
+{
+    let mut ok = true;
+    let mut m: usize = 0;
+    while m < base::IN_QUEUES {
+        let queue = incoming[m];
+        let most = depth_of(edition, depth, m);
+        ok = ok & in_queue_ok(sites, most, counter, queue);
+        m += 1;
     }
     ok
 }
 
-// The two queues of a site: eight places in each.
-fn queues_ok(sites: usize, depth: usize, counter: u8, outgoing: OutQueue, incoming: InQueue) -> bool
-    ensures { λ r. ⌜ r ≡ spec.outQueueOk sites depth counter outgoing && spec.inQueueOk sites depth counter incoming ⌝ }
+// The queues of a site.
+fn queues_ok(
+    edition: u8,
+    sites: usize,
+    depth: usize,
+    counter: u8,
+    outgoing: OutQueue,
+    incoming: [InQueue; base::IN_QUEUES],
+) -> bool
+    ensures { λ r. ⌜ r ≡ spec.outQueueOk sites depth counter outgoing && inQueuesOk edition sites depth counter incoming ⌝ }
 {
-    let leaving = outgoing.count;
-    let arrived = incoming.count;
-    let mut ok = true;
-    let mut m: usize = 0;
-    while m < base::QUEUE {
-        let first = outgoing.entries[m];
-        let second = incoming.entries[m];
-        ok = ok
-            & (out_entry_ok(sites, counter, leaving, m, first)
-                & in_entry_ok(sites, counter, arrived, m, second));
-        m += 1;
-    }
-    ((leaving <= depth) & (arrived <= depth)) & ok
+    out_queue_ok(sites, depth, counter, outgoing)
+        & in_queues_ok(edition, sites, depth, counter, incoming)
 }
 
 // A site of the network. With T, D and counter 0 it is the test of room beyond S.
@@ -74,7 +133,7 @@ fn site_ok(edition: u8, sites: usize, limit: u8, depth: usize, counter: u8, site
     let outgoing = site.outgoing;
     let incoming = site.incoming;
     net_places_ok(edition, sites, limit, counter, inputs, outputs)
-        & queues_ok(sites, depth, counter, outgoing, incoming)
+        & queues_ok(edition, sites, depth, counter, outgoing, incoming)
 }
 
 // Place s of a state's sites, with the edition, S, T, D and the counter: a site of the network, or room beyond S.

@@ -1,6 +1,7 @@
 // What a net-input's state and a terminator tell: the model's case functions, each as one full match.
 ghost use mathlib.Core.Path.{_≡_};
-ghost use Rattle.types.specs.Phases.{connected, splitting, aborting, isKeep};
+ghost use Rattle.types.specs.Phases.{branches, connected, splitting, branching, aborting, isKeep};
+use types::Connection;
 use types::Phase;
 use types::Terminator;
 
@@ -20,7 +21,7 @@ pub(crate) fn is_connected(phase: Phase) -> bool
     }
 }
 
-// The states with such a connection.
+// The states with connection 3 or 4.
 pub(crate) fn is_splitting(phase: Phase) -> bool
     ensures { λ r. ⌜ r ≡ splitting phase ⌝ }
 {
@@ -33,6 +34,36 @@ pub(crate) fn is_splitting(phase: Phase) -> bool
         Phase::Last(c, _) => types::is_split(c),
         Phase::Abort(c) => types::is_split(c),
         Phase::FinAbort(c, _) => types::is_split(c),
+    }
+}
+
+// Connection 6.
+fn is_branch(connection: Connection) -> bool
+    ensures { λ r. ⌜ r ≡ branches connection ⌝ }
+{
+    match connection {
+        Connection::Unicast => false,
+        Connection::Passthru => false,
+        Connection::AllRemote => false,
+        Connection::SomeLocal => false,
+        Connection::Handed => false,
+        Connection::Branch => true,
+    }
+}
+
+// The states with it.
+pub(crate) fn is_branching(phase: Phase) -> bool
+    ensures { λ r. ⌜ r ≡ branching phase ⌝ }
+{
+    match phase {
+        Phase::Free => false,
+        Phase::Seek => false,
+        Phase::Open(c) => is_branch(c),
+        Phase::Wait(c) => is_branch(c),
+        Phase::Done(c, _) => is_branch(c),
+        Phase::Last(c, _) => is_branch(c),
+        Phase::Abort(c) => is_branch(c),
+        Phase::FinAbort(c, _) => is_branch(c),
     }
 }
 

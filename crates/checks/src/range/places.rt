@@ -7,8 +7,9 @@ ghost use Rattle.base.specs.Bools.{implies};
 ghost use Rattle.base.specs.All.{all};
 ghost use Rattle.model.specs.Types.{mark, outOf};
 ghost use Rattle.model.specs.Range as spec;
-ghost use Rattle.checks.specs.Range.{connectionOk};
+ghost use Rattle.checks.specs.Range.{connectionOk, branchOk};
 use crate::range::phases::is_aborting;
+use crate::range::phases::is_branching;
 use crate::range::phases::is_connected;
 use crate::range::phases::is_keep;
 use crate::range::phases::is_splitting;
@@ -28,7 +29,7 @@ fn tag_ok(sites: usize, counter: u8, packet: u8, set: u64) -> bool
 fn any_mark(marks: [bool; base::OUTPUTS]) -> bool
     ensures { λ r. ⌜ r ≡ spec.anyMark marks ⌝ }
 {
-    marks[0] | marks[1] | marks[2] | marks[3] | marks[4]
+    marks[0] | marks[1] | marks[2] | marks[3] | marks[4] | marks[5]
 }
 
 fn any_remote(marks: [bool; base::OUTPUTS]) -> bool
@@ -98,14 +99,26 @@ fn marks_ok(outputs: [Output; base::OUTPUTS], i: usize, marks: [bool; base::OUTP
     ok
 }
 
+// Connection 6 exactly where the split output is marked, and in edition 3 alone, where 3 and 4 are not.
+fn branch_ok(edition: u8, phase: Phase, marked: bool) -> bool
+    ensures { λ r. ⌜ r ≡ branchOk edition phase marked ⌝ }
+{
+    let branching = is_branching(phase);
+    let splitting = is_splitting(phase);
+    let restricted = draws::is_restricted(edition);
+    ((marked & branching) | (!marked & !branching))
+        & ((restricted & !splitting) | (!restricted & !branching))
+}
+
 // The marks of net-input i, which is in this state, with the outputs of its site.
 fn connection_ok(
+    edition: u8,
     outputs: [Output; base::OUTPUTS],
     i: usize,
     phase: Phase,
     marks: [bool; base::OUTPUTS],
 ) -> bool
-    ensures { λ r. ⌜ r ≡ connectionOk outputs i phase marks ⌝ }
+    ensures { λ r. ⌜ r ≡ connectionOk edition outputs i phase marks ⌝ }
 {
     let any = any_mark(marks);
     let connected = is_connected(phase);
@@ -114,10 +127,12 @@ fn connection_ok(
         & marks_ok(outputs, i, marks)
         & (!splitting | marks[0])
         & (!is_aborting(phase) | (splitting & !any_remote(marks)))
+        & branch_ok(edition, phase, marks[base::SPLIT_PORT])
 }
 
 // Net-input i, with the outputs of its site.
 pub(crate) fn input_ok(
+    edition: u8,
     sites: usize,
     limit: u8,
     counter: u8,
@@ -125,7 +140,7 @@ pub(crate) fn input_ok(
     i: usize,
     input: Input,
 ) -> bool
-    ensures { λ r. ⌜ r ≡ spec.inputOk sites limit counter outputs i input ⌝ }
+    ensures { λ r. ⌜ r ≡ spec.inputOk edition sites limit counter outputs i input ⌝ }
 {
     let phase = input.phase;
     let marks = input.outputs;
@@ -134,18 +149,22 @@ pub(crate) fn input_ok(
     }
     (input.tries <= limit)
         & tag_ok(sites, counter, input.packet, input.set)
-        & connection_ok(outputs, i, phase, marks)
+        & connection_ok(edition, outputs, i, phase, marks)
 }
 
-// Net-output j, which is in use, may be closing: edition 2, an output 1 to 4, head taken, without a terminator.
+// Net-output j, which is in use, may be closing: edition 2 or 3, an output 1 to 4, head taken, without a terminator.
 fn closing_ok(edition: u8, j: usize, output: Output) -> bool
     ensures { λ r. ⌜ r ≡ spec.closingOk edition j output ⌝ }
 {
     let terminator = output.terminator;
-    (edition == 2) & (j != 0) & output.head & types::is_none(terminator)
+    let taken = output.head;
+    ((edition == 2) | draws::is_restricted(edition))
+        & !((j == 0) | (j == base::SPLIT_PORT))
+        & taken
+        & types::is_none(terminator)
 }
 
-// Net-output j.
+// Net-output j; the split output is in use in edition 3 alone.
 pub(crate) fn output_ok(edition: u8, sites: usize, counter: u8, j: usize, output: Output) -> bool
     ensures { λ r. ⌜ r ≡ spec.outputOk edition sites counter j output ⌝ }
 {
@@ -154,7 +173,8 @@ pub(crate) fn output_ok(edition: u8, sites: usize, counter: u8, j: usize, output
         return tag_ok(sites, counter, output.packet, output.set)
             & (base::wide(output.input) < base::INPUTS)
             & (!is_keep(terminator) | (j == 0))
-            & (!output.closing | closing_ok(edition, j, output));
+            & (!output.closing | closing_ok(edition, j, output))
+            & ((j != base::SPLIT_PORT) | draws::is_restricted(edition));
     }
     zero_output(output)
 }

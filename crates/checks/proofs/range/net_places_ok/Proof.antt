@@ -2,6 +2,7 @@ use mathlib.Core.Path.{_≡_}
 use mathlib.Core.Bool.{_&&_}
 use Prim.Native.Nat.{_-_, _≤_}
 use native.Mathlib.Omega.{arith}
+use borrow.Author.Needs.{needs}
 use lib.ListN.{getD}
 use Rattle.base.specs.Sizes.{inputCount}
 use Rattle.base.specs.All.{all}
@@ -19,7 +20,7 @@ use Rattle.checks.proofs.range.places.output_ok.Reads as output-ok-read
 
 abbrev Inv-loop : tie.InvT-loop
 Inv-loop edition sites limit counter inputs outputs ok₀ i₀ ok i =
-    let first = all (λ k. inputOk sites limit counter outputs k (getD inputs k inputD)) i in
+    let first = all (λ k. inputOk edition sites limit counter outputs k (getD inputs k inputD)) i in
     let second = all (λ k. outputOk edition sites counter k (outOf outputs k)) i in
     (i ≤ inputCount) × (ok ≡ first && second)
 
@@ -55,14 +56,19 @@ loop-less c = search needs
 
 loop-again : tie.Need-loop-again Inv-loop μ-loop
 loop-again c =
-    let loop = c .before .before .before .before .before .loop in
-    let l = loop in
+    let l = c .before .before .before .before .before .loop in
     (search needs, all-next-two _ _ (l .i) _ _ _ (l .inv .1) (c .before .input-ok .ensures) (c .output-ok .ensures))
+
+array-copy-out-split : tie.Need-array-copy-out-split Inv-loop μ-loop
+array-copy-out-split c = search needs
+
+output-ok-requires-2 : tie.Need-output-ok-requires-2 Inv-loop μ-loop
+output-ok-requires-2 c κs = search needs
 
 returns : tie.Need-returns Inv-loop μ-loop
 returns c =
-    let l = c .before .loop in
-    all-end-two _ _ inputCount (l .i) _ (l .inv .0) (search needs) (l .inv .1)
+    let l = c .before .before .before .loop in
+    all-end-two _ _ inputCount (l .i) _ _ (l .inv .0) (search needs) (l .inv .1) (c .output-ok2 .ensures)
 
 pub net-places-ok-spec : {M : Type 1} → statement M
 net-places-ok-spec =
@@ -80,4 +86,6 @@ net-places-ok-spec =
     add-i
     loop-less
     loop-again
+    array-copy-out-split
+    output-ok-requires-2
     returns)

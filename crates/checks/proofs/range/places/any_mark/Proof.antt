@@ -21,6 +21,9 @@ array-read-result-4 c = search needs
 array-read-result-5 : tie.Need-array-read-result-5
 array-read-result-5 c = search needs
 
+array-read-result-6 : tie.Need-array-read-result-6
+array-read-result-6 c = search needs
+
 returns : tie.Need-returns
 unfolding any
 returns c = refl
@@ -34,4 +37,5 @@ any-mark-spec =
     array-read-result-3
     array-read-result-4
     array-read-result-5
+    array-read-result-6
     returns)

@@ -9,6 +9,7 @@ use Rattle.checks.proofs.range.phases.is_connected.Reads as is-connecte
 use Rattle.checks.proofs.range.phases.is_splitting.Reads as is-splitting-reads
 use Rattle.checks.proofs.range.places.any_mark.Reads as any-mark-reads
 use Rattle.checks.proofs.range.places.any_remote.Reads as any-remote-reads
+use Rattle.checks.proofs.range.places.branch_ok.Reads as branch-ok-reads
 use Rattle.checks.proofs.range.places.marks_ok.Reads as marks-ok-reads
 
 any-mark-requires : tie.Need-any-mark-requires
@@ -32,18 +33,22 @@ is-aborting-requires c κs = search needs
 any-remote-requires : tie.Need-any-remote-requires
 any-remote-requires c κs = search needs
 
+array-read-branch-ok : tie.Need-array-read-branch-ok
+array-read-branch-ok c = search needs
+
+branch-ok-requires : tie.Need-branch-ok-requires
+branch-ok-requires c κs = search needs
+
 returns : tie.Need-returns
 returns c =
-    let is-splitting = c .before .before .before .is-splitting in
-    let is-connected = c .before .before .before .before .is-connected in
-    let any-mark = c .before .before .before .before .before .any-mark in
     rw (
-      c .any-remote .ensures,
-      c .before .is-aborting .ensures,
-      c .before .before .marks-ok .ensures,
-      is-splitting .ensures,
-      is-connected .ensures,
-      any-mark .ensures,
+      c .branch-ok .ensures,
+      c .before .any-remote .ensures,
+      c .before .before .is-aborting .ensures,
+      c .before .before .before .marks-ok .ensures,
+      c .before .before .before .before .is-splitting .ensures,
+      c .before .before .before .before .before .is-connected .ensures,
+      c .before .before .before .before .before .before .any-mark .ensures,
     ) refl
 
 pub connection-ok-spec : {M : Type 1} → statement M
@@ -57,4 +62,6 @@ connection-ok-spec =
     array-read-result
     is-aborting-requires
     any-remote-requires
+    array-read-branch-ok
+    branch-ok-requires
     returns)

@@ -18,10 +18,9 @@ zero-input-requires c κs = search needs
 
 returns : tie.Need-returns
 returns c =
-    let args = c .before .before .before .before .args in
-    let a = args in
+    let a = c .before .before .before .before .args in
     c .zero-input .ensures
-    ∙ sym (free-input (a .sites) (a .limit) (a .counter) (a .outputs) (a .i) (a .input)
+    ∙ sym (free-input (a .edition) (a .sites) (a .limit) (a .counter) (a .outputs) (a .i) (a .input)
     (sym (c .before .before .is-free .ensures) ∙ c .before .if1 .taken))
 
 tag-ok-requires : tie.Need-tag-ok-requires
@@ -32,12 +31,10 @@ connection-ok-requires c κs = search needs
 
 returns-2 : tie.Need-returns-2
 returns-2 c =
-    let if1 = c .before .before .before .if1 in
+    let a = c .before .before .before .before .before .before .args in
     let is-free = c .before .before .before .before .is-free in
-    let args = c .before .before .before .before .before .before .args in
-    let a = args in
-    let law = used-input (a .sites) (a .limit) (a .counter) (a .outputs) (a .i) (a .input) in
-    rw (c .connection-ok .ensures, c .before .tag-ok .ensures) (sym (law (sym (is-free .ensures) ∙ if1 .left)))
+    let law = used-input (a .edition) (a .sites) (a .limit) (a .counter) (a .outputs) (a .i) (a .input) in
+    rw (c .connection-ok .ensures, c .before .tag-ok .ensures) (sym (law (sym (is-free .ensures) ∙ c .before .before .before .if1 .left)))
 
 pub input-ok-spec : {M : Type 1} → statement M
 input-ok-spec =

@@ -1,5 +1,5 @@
-use Rattle.checks.proofs.RangeLaws.{pick-first, pick-second}
 use mathlib.Core.Path.{refl}
+use Rattle.checks.proofs.RangeLaws.{pick-first, pick-second}
 use borrow.Author.Needs.{needs}
 use Rattle.checks.proofs.range.places.output_ok.Statement.{statement}
 use Rattle.checks.proofs.range.places.output_ok.Tie as tie
@@ -10,6 +10,7 @@ use Rattle.checks.proofs.range.phases.is_keep.Reads as is-keep-reads
 use Rattle.checks.proofs.range.places.closing_ok.Reads as closing-ok-reads
 use Rattle.checks.proofs.range.places.tag_ok.Reads as tag-ok-reads
 use Rattle.checks.proofs.range.places.zero_output.Reads as zero-output-reads
+use Rattle.draws.proofs.is_restricted.Reads as is-restricted-reads
 
 tag-ok-requires : tie.Need-tag-ok-requires
 tag-ok-requires c κs = search needs
@@ -23,16 +24,18 @@ is-keep-requires c κs = search needs
 closing-ok-requires : tie.Need-closing-ok-requires
 closing-ok-requires c κs = search needs
 
+is-restricted-requires : tie.Need-is-restricted-requires
+is-restricted-requires c κs = search needs
+
 returns : tie.Need-returns
 returns c =
-    let tag-ok = c .before .before .before .before .tag-ok in
-    let if1 = c .before .before .before .before .before .if1 in
-    pick-first _ _ _ _ (if1 .taken)
+    pick-first _ _ _ _ (c .before .before .before .before .before .before .if1 .taken)
     (rw (
-      c .closing-ok .ensures,
-      c .before .before .is-keep .ensures,
-      c .before .before .before .wide .ensures .0,
-      tag-ok .ensures,
+      c .is-restricted .ensures,
+      c .before .closing-ok .ensures,
+      c .before .before .before .is-keep .ensures,
+      c .before .before .before .before .wide .ensures .0,
+      c .before .before .before .before .before .tag-ok .ensures,
     ) refl)
 
 zero-output-requires : tie.Need-zero-output-requires
@@ -49,6 +52,7 @@ output-ok-spec =
     wide-requires
     is-keep-requires
     closing-ok-requires
+    is-restricted-requires
     returns
     zero-output-requires
     returns-2)
