@@ -46,4 +46,4 @@ one-queue f l d c n h = ap (λ (w : ℕ). upto w (within f l d c)) (sym h) ∙ w
 -- both in-queues
 pub two-queues : {A : Type 0} (f : A → ℕ) (l : List A) (d : A) → length l ≡ 2 → f (getD l 0 d) + f (getD l 1 d) ≡ sum f l
 unfolding sum upto
-two-queues f l d h = one-sum f l d 2 h
+two-queues f l d h = omega (arith, one-sum f l d 2 h)

@@ -5,7 +5,7 @@ use mathlib.Core.List.{List}
 use mathlib.Core.Bool.{Bool, true, false, cond, _&&_, _||_}
 use native.Mathlib.Omega.{arith}
 use native.Mathlib.Decide.{decLt}
-use borrow.Author.Tests.{ltb-true, le-leb, eq-eqb}
+use borrow.Author.Tests.{ltb-true, le-leb, eq-eqb, ne-eqb}
 use lib.Dec.{eqb, ltb, leb}
 use Rattle.base.specs.Sizes.{outputCount, splitPort, portCount, sitesMost}
 use Rattle.base.specs.Bools.{cond-ok, clash, implies, either-way}
@@ -38,7 +38,7 @@ module _ (n : Network) (s : ℕ) (x : Site) (f g : ℕ → Input)
           → (isLocal (suc j) || b && listening (f (suc j) .phase)) ≡ (isLocal (suc j) || b && listening (g (suc j) .phase))
       go (yes l) true e = ap (λ (y : Input). isLocal (suc j) || listening (y .phase)) (same j l e)
       go d false e = refl
-      go (no l) true e = let z : suc j ≡ splitPort = omega arith in rw (eq-eqb (suc j) splitPort z) refl
+      go (no l) true e = let z : suc j ≡ splitPort = omega arith in rw (ne-eqb (suc j) 0 (λ e. omega arith), eq-eqb (suc j) splitPort z) refl
 
   ready-same : (os : List Output) (j : ℕ) → j < outputCount → ready (joined n s) f os j ≡ ready (joined n s) g os j
   ready-same os j h = ap (λ (b : Bool). carries (outOf os j) && outOf os j .head && b) (hears-same j h)

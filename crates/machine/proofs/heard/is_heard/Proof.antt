@@ -1,5 +1,9 @@
 use mathlib.Core.Path.{refl}
+use Prim.Native.Nat.{_+_}
 use native.Mathlib.Numerals.{add-one}
+use native.Mathlib.Omega.{arith}
+use borrow.Author.Tests.{ne-eqb}
+use Rattle.base.specs.Sizes.{splitPort}
 use Rattle.model.specs.NetInput.{hears}
 use borrow.Author.Needs.{needs}
 use Rattle.machine.proofs.heard.is_heard.Statement.{statement}
@@ -37,7 +41,9 @@ returns : tie.Need-returns
 unfolding hears
 returns c =
     let j = c .before .before .before .before .args .j in
-    rw (c .is-taken .ensures, c .before .is-listening .ensures, ← add-one j) refl
+    let own = ne-eqb (j + 1) 0 (λ e. omega arith) in
+    let split = ne-eqb (j + 1) splitPort (λ e. omega arith) in
+    rw (c .is-taken .ensures, c .before .is-listening .ensures, ← add-one j, own, split) refl
 
 pub is-heard-spec : {M : Type 1} → statement M
 is-heard-spec =

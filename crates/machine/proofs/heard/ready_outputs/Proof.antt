@@ -26,12 +26,19 @@ is-heard-requires-3 c κs = search needs
 is-heard-requires-4 : tie.Need-is-heard-requires-4
 is-heard-requires-4 c κs = search needs
 
+array-copy-out-is-ready-2 : tie.Need-array-copy-out-is-ready-2
+array-copy-out-is-ready-2 c = search needs
+
+is-ready-requires-2 : tie.Need-is-ready-requires-2
+is-ready-requires-2 c κs = search needs
+
 returns : tie.Need-returns
 unfolding hears
 returns c =
-    let ready = c .before .before .before .before .is-ready .ensures in
-    let first = c .before .before .before .is-heard .ensures in
-    rw (ready, first, c .before .before .is-heard2 .ensures, c .before .is-heard3 .ensures, c .is-heard4 .ensures) refl
+    let h = c .before .before in
+    let ready = h .before .before .before .before .is-ready .ensures in
+    let first = h .before .before .before .is-heard .ensures in
+    rw (ready, first, h .before .before .is-heard2 .ensures, h .before .is-heard3 .ensures, h .is-heard4 .ensures, c .is-ready2 .ensures) refl
 
 pub ready-outputs-spec : {M : Type 1} → statement M
 ready-outputs-spec =
@@ -43,4 +50,6 @@ ready-outputs-spec =
     is-heard-requires-2
     is-heard-requires-3
     is-heard-requires-4
+    array-copy-out-is-ready-2
+    is-ready-requires-2
     returns)

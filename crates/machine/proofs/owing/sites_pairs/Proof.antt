@@ -15,7 +15,7 @@ use Rattle.machine.proofs.owing.sites_pairs.Lts as lts
 use Rattle.machine.proofs.owing.site_pairs.Reads as site-pairs-reads
 
 abbrev Inv-loop : tie.InvT-loop
-Inv-loop sites n₀ s₀ n s = (s ≤ sitesMost) × (n ≤ 1664 * s) × (n ≡ isum pairsSite 0 (take s sites))
+Inv-loop sites n₀ s₀ n s = (s ≤ sitesMost) × (n ≤ 2240 * s) × (n ≡ isum pairsSite 0 (take s sites))
 
 abbrev μ-loop : tie.MeasureT-loop
 μ-loop sites n₀ s₀ n s = sitesMost - s

@@ -1,5 +1,5 @@
 use mathlib.Core.Path.{_∙_}
-use Rattle.model.specs.Types.{inAt, outAt}
+use Rattle.model.specs.Types.{inAt, outAt, queueAt}
 use Rattle.model.specs.Places.{timeout}
 use Rattle.model.specs.Steps.{setBoth}
 use Rattle.machine.proofs.Lifts.{input-took}
@@ -23,6 +23,9 @@ mul-input c = search needs
 element-copy-out-input : tie.Need-element-copy-out-input
 element-copy-out-input c = search needs
 
+element-copy-out-queue : tie.Need-element-copy-out-queue
+element-copy-out-queue c = search needs
+
 time-out-requires : tie.Need-time-out-requires
 time-out-requires c κs = search needs
 
@@ -41,7 +44,7 @@ returns c =
     let a = k .before .before .before .before .before .before .args in
     let x = a .t3 in
     let i = outAt x 0 .input in
-    let t = timeout (x .incoming) (x .outputs) (inAt x i) in
+    let t = timeout (a .network .edition) (queueAt x 0) (x .outputs) (inAt x i) in
     c .took .ensures ∙ input-took (a .network) (a .s) x (setBoth x i) (inAt x i) (x .outputs) t (k .time-out .ensures)
 
 pub timeout-step-spec : {M : Type 1} → statement M
@@ -52,6 +55,7 @@ timeout-step-spec =
     cast-i
     mul-input
     element-copy-out-input
+    element-copy-out-queue
     time-out-requires
     mul-now
     element-set-from-now
