@@ -1,7 +1,7 @@
 -- What a run that passes the tests of the body, and one that passes the writer's, are known by. Assumes nothing.
 use mathlib.Core.Path.{_≡_}
 use mathlib.Core.Logic.{_⊎_, ⊎-elim, inl, inr}
-use mathlib.Core.Bool.{true, not, and-false, or-false}
+use mathlib.Core.Bool.{true, not, and-false, or-false, _||_}
 use mathlib.Core.List.{List}
 use Prim.Native.Nat.{ℕ, _*_, _^_, _≤_, _<_}
 use native.Mathlib.Nat.{mul-le-mul, lt-of-lt-of-le}
@@ -50,7 +50,7 @@ module _ (n : Network) (first : n .version ≡ 1) (h : sizesOk n ≡ true) where
 pub first-edition : (n : Network) → n .version ≡ 1 → editionOk n ≡ true → n .edition ≡ 1
 first-edition n first h =
     let E = n .edition in
-    eqb-true E 1 (rw (ne-eqb (n .version) 2 (λ q. omega arith), and-false (eqb E 2), or-false (eqb E 1)) at h)
+    eqb-true E 1 (rw (ne-eqb (n .version) 2 (λ q. omega arith), and-false (eqb E 2 || eqb E 3), or-false (eqb E 1)) at h)
 
 -- so that its channels fit their bytes
 pub channels-narrow : (n : Network) → sizesOk n ≡ true → channelsOk n ≡ true

@@ -106,7 +106,8 @@ pub fn run(network: Network, state: State, site: usize, code: usize) -> AfterRun
             state,
         };
     }
-    if (site < sites) & (code < draws::codes_in(network.edition)) {
+    let codes = draws::codes_in(network.edition);
+    if (site < sites) & (code < codes) {
         return run_checked(network, state, site, code);
     }
     AfterRun {
