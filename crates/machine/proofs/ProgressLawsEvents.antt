@@ -61,10 +61,10 @@ unfolding played
 played-more n w [] d e = refl
 played-more n w (x ∷ es) d e = played-more n (advance n w (x .draw) (x .event)) es d e
 
-named-more : (S : ℕ) (es : List Timed) (d : ℕ) (e : Event) → AllNamed S es → AllNamed S (andThen [] d e)
-    → AllNamed S (andThen es d e)
-named-more S [] d e a b = b
-named-more S (x ∷ es) d e a b = (a .0, named-more S es d e (a .1) b)
+named-more : (n : Network) (es : List Timed) (d : ℕ) (e : Event) → AllNamed n es → AllNamed n (andThen [] d e)
+    → AllNamed n (andThen es d e)
+named-more n [] d e a b = b
+named-more n (x ∷ es) d e a b = (a .0, named-more n es d e (a .1) b)
 
 -- ---- a turn is its event played
 

@@ -19,25 +19,32 @@ returns c =
     let a = c .before .before .args in
     run-shared (a .network) (a .state) (a .site) (a .code) _ (c .before .event-refusal .ensures) (c .if1 .taken)
 
+codes-in-requires : tie.Need-codes-in-requires
+codes-in-requires c κs = search needs
+
 run-checked-requires : tie.Need-run-checked-requires
 run-checked-requires c κs =
-    let a = c .before .before .before .args in
-    let passed = sym (c .before .before .event-refusal .ensures) ∙ c .before .if1 .left in
+    let k = c .before .before .before in
+    let a = k .before .args in
+    let passed = sym (k .event-refusal .ensures) ∙ c .before .before .if1 .left in
     let p = not-refused (a .network) (a .state) 0 passed in
     (p .0, p .1, ltb-true _ _ (both _ _ (c .if2 .taken) .0))
 
 returns-2 : tie.Need-returns-2
 returns-2 c =
-    let a = c .before .before .before .before .args in
-    let passed = sym (c .before .before .before .event-refusal .ensures) ∙ c .before .before .if1 .left in
-    c .run-checked .ensures ∙ run-passes-on (a .network) (a .state) (a .site) (a .code) passed (c .before .if2 .taken)
+    let k = c .before .before in
+    let a = k .before .before .before .args in
+    let passed = sym (k .before .before .event-refusal .ensures) ∙ k .before .if1 .left in
+    let there = rw (k .codes-in .ensures) at (c .before .if2 .taken) in
+    c .run-checked .ensures ∙ run-passes-on (a .network) (a .state) (a .site) (a .code) passed there
 
 returns-3 : tie.Need-returns-3
 returns-3 c =
-    let a = c .before .before .before .args in
-    let passed = sym (c .before .before .event-refusal .ensures) ∙ c .before .if1 .left in
-    run-none (a .network) (a .state) (a .site) (a .code) passed (c .if2 .left)
+    let k = c .before in
+    let a = k .before .before .before .args in
+    let passed = sym (k .before .before .event-refusal .ensures) ∙ k .before .if1 .left in
+    run-none (a .network) (a .state) (a .site) (a .code) passed (rw (k .codes-in .ensures) at (c .if2 .left))
 
 pub run-spec : {M : Type 1} → statement M
 run-spec =
-    tie.close (tie.spec event-refusal-requires returns run-checked-requires returns-2 returns-3)
+    tie.close (tie.spec event-refusal-requires returns codes-in-requires run-checked-requires returns-2 returns-3)
