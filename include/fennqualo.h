@@ -1,6 +1,6 @@
 /*
  * Fennqualo's library for C: plays, checks and copies archives of version 1, with up to 16 sites, and of version 2,
- * with up to 64, in edition 1 or 2, and moves them from one version to the other (docs/FORMAT.md has their form,
+ * with up to 64, in edition 1, 2 or 3, and moves them from one version to the other (docs/FORMAT.md has their form,
  * docs/MODEL.md what they mean). Link libfennqualo.a; it needs memcpy and memset and nothing else, keeps nothing
  * between calls, and may be called from many threads at once. It is compiled for x86-64 Linux. How much stack a call
  * takes is said with it, below.
@@ -16,7 +16,7 @@
  *
  *    1  fewer than 13 bytes, or the length field is not the number of bytes
  *    2  the version is neither 1 nor 2, or not the one that is moved from
- *   17  the edition is unknown: it is neither 1 nor 2
+ *   17  the edition is unknown: it is none of 1, 2 and 3
  *    3  sites, limit of tries or depth of queues outside their limits, the sites of the version
  *    4  the seed is 0
  *    5  the length is not that of the version with so many sites and sends

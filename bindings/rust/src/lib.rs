@@ -1,4 +1,4 @@
-//! Fennqualo for Rust: archives, of version 1 and of version 2 in both its editions, played, checked, copied and moved
+//! Fennqualo for Rust: archives, of version 1 and of version 2 in all its editions, played, checked, copied and moved
 //! from one version to the other by the proved library, with Rust's own types.
 //!
 //! A [`Player`] owns the book that it lends to the library, and the functions here make every other buffer themselves,
@@ -162,7 +162,7 @@ pub fn over(archive: &[u8]) -> Result<Vec<u8>, Refusal> {
 
 /// Moves an archive of version 2 back to version 1: the same run, and [`over`] gives the same bytes again.
 ///
-/// An archive of version 1 is refused with [`Refusal::Version`], one of more than 16 sites or of edition 2 with
+/// An archive of version 1 is refused with [`Refusal::Version`], one of more than 16 sites or of edition 2 or 3 with
 /// [`Refusal::Back`].
 pub fn back(archive: &[u8]) -> Result<Vec<u8>, Refusal> {
     written(library::fennqualo_back, archive, FIRST)

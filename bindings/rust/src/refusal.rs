@@ -24,7 +24,7 @@ pub enum Refusal {
 const WORDS: [(Refusal, &str); 11] = [
     (Refusal::Length, "fewer than 13 bytes, or the length field is not the number of bytes"),
     (Refusal::Version, "the version is neither 1 nor 2, or not the one that is moved from"),
-    (Refusal::Edition, "the edition is unknown: it is neither 1 nor 2"),
+    (Refusal::Edition, "the edition is unknown: it is none of 1, 2 and 3"),
     (Refusal::Limits, "sites, limit of tries or depth of queues outside their limits"),
     (Refusal::Seed, "the seed is 0"),
     (Refusal::Size, "the length is not that of the version with so many sites and sends"),
