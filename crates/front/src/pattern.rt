@@ -69,7 +69,7 @@ fn add_term(text: &mut [u8], at: usize, byte: u8, k: usize) -> usize {
         b'@' => add_word(
             text,
             at,
-            b"none,unicast,passthru,all-remote,some-local,handed",
+            b"none,unicast,passthru,all-remote,some-local,handed,split",
             k,
         ),
         _ => add_word(text, at, b"none,end,abort,keep-local", k),
