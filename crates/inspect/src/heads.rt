@@ -78,7 +78,7 @@ pub fn add_edition(text: &mut [u8], at: usize, b: &[u8]) -> usize {
     fill(
         text,
         at,
-        b"byte 3, the edition, is %, not 1 or 2",
+        b"byte 3, the edition, is %, not 1, 2 or 3",
         [held::edition(b), 0, 0, 0, 0, 0],
     )
 }
