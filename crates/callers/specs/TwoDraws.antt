@@ -6,9 +6,10 @@ use Rattle.types.specs.declared.Network.{Network}
 use Rattle.types.specs.declared.State.{State}
 use Rattle.model.specs.Events.{ran}
 
--- "the event is RUN (m / 13, m mod 13)": the RUN that a value names
+-- "the event is RUN (m / 13, m mod 13)", L10: "draws then use 15 in place of 13": the RUN that a value names
 abbrev pub namedRun : Network → State → ℕ → AfterRun
-namedRun n st value = ran n st (eventOf (n .sites) value .site) (eventOf (n .sites) value .code)
+namedRun n st value =
+    ran n st (eventOf (n .edition) (n .sites) value .site) (eventOf (n .edition) (n .sites) value .code)
 
 -- "Each draw advances first.", and a run "keeps one state and advances it draw by draw": draws 0 and 1 of a seed
 unfoldable pub twoDraws : Network → State → ℕ → AfterRun

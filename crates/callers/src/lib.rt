@@ -73,12 +73,13 @@ pub fn two_draws(network: Network, state: State, seed: u32) -> AfterRun
     ensures { λ r. ⌜ r ≡ twoDraws network state seed ⌝ }
 {
     let sites = network.sites;
+    let edition = network.edition;
     let value = draws::draw(seed);
-    let named = draws::event_of(value, sites);
+    let named = draws::event_of(value, sites, edition);
     let first = machine::run(network, state, named.site, named.code);
     let between = first.state;
     let value_2 = draws::draw(value);
-    let named_2 = draws::event_of(value_2, sites);
+    let named_2 = draws::event_of(value_2, sites, edition);
     let second = machine::run(network, between, named_2.site, named_2.code);
     second
 }

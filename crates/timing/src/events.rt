@@ -21,12 +21,13 @@ fn sent(run: Run) -> State {
 // The state after so many draws from the seed on.
 fn drawn(network: Network, start: State, seed: u32, draws: usize) -> State {
     let sites = network.sites;
+    let edition = network.edition;
     let mut value = seed;
     let mut state = start;
     let mut k: usize = 0;
     while k < draws {
         value = draws::draw(value);
-        let named = draws::event_of(value, sites);
+        let named = draws::event_of(value, sites, edition);
         let after = machine::run(network, state, named.site, named.code);
         state = after.state;
         k += 1;

@@ -19,8 +19,8 @@ use Rattle.machine.proofs.run.Reads as run-reads
 
 -- values v and w, events e and f, RUNs x and y, each from the one before
 in-a-row : (n : Network) (st : State) (seed v w : ℕ) (e f : DrawnEvent) (x y : AfterRun)
-    → v ≡ drawn seed → e ≡ eventOf (n .sites) v → x ≡ ran n st (e .site) (e .code)
-    → w ≡ drawn v → f ≡ eventOf (n .sites) w → y ≡ ran n (x .state) (f .site) (f .code)
+    → v ≡ drawn seed → e ≡ eventOf (n .edition) (n .sites) v → x ≡ ran n st (e .site) (e .code)
+    → w ≡ drawn v → f ≡ eventOf (n .edition) (n .sites) w → y ≡ ran n (x .state) (f .site) (f .code)
     → y ≡ twoDraws n st seed
 unfolding twoDraws
 in-a-row n st seed v w e f x y ev ee ex ew ef ey = rw (ey, ef, ew, ex, ee, ev) refl

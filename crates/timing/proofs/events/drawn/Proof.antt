@@ -10,10 +10,10 @@ use Rattle.draws.proofs.event_of.Reads as event-of-reads
 use Rattle.machine.proofs.run.Reads as run-reads
 
 abbrev Inv-loop : tie.InvT-loop
-Inv-loop network seed draws sites value₀ state₀ k₀ value state k = k ≤ draws
+Inv-loop network seed draws sites edition value₀ state₀ k₀ value state k = k ≤ draws
 
 abbrev μ-loop : tie.MeasureT-loop
-μ-loop network seed draws sites value₀ state₀ k₀ value state k = draws - k
+μ-loop network seed draws sites edition value₀ state₀ k₀ value state k = draws - k
 
 loop-holds : tie.Need-loop-holds Inv-loop μ-loop
 loop-holds c = search needs
