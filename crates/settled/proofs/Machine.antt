@@ -29,7 +29,7 @@ run-settled = settled (λ κs a x y p q. refl) (λ κs a x y p q i. (same p q i,
 pub send-settled : Settles the-send.ended (λ M. the-send.clauses) (λ M. the-send.spec)
 send-settled = settled (λ κs a x y p q. refl) (λ κs a x y p q i. (same p q i, x .1))
 
--- the contract says besides that the number is at most 1664
+-- the contract says besides that the number is at most 2240
 pub site-pairs-settled : Settles the-site-pairs.ended (λ M. the-site-pairs.clauses) (λ M. the-site-pairs.spec)
 site-pairs-settled = settled (λ κs a x y p q. refl) (λ κs a x y p q i. (same (p .0) (q .0) i, x .1))
 
