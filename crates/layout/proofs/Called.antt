@@ -8,7 +8,7 @@ use borrow.Author.Tests.{eqb-true, eqb-false, eq-eqb}
 use lib.Dec.{eqb}
 use native.Mathlib.Decide.{decLt}
 use lib.ListN.{length}
-use Rattle.base.specs.Sizes.{sitesMost, inputCount, outputCount, queueRoom, packetsMost}
+use Rattle.base.specs.Sizes.{sitesMost, inputCount, outputCount, inQueueCount, queueRoom, packetsMost}
 use Rattle.base.specs.Bools.{and, both, both3, both6, either-way}
 use Rattle.base.specs.All.{all, all-at}
 use Rattle.types.specs.Phases.{isFree, isNone}
@@ -19,10 +19,10 @@ use Rattle.types.specs.declared.State.{State}
 use Rattle.types.specs.declared.Network.{Network}
 use Rattle.types.specs.declared.AfterRun.{AfterRun}
 use Rattle.types.specs.declared.AfterSend.{AfterSend}
-use Rattle.model.specs.Types.{noState, siteAt, inAt, outAt, outEntry, inEntry}
+use Rattle.model.specs.Types.{noState, siteAt, inAt, outAt, outEntry, queueAt}
 use Rattle.model.specs.Shapes.{Shaped}
 use Rattle.model.specs.Network.{networkRefusal}
-use Rattle.model.specs.Range.{inRange, anyMark, zeroInput, zeroOutput, zeroOutEntry, zeroInEntry, zeroSite}
+use Rattle.model.specs.Range.{inRange, anyMark, zeroInput, zeroOutput, zeroOutEntry, zeroInQueue, zeroSite}
 use Rattle.model.specs.Events.{Event, Send, Run, ran, sent, after, final}
 use Rattle.theorems.proofs.Networks.{Valid, valid-ok}
 use Rattle.theorems.proofs.Refusals.{run-passes, send-passes, ran-ways, sent-ways}
@@ -58,7 +58,7 @@ zero-ports x h =
     let ins = all (λ i. zeroInput (inAt x i)) inputCount in
     let outs = all (λ j. zeroOutput (outAt x j)) outputCount in
     let out = eqb (x .outgoing .count) 0 && all (λ m. zeroOutEntry (outEntry (x .outgoing) m)) queueRoom in
-    let inn = eqb (x .incoming .count) 0 && all (λ m. zeroInEntry (inEntry (x .incoming) m)) queueRoom in
+    let inn = all (λ m. zeroInQueue (queueAt x m)) inQueueCount in
     let b = both3 ins outs out (both (ins && outs && out) inn h .0) in
     (b .0, b .1)
 
@@ -100,7 +100,7 @@ module _ (n : Network) (val : Valid n) (byte : n .tries < 256) (st : State) (sh 
               passed = λ j hj. omega (arith, p .outs j, few);
               feeder = λ j hj. fed s j hs hj;
               leaving = λ m hm. omega (arith, p .out-entries m, few);
-              arrived = λ m hm. omega (arith, p .in-entries m, few);
+              arrived = λ q m hq hm. omega (arith, p .in-entries q m, few);
             };
         counter = omega (arith, few);
       }

@@ -4,7 +4,7 @@ use mathlib.Core.List.{List}
 use mathlib.Core.Bool.{true}
 use Prim.Native.Nat.{ℕ, _<_}
 use native.Mathlib.Decide.{ℕ-discrete}
-use borrow.Author.Tests.{eq-eqb}
+use borrow.Author.Tests.{eq-eqb, eqb-true}
 use lib.Dec.{eqb, ltb}
 use lib.ListN.{getD}
 use Rattle.base.specs.All.{all, all-at, all-by}
@@ -14,13 +14,13 @@ use Rattle.types.specs.declared.Input.{Input}
 use Rattle.types.specs.declared.Output.{Output}
 use Rattle.types.specs.declared.OutEntry.{OutEntry}
 use Rattle.types.specs.declared.InEntry.{InEntry}
-use Rattle.layout.specs.Layout.{countsPlace, sitePlaces, counterAt}
+use Rattle.layout.specs.Layout.{countsFrom, sitePlaces, countPlace, counterAt}
 use Rattle.layout.specs.Packed.{inputFrom, inputWord, outputFrom, outputWord, outEntryFrom, outEntryWord, inEntryFrom, inEntryWord}
 use Rattle.layout.specs.Words.{repacked, setAt, fieldsAt, inputAt, outputAt, leavingAt, arrivedAt, siteOf, setOf, fieldsOf, placeSame, canonical}
 use Rattle.layout.proofs.Decoded.{in-at, out-at, leaving-at, arrived-at, out-count, in-count}
-use Rattle.layout.proofs.PlaceKinds.{by-kind, set-input, set-output, set-leaving, set-arrived, set-counts}
-use Rattle.layout.proofs.PlaceKinds.{fields-input, fields-output, fields-leaving, fields-arrived, fields-counts}
-use Rattle.layout.proofs.PlaceKinds.{repacked-input, repacked-output, repacked-leaving, repacked-arrived, repacked-counts}
+use Rattle.layout.proofs.PlaceKinds.{by-kind, set-input, set-output, set-leaving, set-arrived, set-out-count, set-in-count}
+use Rattle.layout.proofs.PlaceKinds.{fields-input, fields-output, fields-leaving, fields-arrived, fields-out-count, fields-in-count}
+use Rattle.layout.proofs.PlaceKinds.{repacked-input, repacked-output, repacked-leaving, repacked-arrived, repacked-out-count, repacked-in-count}
 use Rattle.layout.proofs.Written.{Same, Wrote}
 
 -- ---- the words of a site that words stand for: its sets are the words, its packed words the words packed again
@@ -33,8 +33,9 @@ module _ (c : List ℕ) (s : ℕ) where
       (λ i h. set-input (siteOf c s) i h ∙ ap (λ (y : Input). y .set) (in-at c s i h))
       (λ j h. set-output (siteOf c s) j h ∙ ap (λ (o : Output). o .set) (out-at c s j h))
       (λ m h. set-leaving (siteOf c s) m h ∙ ap (λ (u : OutEntry). u .set) (leaving-at c s m h))
-      (λ m h. set-arrived (siteOf c s) m h ∙ ap (λ (a : InEntry). a .set) (arrived-at c s m h))
-      (set-counts (siteOf c s) ∙ out-count c s)
+      (λ q m g h. set-arrived (siteOf c s) q m g h ∙ ap (λ (a : InEntry). a .set) (arrived-at c s q m g h))
+      (set-out-count (siteOf c s) ∙ out-count c s)
+      (λ q g. set-in-count (siteOf c s) q ∙ in-count c s q g)
 
   pub fields-again : (k : ℕ) → k < sitePlaces → fieldsOf (siteOf c s) k ≡ repacked k (setAt c s k) (fieldsAt c s k)
   unfolding inputAt outputAt leavingAt arrivedAt
@@ -43,8 +44,9 @@ module _ (c : List ℕ) (s : ℕ) where
       (λ i h. fields-input (siteOf c s) i h ∙ ap inputWord (in-at c s i h) ∙ sym (repacked-input _ _ i h))
       (λ j h. fields-output (siteOf c s) j h ∙ ap outputWord (out-at c s j h) ∙ sym (repacked-output _ _ j h))
       (λ m h. fields-leaving (siteOf c s) m h ∙ ap outEntryWord (leaving-at c s m h) ∙ sym (repacked-leaving _ _ m h))
-      (λ m h. fields-arrived (siteOf c s) m h ∙ ap inEntryWord (arrived-at c s m h) ∙ sym (repacked-arrived _ _ m h))
-      (fields-counts (siteOf c s) ∙ in-count c s ∙ sym (repacked-counts (setAt c s countsPlace) _))
+      (λ q m g h. fields-arrived (siteOf c s) q m g h ∙ ap inEntryWord (arrived-at c s q m g h) ∙ sym (repacked-arrived _ _ q m g h))
+      (fields-out-count (siteOf c s) ∙ sym (repacked-out-count (setAt c s countsFrom) (fieldsAt c s countsFrom)))
+      (λ q g. fields-in-count (siteOf c s) q ∙ sym (repacked-in-count (setAt c s (countPlace q)) (fieldsAt c s (countPlace q)) q))
 
   pub place-again : (k : ℕ) → k < sitePlaces → placeSame c s k ≡ eqb (fieldsAt c s k) (repacked k (setAt c s k) (fieldsAt c s k))
   place-again k h = ap (λ (w : ℕ). eqb (fieldsAt c s k) w) (fields-again k h)
@@ -54,7 +56,7 @@ pub repacked-zero : (X k : ℕ) → k < sitePlaces → repacked k X 0 ≡ 0
 unfolding inputFrom inputWord outputFrom outputWord outEntryFrom outEntryWord inEntryFrom inEntryWord
 repacked-zero X =
     by-kind (λ k. repacked k X 0 ≡ 0) (λ i h. repacked-input X 0 i h) (λ j h. repacked-output X 0 j h) (λ m h. repacked-leaving X 0 m h)
-    (λ m h. repacked-arrived X 0 m h) (repacked-counts X 0)
+    (λ q m g h. repacked-arrived X 0 q m g h) (repacked-out-count X 0) (λ q g. repacked-in-count X 0 q)
 
 -- what a test of a place answers: of its packed word alone where that is zero, else packed again
 pub zero-same : (c : List ℕ) (s k w : ℕ) → k < sitePlaces → w ≡ fieldsAt c s k → w ≡ 0 → true ≡ placeSame c s k
@@ -84,18 +86,22 @@ canonical-by-places c h e =
     and (all (λ s. all (placeSame c s) sitePlaces) sitesMost) _
     (all-by (λ s. all (placeSame c s) sitePlaces) sitesMost (λ s hs. all-by (placeSame c s) sitePlaces (λ k hk. h s k hs hk))) e
 
--- ---- one place written: it is good, the others are as they were
+-- a packed word of canonical words is the word packed again
+pub repacked-same : (c : List ℕ) (s k : ℕ) → canonical c ≡ true → s < sitesMost → k < sitePlaces → fieldsAt c s k ≡ repacked k (setAt c s k) (fieldsAt c s k)
+repacked-same c s k ok hs hk = eqb-true _ _ (sym (place-again c s k hk) ∙ canonical-at c s k ok hs hk)
+
+-- ---- one place written: it is good if the words were, the others are as they were
 
 -- a place with the same words is as good as it was
 pub place-kept : (c d : List ℕ) (t l : ℕ) → canonical c ≡ true → t < sitesMost → l < sitePlaces → Same c d t l → placeSame d t l ≡ true
 place-kept c d t l ok ht hl e = place-again d t l hl ∙ rw (e .0, e .1) (sym (place-again c t l hl) ∙ canonical-at c t l ok ht hl)
 
-pub put-kept : (c d : List ℕ) (s k X w : ℕ) → Wrote c d s k X w → repacked k X w ≡ w → canonical c ≡ true → canonical d ≡ true
+pub put-kept : (c d : List ℕ) (s k X w : ℕ) → Wrote c d s k X w → (canonical c ≡ true → repacked k X w ≡ w) → canonical c ≡ true → canonical d ≡ true
 put-kept c d s k X w p good ok =
     canonical-by-places d (λ t l ht hl. go t l ht hl (ℕ-discrete t s) (ℕ-discrete l k))
     (ap (λ (n : ℕ). ltb n 256) (p .counter) ∙ canonical-counter c ok)
   where
     go : (t l : ℕ) → t < sitesMost → l < sitePlaces → Dec (t ≡ s) → Dec (l ≡ k) → placeSame d t l ≡ true
-    go t l ht hl (yes a) (yes b) = place-again d t l hl ∙ rw (a, b, p .its-set, p .its-fields) (eq-eqb w (repacked k X w) (sym good))
+    go t l ht hl (yes a) (yes b) = place-again d t l hl ∙ rw (a, b, p .its-set, p .its-fields) (eq-eqb w (repacked k X w) (sym (good ok)))
     go t l ht hl (yes a) (no b) = place-kept c d t l ok ht hl (p .others t l hl (λ e. b))
     go t l ht hl (no a) b = place-kept c d t l ok ht hl (p .others t l hl (λ e. absurd (a e)))

@@ -5,17 +5,18 @@ use Prim.Native.Nat.{ℕ, _+_, _<_}
 use native.Mathlib.Omega.{arith}
 use lib.ListN.{length, getD, set}
 use lib.Seq.{getD-set-same, set-getD, set-set, ext-getD}
-use Rattle.base.specs.Sizes.{sitesMost}
+use Rattle.base.specs.Sizes.{sitesMost, outputCount, inQueueCount, queueRoom}
 use Rattle.base.specs.Over.{over, over-none, over-more, over-below, length-over}
 use Rattle.types.specs.declared.Output.{Output}
 use Rattle.types.specs.declared.OutEntry.{OutEntry}
 use Rattle.types.specs.declared.InEntry.{InEntry}
+use Rattle.types.specs.declared.InQueue.{InQueue}
 use Rattle.types.specs.declared.Site.{Site}
-use Rattle.model.specs.Types.{siteD, siteAt, setSite, withOutputs, noOutput, noOutEntry, noInEntry}
+use Rattle.model.specs.Types.{siteD, inQueueD, siteAt, queueAt, setSite, withOutputs, withInQueues, setQueue, noOutput, noOutEntry, noInEntry}
 use Rattle.layout.specs.Layout.{wordCount}
 use Rattle.layout.specs.Words.{sitesOf}
-use Rattle.layout.specs.Stored.{Stored, leavingAll, arrivedAll}
-use Rattle.layout.proofs.Decoded.{all-sites, site-at, five-outputs, eight-leaving, eight-arrived}
+use Rattle.layout.specs.Stored.{Stored, leavingAll, arrivedAll, arrivedCount}
+use Rattle.layout.proofs.Decoded.{all-sites, site-at, six-outputs, eight-leaving, two-queues, eight-arrived}
 
 -- ---- one after the other
 
@@ -55,8 +56,8 @@ pub record Part (A : Type 0) : Type 0 where
   pub n : ℕ
   pub get : Site → List A
   pub put : Site → List A → Site
-  pub got : (x : Site) (l : List A) → get (put x l) ≡ l
-  pub last : (x : Site) (k l : List A) → put (put x k) l ≡ put x l
+  pub got : (x : Site) → length (x .incoming) ≡ inQueueCount → (l : List A) → get (put x l) ≡ l
+  pub last : (x : Site) → length (x .incoming) ≡ inQueueCount → (k l : List A) → put (put x k) l ≡ put x l
   pub same : (x : Site) → put x (get x) ≡ x
   pub room : (c : List ℕ) (s : ℕ) → s < sitesMost → length (get (siteAt (sitesOf c) s)) ≡ n
 
@@ -64,39 +65,55 @@ abbrev pub outputsPart : Part Output
 outputsPart =
     record {
       d = noOutput;
-      n = 5;
+      n = outputCount;
       get = λ x. x .outputs;
       put = withOutputs;
-      got = λ x l. refl;
-      last = λ x k l. refl;
+      got = λ x h l. refl;
+      last = λ x h k l. refl;
       same = λ x. refl;
-      room = λ c s h. ap (λ (x : Site). length (x .outputs)) (site-at c s h) ∙ five-outputs c s;
+      room = λ c s h. ap (λ (x : Site). length (x .outputs)) (site-at c s h) ∙ six-outputs c s;
     }
 
 abbrev pub leavingPart : Part OutEntry
 leavingPart =
     record {
       d = noOutEntry;
-      n = 8;
+      n = queueRoom;
       get = λ x. x .outgoing .entries;
       put = leavingAll;
-      got = λ x l. refl;
-      last = λ x k l. refl;
+      got = λ x h l. refl;
+      last = λ x h k l. refl;
       same = λ x. refl;
       room = λ c s h. ap (λ (x : Site). length (x .outgoing .entries)) (site-at c s h) ∙ eight-leaving c s;
     }
 
-abbrev pub arrivedPart : Part InEntry
-arrivedPart =
+-- the site x with in-queue q written twice, or read again
+module _ (x : Site) (q : ℕ) (g : q < inQueueCount) (h : length (x .incoming) ≡ inQueueCount) where
+  pub queue-got : (iq : InQueue) → queueAt (setQueue x q iq) q ≡ iq
+  queue-got iq = getD-set-same (x .incoming) q iq inQueueD (omega arith)
+
+  pub queue-last : (f : InQueue → InQueue) (iq : InQueue) → setQueue (setQueue x q iq) q (f (queueAt (setQueue x q iq) q)) ≡ setQueue x q (f iq)
+  queue-last f iq = ap (λ (z : InQueue). setQueue (setQueue x q iq) q (f z)) (queue-got iq) ∙ ap (withInQueues x) (set-set (x .incoming) q iq (f iq))
+
+-- the entries, then the count
+pub queue-whole : (x : Site) (q : ℕ) → q < inQueueCount → length (x .incoming) ≡ inQueueCount → (iq : InQueue)
+    → arrivedCount (arrivedAll x q (iq .entries)) q (iq .count) ≡ setQueue x q iq
+queue-whole x q g h iq = queue-last x q g h (λ z. record { entries = z .entries; count = iq .count }) _
+
+queues : (c : List ℕ) (s : ℕ) → s < sitesMost → length (siteAt (sitesOf c) s .incoming) ≡ inQueueCount
+queues c s h = ap (λ (x : Site). length (x .incoming)) (site-at c s h) ∙ two-queues c s
+
+abbrev pub arrivedPart : (q : ℕ) → q < inQueueCount → Part InEntry
+arrivedPart q g =
     record {
       d = noInEntry;
-      n = 8;
-      get = λ x. x .incoming .entries;
-      put = arrivedAll;
-      got = λ x l. refl;
-      last = λ x k l. refl;
-      same = λ x. refl;
-      room = λ c s h. ap (λ (x : Site). length (x .incoming .entries)) (site-at c s h) ∙ eight-arrived c s;
+      n = queueRoom;
+      get = λ x. queueAt x q .entries;
+      put = λ x l. arrivedAll x q l;
+      got = λ x h l. ap (λ (iq : InQueue). iq .entries) (queue-got x q g h _);
+      last = λ x h k l. queue-last x q g h (λ z. record { entries = l; count = z .count }) _;
+      same = λ x. ap (withInQueues x) (set-getD (x .incoming) q inQueueD);
+      room = λ c s h. ap (λ (x : Site). length (queueAt x q .entries)) (site-at c s h) ∙ eight-arrived c s q g;
     }
 
 -- ---- stored one by one
@@ -129,7 +146,8 @@ module _ {A : Type 0} (P : Part A) where
       let v = getD l k (P .d) in
       let r = P .room c s hs in
       let m = ap (P .put x) (over-more (λ i. getD l i (P .d)) k (P .get x) (omega arith)) in
-      let g = ap (λ (z : List A). P .put (filled x l k) (set z k v)) (P .got x _) ∙ P .last x _ _ in
+      let f = queues c s hs in
+      let g = ap (λ (z : List A). P .put (filled x l k) (set z k v)) (P .got x f _) ∙ P .last x f _ _ in
       let t = then-own c d e s (filled x l k) (λ y. P .put y (set (P .get y) k v)) hs p q in
       record { size = t .size; sites = t .sites ∙ ap (setSite (sitesOf c) s) (g ∙ m); counter = t .counter; kept = t .kept }
 

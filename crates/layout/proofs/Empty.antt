@@ -11,32 +11,39 @@ use native.Mathlib.Omega.{arith}
 use Rattle.base.specs.Bools.{and}
 use Rattle.base.specs.Lists.{same-at}
 use Rattle.base.specs.Over.{over, over-below, length-over}
-use Rattle.base.specs.Sizes.{sitesMost, inputCount, outputCount, queueRoom}
+use Rattle.base.specs.Sizes.{sitesMost, inputCount, outputCount, inQueueCount, queueRoom}
 use Rattle.types.specs.declared.Site.{Site}
-use Rattle.model.specs.Types.{noInput, noOutput, noOutEntry, noInEntry, noSite, noState}
-use Rattle.layout.specs.Layout.{outputsFrom, leavingFrom, arrivedFrom, countsPlace, counterAt, wordCount, setIndex, fieldsIndex}
+use Rattle.model.specs.Types.{noInput, noOutput, noOutEntry, noInEntry, noInQueue, noSite, noState}
+use Rattle.layout.specs.Layout.{outputsFrom, leavingFrom, countsFrom, arrivedPlace, countPlace, counterAt, wordCount, setIndex, fieldsIndex}
 use Rattle.layout.specs.Packed.{inputFrom, outputFrom, outEntryFrom, inEntryFrom}
-use Rattle.layout.specs.Words.{setAt, fieldsAt, inputAt, outputAt, leavingAt, arrivedAt, siteOf, sitesOf, stateOf, canonical, isState, noWords}
+use Rattle.layout.specs.Words.{setAt, fieldsAt, inputAt, outputAt, leavingAt, arrivedAt, inQueueAt, siteOf, sitesOf, stateOf}
+use Rattle.layout.specs.Words.{canonical, isState, noWords}
 use Rattle.layout.proofs.Rows.{rows-same, rows-one}
-use Rattle.layout.proofs.Written.{same-site}
+use Rattle.layout.proofs.Written.{same-queue, same-site}
 use Rattle.layout.proofs.Canonical.{zero-same, canonical-by-places}
 
 module _ (c : List ℕ) (zeros : (m : ℕ) → getD c m 0 ≡ 0) where
+  queue-empty : (s q : ℕ) → inQueueAt c s q ≡ noInQueue
+  unfolding inQueueAt arrivedAt inEntryFrom
+  queue-empty s q =
+      same-queue _ _ _ _
+      (rows-same queueRoom (λ m. noInEntry) (arrivedAt c s q)
+      (λ m h. ap₂ inEntryFrom (zeros (setIndex s (arrivedPlace q m))) (zeros (fieldsIndex s (arrivedPlace q m)))) ∙ rows-one queueRoom noInEntry)
+      (zeros (setIndex s (countPlace q)))
+
   site-empty : (s : ℕ) → siteOf c s ≡ noSite
-  unfolding siteOf inputAt outputAt leavingAt arrivedAt inputFrom outputFrom outEntryFrom inEntryFrom
+  unfolding siteOf inputAt outputAt leavingAt inputFrom outputFrom outEntryFrom
   site-empty s =
       let at : (k : ℕ) → setAt c s k ≡ 0 = λ k. zeros (setIndex s k) in
       let of : (k : ℕ) → fieldsAt c s k ≡ 0 = λ k. zeros (fieldsIndex s k) in
-      same-site _ _ _ _ _ _ _ _ _ _ _ _
+      same-site _ _ _ _ _ _ _ _ _ _
       (rows-same inputCount (λ i. noInput) (inputAt c s) (λ i h. ap₂ inputFrom (at i) (of i)) ∙ rows-one inputCount noInput)
       (rows-same outputCount (λ j. noOutput) (outputAt c s) (λ j h. ap₂ outputFrom (at (outputsFrom + j)) (of (outputsFrom + j)))
       ∙ rows-one outputCount noOutput)
       (rows-same queueRoom (λ m. noOutEntry) (leavingAt c s) (λ m h. ap₂ outEntryFrom (at (leavingFrom + m)) (of (leavingFrom + m)))
       ∙ rows-one queueRoom noOutEntry)
-      (at countsPlace)
-      (rows-same queueRoom (λ m. noInEntry) (arrivedAt c s) (λ m h. ap₂ inEntryFrom (at (arrivedFrom + m)) (of (arrivedFrom + m)))
-      ∙ rows-one queueRoom noInEntry)
-      (of countsPlace)
+      (at countsFrom)
+      (rows-same inQueueCount (λ q. noInQueue) (inQueueAt c s) (λ q h. queue-empty s q) ∙ rows-one inQueueCount noInQueue)
 
   sites-empty : sitesOf c ≡ noState .sites
   unfolding sitesOf

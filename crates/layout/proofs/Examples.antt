@@ -2,7 +2,7 @@
 use mathlib.Core.Path.{_≡_, refl}
 use mathlib.Core.List.{[], _∷_}
 use mathlib.Core.Bool.{true, false}
-use Rattle.types.specs.declared.Connection.the-variants.{AllRemote, SomeLocal}
+use Rattle.types.specs.declared.Connection.the-variants.{AllRemote, SomeLocal, Branch}
 use Rattle.types.specs.declared.Received.the-variants.{Abort as gotAbort}
 use Rattle.types.specs.declared.Terminator.the-variants.{None as tNone, Abort as tAbort, KeepLocal as tKeep}
 use Rattle.types.specs.declared.Phase.the-variants.{Open, Done}
@@ -10,13 +10,14 @@ use Rattle.types.specs.declared.Input.{Input}
 use Rattle.types.specs.declared.Output.{Output}
 use Rattle.types.specs.declared.OutEntry.{OutEntry}
 use Rattle.types.specs.declared.InEntry.{InEntry}
-use Rattle.layout.specs.Layout.{counterAt, wordCount, setIndex, fieldsIndex, outputsFrom, leavingFrom, arrivedFrom, countsPlace}
+use Rattle.layout.specs.Layout.{outputsFrom, leavingFrom, arrivedFrom, countsFrom, arrivedPlace, countPlace}
+use Rattle.layout.specs.Layout.{counterAt, wordCount, setIndex, fieldsIndex}
 use Rattle.layout.specs.Packed.{inputFrom, inputWord, outputFrom, outputWord, outEntryFrom, outEntryWord, inEntryFrom, inEntryWord}
 use Rattle.layout.specs.Words.{repacked}
 
 -- ---- a net-input: open, connection 3, marks 0 and 2, packet 7, tries 2: the bytes 02 07 05 1a
 abbrev opened : Input
-opened = record { set = 6; phase = Open AllRemote; outputs = true ∷ false ∷ true ∷ false ∷ false ∷ []; packet = 7; tries = 2 }
+opened = record { set = 6; phase = Open AllRemote; outputs = true ∷ false ∷ true ∷ false ∷ false ∷ false ∷ []; packet = 7; tries = 2 }
 
 opened-word : inputWord opened ≡ 34014490
 unfolding inputWord
@@ -28,7 +29,7 @@ opened-back = refl
 
 -- done, connection 4, abort received, mark 4, packet 1, no tries: 00 01 10 a4
 abbrev finished : Input
-finished = record { set = 1; phase = Done SomeLocal gotAbort; outputs = false ∷ false ∷ false ∷ false ∷ true ∷ []; packet = 1; tries = 0 }
+finished = record { set = 1; phase = Done SomeLocal gotAbort; outputs = false ∷ false ∷ false ∷ false ∷ true ∷ false ∷ []; packet = 1; tries = 0 }
 
 finished-word : inputWord finished ≡ 69796
 unfolding inputWord
@@ -37,6 +38,18 @@ finished-word = refl
 finished-back : inputFrom 1 69796 ≡ finished
 unfolding inputFrom
 finished-back = refl
+
+-- open, connection 6, marks 1 and 5, packet 3, tries 1: 01 03 22 32
+abbrev parted : Input
+parted = record { set = 5; phase = Open Branch; outputs = false ∷ true ∷ false ∷ false ∷ false ∷ true ∷ []; packet = 3; tries = 1 }
+
+parted-word : inputWord parted ≡ 16982578
+unfolding inputWord
+parted-word = refl
+
+parted-back : inputFrom 5 16982578 ≡ parted
+unfolding inputFrom
+parted-back = refl
 
 -- ---- a net-output: in use, head taken, keep-local, fed by input 4, packet 9: 09 04 0f
 abbrev passed : Output
@@ -91,12 +104,12 @@ unfolding inEntryFrom
 arrived-back = refl
 
 -- ---- words that no place packs to: a connection of a free input, a bit between the marks and the packet, a bit of an output behind
--- the mark closing, a bit of an out-queue's entry beside the started one
+-- the mark closing, a bit of an out-queue's entry beside the started one, a number beside a count
 stray-connection : repacked 0 0 24 ≡ 0
 unfolding repacked inputWord inputFrom
 stray-connection = refl
 
-stray-input : repacked 4 0 8192 ≡ 0
+stray-input : repacked 4 0 16384 ≡ 0
 unfolding repacked inputWord inputFrom
 stray-input = refl
 
@@ -104,14 +117,21 @@ stray-output : repacked 5 0 63 ≡ 31
 unfolding repacked outputWord outputFrom
 stray-output = refl
 
-stray-leaving : repacked 10 0 3 ≡ 1
+stray-leaving : repacked 11 0 3 ≡ 1
 unfolding repacked outEntryWord outEntryFrom
 stray-leaving = refl
 
--- ---- places: 27 of a site, two words each; the counter's word is the last of 3,457
-places : outputsFrom ∷ leavingFrom ∷ arrivedFrom ∷ countsPlace ∷ [] ≡ 5 ∷ 10 ∷ 18 ∷ 26 ∷ []
+stray-counts : repacked 35 2 1 ∷ repacked 36 2 1 ∷ repacked 37 2 1 ∷ [] ≡ 0 ∷ 0 ∷ 0 ∷ []
+unfolding repacked
+stray-counts = refl
+
+-- ---- places: 38 of a site, two words each; the counter's word is the last of 4,865
+places : outputsFrom ∷ leavingFrom ∷ arrivedFrom ∷ countsFrom ∷ [] ≡ 5 ∷ 11 ∷ 19 ∷ 35 ∷ []
 places = refl
 
-indices : setIndex 0 1 ∷ fieldsIndex 0 1 ∷ setIndex 1 0 ∷ fieldsIndex 63 26 ∷ counterAt ∷ wordCount ∷ []
-    ≡ 2 ∷ 3 ∷ 54 ∷ 3455 ∷ 3456 ∷ 3457 ∷ []
+queues : arrivedPlace 0 7 ∷ arrivedPlace 1 0 ∷ arrivedPlace 1 7 ∷ countPlace 0 ∷ countPlace 1 ∷ [] ≡ 26 ∷ 27 ∷ 34 ∷ 36 ∷ 37 ∷ []
+queues = refl
+
+indices : setIndex 0 1 ∷ fieldsIndex 0 1 ∷ setIndex 1 0 ∷ fieldsIndex 63 37 ∷ counterAt ∷ wordCount ∷ []
+    ≡ 2 ∷ 3 ∷ 76 ∷ 4863 ∷ 4864 ∷ 4865 ∷ []
 indices = refl

@@ -12,7 +12,8 @@ use Rattle.model.specs.Shapes.{Shaped, SiteShaped}
 use Rattle.layout.specs.Bytes.{Bytes, SiteBytes}
 use Rattle.layout.specs.Packed.{inputFrom, outputFrom, outEntryFrom, inEntryFrom}
 use Rattle.layout.specs.Words.{inputAt, outputAt, leavingAt, arrivedAt, siteOf, stateOf, wordsOf}
-use Rattle.layout.proofs.Decoded.{all-sites, site-at, in-at, out-at, leaving-at, arrived-at, five-inputs, five-outputs, eight-leaving, eight-arrived}
+use Rattle.layout.proofs.Decoded.{all-sites, site-at, in-at, out-at, leaving-at, arrived-at}
+use Rattle.layout.proofs.Decoded.{five-inputs, six-outputs, eight-leaving, two-queues, eight-arrived}
 use Rattle.layout.proofs.Unpacked.{unpacked}
 
 -- a number that is another's rest by 256
@@ -26,9 +27,10 @@ module _ (c : List ℕ) (s : ℕ) where
       record {
         inputs = five-inputs c s;
         marks = λ i h. ap (λ (y : Input). length (y .outputs)) (in-at c s i h);
-        outputs = five-outputs c s;
+        outputs = six-outputs c s;
         outgoing = eight-leaving c s;
-        incoming = eight-arrived c s;
+        incoming = two-queues c s;
+        arrived = eight-arrived c s;
       }
 
   site-bytes : SiteBytes (siteOf c s)
@@ -40,7 +42,7 @@ module _ (c : List ℕ) (s : ℕ) where
         passed = λ j h. byte _ _ (ap (λ (o : Output). o .packet) (out-at c s j h));
         feeder = λ j h. byte _ _ (ap (λ (o : Output). o .input) (out-at c s j h));
         leaving = λ m h. byte _ _ (ap (λ (u : OutEntry). u .packet) (leaving-at c s m h));
-        arrived = λ m h. byte _ _ (ap (λ (a : InEntry). a .packet) (arrived-at c s m h));
+        arrived = λ q m g h. byte _ _ (ap (λ (a : InEntry). a .packet) (arrived-at c s q m g h));
       }
 
 pub shaped : (c : List ℕ) → Shaped (stateOf c)

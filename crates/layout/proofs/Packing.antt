@@ -8,8 +8,9 @@ use lib.Dec.{eqb, lit<}
 use lib.ListN.{length}
 use Rattle.base.specs.Bools.{count}
 use Rattle.base.specs.Rows.{spelled}
+use Rattle.base.specs.Sizes.{outputCount}
 use Rattle.types.specs.Numbers.{stateNumber, connectionNumber, receivedNumber, connectionOf, terminatorNumber}
-use Rattle.types.specs.declared.Connection.the-variants.{the-data as Connection, Unicast, Passthru, AllRemote, SomeLocal, Handed}
+use Rattle.types.specs.declared.Connection.the-variants.{the-data as Connection, Unicast, Passthru, AllRemote, SomeLocal, Handed, Branch}
 use Rattle.types.specs.declared.Received.the-variants.{the-data as Received, End as gotEnd, Abort as gotAbort}
 use Rattle.types.specs.declared.Terminator.the-variants.{the-data as Terminator, None as tNone, End as tEnd, Abort as tAbort, KeepLocal as tKeep}
 use Rattle.types.specs.declared.Phase.the-variants.{the-data as Phase, Free, Seek, Open, Wait, Done, Last, Abort as Aborted, FinAbort}
@@ -20,7 +21,7 @@ use Rattle.types.specs.declared.InEntry.{InEntry}
 use Rattle.model.specs.Types.{mark}
 use Rattle.layout.specs.Packed.{connectionAt, receivedAt, terminatorAt, phaseAt, receivedOf, flag}
 use Rattle.layout.specs.Packed.{inputFrom, inputWord, outputFrom, outputWord, outEntryFrom, outEntryWord, inEntryFrom, inEntryWord}
-use Rattle.layout.proofs.Rows.{five-rows}
+use Rattle.layout.proofs.Rows.{six-rows}
 
 -- ---- a case by its number
 
@@ -30,6 +31,7 @@ connection-back Passthru = refl
 connection-back AllRemote = refl
 connection-back SomeLocal = refl
 connection-back Handed = refl
+connection-back Branch = refl
 
 received-back : (r : Received) → receivedAt (receivedNumber r) ≡ r
 received-back gotEnd = refl
@@ -63,6 +65,7 @@ connection-below Passthru = lit< tt
 connection-below AllRemote = lit< tt
 connection-below SomeLocal = lit< tt
 connection-below Handed = lit< tt
+connection-below Branch = lit< tt
 
 received-below : (r : Received) → receivedNumber r < 4
 received-below gotEnd = lit< tt
@@ -107,10 +110,10 @@ same-input : (X : ℕ) (ph ph′ : Phase) (bs bs′ : List Bool) (q q′ t t′ 
 same-input X ph ph′ bs bs′ q q′ t t′ a b c d = rw (a, b, c, d) refl
 
 -- the fields of a net-input's word
-module _ (n c r a b d e f q t : ℕ) (hn : n < 8) (hc : c < 8) (hr : r < 4) (ha : a < 2) (hb : b < 2) (hd : d < 2) (he : e < 2) (hf : f < 2)
-    (hq : q < 256) (ht : t < 256) where
+module _ (n c r a b d e f g q t : ℕ) (hn : n < 8) (hc : c < 8) (hr : r < 4) (ha : a < 2) (hb : b < 2) (hd : d < 2) (he : e < 2) (hf : f < 2)
+    (hg : g < 2) (hq : q < 256) (ht : t < 256) where
   abbrev packed : ℕ
-  packed = n + 8 * c + 64 * r + (256 * a + 512 * b + 1024 * d + 2048 * e + 4096 * f) + 65536 * q + 16777216 * t
+  packed = n + 8 * c + 64 * r + (256 * a + 512 * b + 1024 * d + 2048 * e + 4096 * f + 8192 * g) + 65536 * q + 16777216 * t
 
   record Parts : Type 0 where
     state : packed % 8 ≡ n
@@ -121,6 +124,7 @@ module _ (n c r a b d e f q t : ℕ) (hn : n < 8) (hc : c < 8) (hr : r < 4) (ha 
     mark-2 : packed / 1024 % 2 ≡ d
     mark-3 : packed / 2048 % 2 ≡ e
     mark-4 : packed / 4096 % 2 ≡ f
+    mark-5 : packed / 8192 % 2 ≡ g
     packet : packed / 65536 % 256 ≡ q
     tries : packed / 16777216 % 256 ≡ t
 
@@ -135,11 +139,12 @@ module _ (n c r a b d e f q t : ℕ) (hn : n < 8) (hc : c < 8) (hr : r < 4) (ha 
         mark-2 = omega arith;
         mark-3 = omega arith;
         mark-4 = omega arith;
+        mark-5 = omega arith;
         packet = omega arith;
         tries = omega arith;
       }
 
-pub input-back : (y : Input) → y .packet < 256 → y .tries < 256 → length (y .outputs) ≡ 5 → inputFrom (y .set) (inputWord y) ≡ y
+pub input-back : (y : Input) → y .packet < 256 → y .tries < 256 → length (y .outputs) ≡ outputCount → inputFrom (y .set) (inputWord y) ≡ y
 unfolding inputFrom inputWord
 input-back y hq ht hl =
     let ph = y .phase in
@@ -149,11 +154,12 @@ input-back y hq ht hl =
     let w = inputWord y in
     let p =
     parts (stateNumber ph) (connectionOf ph) (receivedOf ph) (count (m 0)) (count (m 1)) (count (m 2)) (count (m 3)) (count (m 4))
-    (y .packet) (y .tries) (g .0) (g .1) (g .2) (k 0) (k 1) (k 2) (k 3) (k 4) hq ht in
+    (count (m 5)) (y .packet) (y .tries) (g .0) (g .1) (g .2) (k 0) (k 1) (k 2) (k 3) (k 4) (k 5) hq ht in
     same-input (y .set) _ ph _ (y .outputs) _ (y .packet) _ (y .tries)
     (phase-from ph _ _ _ (p .state) (p .connection) (p .received))
-    (five-rows m _ _ _ _ _ (flag-back w 256 (m 0) (p .mark-0)) (flag-back w 512 (m 1) (p .mark-1)) (flag-back w 1024 (m 2) (p .mark-2))
-    (flag-back w 2048 (m 3) (p .mark-3)) (flag-back w 4096 (m 4) (p .mark-4)) ∙ sym (spelled 5 false (y .outputs) hl))
+    (six-rows m _ _ _ _ _ _ (flag-back w 256 (m 0) (p .mark-0)) (flag-back w 512 (m 1) (p .mark-1)) (flag-back w 1024 (m 2) (p .mark-2))
+    (flag-back w 2048 (m 3) (p .mark-3)) (flag-back w 4096 (m 4) (p .mark-4)) (flag-back w 8192 (m 5) (p .mark-5))
+    ∙ sym (spelled outputCount false (y .outputs) hl))
     (p .packet) (p .tries)
 
 -- ---- a net-output
@@ -181,7 +187,7 @@ output-back o hq hi =
     (flag-back w 1 (o .used) (omega arith)) (flag-back w 2 (o .head) (omega arith))
     (flag-back w 16 (o .closing) (omega arith))
 
--- ---- an entry of the out-queue, of the in-queue
+-- ---- an entry of the out-queue, of an in-queue
 
 same-out : (X q q′ : ℕ) (b b′ : Bool) → q ≡ q′ → b ≡ b′
     → _≡_ {A = OutEntry} (record { set = X; packet = q; started = b }) (record { set = X; packet = q′; started = b′ })

@@ -6,7 +6,7 @@ use Prim.Native.Nat.{ℕ, zero, suc, _+_, _*_, _/_, _%_, _<_}
 use native.Mathlib.Omega.{arith}
 use borrow.Author.Tests.{ne-eqb}
 use lib.Dec.{eqb}
-use Rattle.base.specs.Sizes.{sitesMost, inputCount, outputCount, queueRoom}
+use Rattle.base.specs.Sizes.{sitesMost, inputCount, outputCount, inQueueCount, queueRoom}
 use Rattle.types.specs.Numbers.{stateNumber}
 use Rattle.types.specs.Phases.{isNone}
 use Rattle.types.specs.declared.Connection.the-variants.{the-data as Connection}
@@ -16,9 +16,9 @@ use Rattle.types.specs.declared.Input.{Input}
 use Rattle.types.specs.declared.Output.{Output}
 use Rattle.types.specs.declared.InEntry.{InEntry}
 use Rattle.types.specs.declared.Site.{Site}
-use Rattle.model.specs.Types.{siteAt, inAt, outAt, inEntry, carries}
+use Rattle.model.specs.Types.{siteAt, inAt, outAt, queueAt, inEntry, carries}
 use Rattle.model.specs.Places.{stalled}
-use Rattle.layout.specs.Layout.{outputsFrom, arrivedFrom}
+use Rattle.layout.specs.Layout.{outputsFrom, arrivedPlace}
 use Rattle.layout.specs.Packed.{phaseAt, terminatorAt, flag, inputFrom, outputFrom, inEntryFrom}
 use Rattle.layout.specs.Words.{fieldsAt, inputAt, outputAt, arrivedAt, sitesOf}
 use Rattle.layout.proofs.Decoded.{site-at, arrived-at, input-at, output-at}
@@ -138,10 +138,10 @@ module _ (c : List ℕ) (s : ℕ) (hs : s < sitesMost) where
     unfolding outputAt outputFrom
     feeder-peeked = ap (λ (m : ℕ). m / 256 % 256) e ∙ sym (ap (λ (o : Output). o .input) (output-at c s hs j h))
 
-  pub lacks-peeked : (m w : ℕ) → m < queueRoom → w ≡ fieldsAt c s (arrivedFrom + m)
-      → eqb (w % 4) 0 ≡ isNone (inEntry (siteAt (sitesOf c) s .incoming) m .terminator)
+  pub lacks-peeked : (q m w : ℕ) → q < inQueueCount → m < queueRoom → w ≡ fieldsAt c s (arrivedPlace q m)
+      → eqb (w % 4) 0 ≡ isNone (inEntry (queueAt (siteAt (sitesOf c) s) q) m .terminator)
   unfolding arrivedAt inEntryFrom
-  lacks-peeked m w h e =
-      ap (λ (k : ℕ). eqb (k % 4) 0) e ∙ sym (none-at (fieldsAt c s (arrivedFrom + m) % 4))
-      ∙ sym (ap (λ (x : Site). isNone (inEntry (x .incoming) m .terminator)) (site-at c s hs)
-      ∙ ap (λ (a : InEntry). isNone (a .terminator)) (arrived-at c s m h))
+  lacks-peeked q m w g h e =
+      ap (λ (k : ℕ). eqb (k % 4) 0) e ∙ sym (none-at (fieldsAt c s (arrivedPlace q m) % 4))
+      ∙ sym (ap (λ (x : Site). isNone (inEntry (queueAt x q) m .terminator)) (site-at c s hs)
+      ∙ ap (λ (a : InEntry). isNone (a .terminator)) (arrived-at c s q m g h))

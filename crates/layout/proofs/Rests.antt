@@ -16,6 +16,7 @@ use Rattle.types.specs.declared.OutQueue.{OutQueue}
 use Rattle.types.specs.declared.InQueue.{InQueue}
 use Rattle.types.specs.declared.Network.{Network}
 use Rattle.types.specs.Phases.{isNone}
+use Rattle.draws.specs.Draws.{restricted}
 use Rattle.types.specs.Numbers.{stateNumber}
 use Rattle.model.specs.Types.{outOf, inEntry, carries}
 use Rattle.model.specs.NetInput.{Stay, allReady, inState}
@@ -90,14 +91,15 @@ operator-rests D s a b h =
     (λ z. none-rests D s a b (inEntry a 0 .packet) (inEntry a 0 .set) (inEntry a 0 .terminator) e) (λ z. refl))
     (either (eqb (a .count) 0) (isNone (inEntry a 0 .terminator)) h)
 
-pub timeout-rests : (q : InQueue) (os : List Output) (y : Input) → not (stalled (outOf os 0)) ≡ true
-    → timeout q os y ≡ Stay
-timeout-rests q os y = go (lastLacks q) (stalled (outOf os 0))
+pub timeout-rests : (edition : ℕ) (q : InQueue) (os : List Output) (y : Input)
+    → (restricted edition || not (stalled (outOf os 0))) ≡ true → timeout edition q os y ≡ Stay
+timeout-rests edition q os y = go (restricted edition) (lastLacks q) (stalled (outOf os 0))
   where
-    go : (a b : Bool) → not b ≡ true → cond (a && b) (cutAt y os (y .phase)) Stay ≡ Stay
-    go a true h = absurd (clash (sym h))
-    go true false h = refl
-    go false false h = refl
+    go : (r a b : Bool) → (r || not b) ≡ true → cond r Stay (cond (a && b) (cutAt y os (y .phase)) Stay) ≡ Stay
+    go true a b h = refl
+    go false a true h = absurd (clash (sym h))
+    go false true false h = refl
+    go false false false h = refl
 
 pub stands-stays : (n : Network) (s i : ℕ) (y : Input) (os : List Output) (f : ℕ → Bool) (ph : Phase)
     → stands ph (allReady f (y .outputs)) (f 0) ≡ true → inState n s i y os f ph ≡ Stay

@@ -43,6 +43,10 @@ module _ {A : Type 0} where
   pub five-rows : (f : ℕ → A) (a b c d e : A) → a ≡ f 0 → b ≡ f 1 → c ≡ f 2 → d ≡ f 3 → e ≡ f 4 → (a ∷ b ∷ c ∷ d ∷ e ∷ []) ≡ rows 5 f
   five-rows f a b c d e p q r s t = rw (p, q, r, s, t) refl
 
+  pub six-rows : (f : ℕ → A) (a b c d e g : A) → a ≡ f 0 → b ≡ f 1 → c ≡ f 2 → d ≡ f 3 → e ≡ f 4 → g ≡ f 5
+      → (a ∷ b ∷ c ∷ d ∷ e ∷ g ∷ []) ≡ rows 6 f
+  six-rows f a b c d e g p q r s t u = rw (p, q, r, s, t, u) refl
+
   pub eight-rows : (f : ℕ → A) (a b c d e g h i : A) → a ≡ f 0 → b ≡ f 1 → c ≡ f 2 → d ≡ f 3 → e ≡ f 4 → g ≡ f 5 → h ≡ f 6 → i ≡ f 7
       → (a ∷ b ∷ c ∷ d ∷ e ∷ g ∷ h ∷ i ∷ []) ≡ rows 8 f
   eight-rows f a b c d e g h i p q r s t u v w = rw (p, q, r, s, t, u, v, w) refl

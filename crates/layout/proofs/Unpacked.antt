@@ -4,20 +4,20 @@ use mathlib.Core.List.{List}
 use Prim.Native.Nat.{ℕ, _+_, _%_, _<_}
 use native.Mathlib.Omega.{arith}
 use Rattle.base.specs.Rows.{spelled}
-use Rattle.base.specs.Sizes.{sitesMost, inputCount, outputCount, queueRoom}
+use Rattle.base.specs.Sizes.{sitesMost, inputCount, outputCount, inQueueCount, queueRoom}
 use Rattle.types.specs.declared.Site.{Site}
 use Rattle.types.specs.declared.State.{State}
-use Rattle.model.specs.Types.{siteD, inputD, noOutput, noOutEntry, noInEntry, siteAt, inAt, outAt, outEntry, inEntry}
+use Rattle.model.specs.Types.{siteD, inputD, noOutput, noOutEntry, noInEntry, inQueueD, siteAt, inAt, outAt, outEntry, queueAt, inEntry}
 use Rattle.model.specs.Shapes.{Shaped, SiteShaped}
-use Rattle.layout.specs.Layout.{outputsFrom, leavingFrom, arrivedFrom, countsPlace, sitePlaces}
+use Rattle.layout.specs.Layout.{outputsFrom, leavingFrom, countsFrom, sitePlaces, arrivedPlace, countPlace}
 use Rattle.layout.specs.Packed.{inputFrom, outputFrom, outEntryFrom, inEntryFrom}
-use Rattle.layout.specs.Words.{setAt, fieldsAt, inputAt, outputAt, leavingAt, arrivedAt, siteOf, sitesOf, stateOf, setOf, fieldsOf, wordsOf}
+use Rattle.layout.specs.Words.{setAt, fieldsAt, inputAt, outputAt, leavingAt, arrivedAt, inQueueAt, siteOf, sitesOf, stateOf, setOf, fieldsOf, wordsOf}
 use Rattle.layout.specs.Bytes.{Bytes, SiteBytes}
 use Rattle.layout.proofs.Packing.{input-back, output-back, out-entry-back, in-entry-back}
 use Rattle.layout.proofs.Rows.{rows-same}
-use Rattle.layout.proofs.Written.{same-site}
-use Rattle.layout.proofs.PlaceKinds.{set-input, set-output, set-leaving, set-arrived, set-counts}
-use Rattle.layout.proofs.PlaceKinds.{fields-input, fields-output, fields-leaving, fields-arrived, fields-counts}
+use Rattle.layout.proofs.Written.{same-queue, same-site}
+use Rattle.layout.proofs.PlaceKinds.{set-input, set-output, set-leaving, set-arrived, set-out-count, set-in-count}
+use Rattle.layout.proofs.PlaceKinds.{fields-input, fields-output, fields-leaving, fields-arrived}
 use Rattle.layout.proofs.Settled.{set-word, fields-word, counter-word}
 
 -- ---- words c whose places of site s are those of the site x
@@ -42,22 +42,31 @@ module _ (c : List ℕ) (s : ℕ) (x : Site) (sets : (k : ℕ) → k < sitePlace
       ap₂ outEntryFrom (sets (leavingFrom + m) (omega arith) ∙ set-leaving x m l) (fields (leavingFrom + m) (omega arith) ∙ fields-leaving x m l)
       ∙ out-entry-back (outEntry (x .outgoing) m) (b .leaving m l)
 
-  arrived-found : (m : ℕ) → m < queueRoom → arrivedAt c s m ≡ inEntry (x .incoming) m
+  arrived-found : (q m : ℕ) → q < inQueueCount → m < queueRoom → arrivedAt c s q m ≡ inEntry (queueAt x q) m
   unfolding arrivedAt
-  arrived-found m l =
-      ap₂ inEntryFrom (sets (arrivedFrom + m) (omega arith) ∙ set-arrived x m l) (fields (arrivedFrom + m) (omega arith) ∙ fields-arrived x m l)
-      ∙ in-entry-back (inEntry (x .incoming) m) (b .arrived m l)
+  arrived-found q m g l =
+      ap₂ inEntryFrom (sets (arrivedPlace q m) (omega arith) ∙ set-arrived x q m g l)
+      (fields (arrivedPlace q m) (omega arith) ∙ fields-arrived x q m g l)
+      ∙ in-entry-back (inEntry (queueAt x q) m) (b .arrived q m g l)
+
+  queue-found : (q : ℕ) → q < inQueueCount → inQueueAt c s q ≡ queueAt x q
+  unfolding inQueueAt
+  queue-found q g =
+      let iq = queueAt x q in
+      same-queue _ (iq .entries) _ (iq .count)
+      (rows-same queueRoom (inEntry iq) (arrivedAt c s q) (λ m l. arrived-found q m g l)
+      ∙ sym (spelled queueRoom noInEntry (iq .entries) (h .arrived q g)))
+      (sets (countPlace q) (omega arith) ∙ set-in-count x q)
 
   site-found : siteOf c s ≡ x
   unfolding siteOf
   site-found =
-      same-site _ (x .inputs) _ (x .outputs) _ (x .outgoing .entries) _ (x .outgoing .count) _ (x .incoming .entries) _ (x .incoming .count)
+      same-site _ (x .inputs) _ (x .outputs) _ (x .outgoing .entries) _ (x .outgoing .count) _ (x .incoming)
       (rows-same inputCount (inAt x) (inputAt c s) input-found ∙ sym (spelled inputCount inputD (x .inputs) (h .inputs)))
       (rows-same outputCount (outAt x) (outputAt c s) output-found ∙ sym (spelled outputCount noOutput (x .outputs) (h .outputs)))
       (rows-same queueRoom (outEntry (x .outgoing)) (leavingAt c s) leaving-found ∙ sym (spelled queueRoom noOutEntry (x .outgoing .entries) (h .outgoing)))
-      (sets countsPlace (omega arith) ∙ set-counts x)
-      (rows-same queueRoom (inEntry (x .incoming)) (arrivedAt c s) arrived-found ∙ sym (spelled queueRoom noInEntry (x .incoming .entries) (h .incoming)))
-      (fields countsPlace (omega arith) ∙ fields-counts x)
+      (sets countsFrom (omega arith) ∙ set-out-count x)
+      (rows-same inQueueCount (queueAt x) (inQueueAt c s) queue-found ∙ sym (spelled inQueueCount inQueueD (x .incoming) (h .incoming)))
 
 -- ---- the words of a state
 

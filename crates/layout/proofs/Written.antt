@@ -2,23 +2,25 @@
 use mathlib.Core.Path.{_≡_, refl, sym, ap, ap₂, _∙_}
 use mathlib.Core.List.{List}
 use mathlib.Core.Logic.{_≢_}
-use Prim.Native.Nat.{ℕ, _+_, _*_, _/_, _<_}
+use Prim.Native.Nat.{ℕ, _+_, _*_, _/_, _<_, _≤_}
 use native.Mathlib.Omega.{arith}
 use lib.ListN.{length, getD, set, length-set}
 use lib.Seq.{getD-set-same, getD-set-other}
 use Rattle.base.specs.Rows.{rows}
-use Rattle.base.specs.Sizes.{sitesMost, inputCount, outputCount, queueRoom}
+use Rattle.base.specs.Sizes.{sitesMost, inputCount, outputCount, inQueueCount, queueRoom}
 use Rattle.types.specs.declared.Input.{Input}
 use Rattle.types.specs.declared.Output.{Output}
 use Rattle.types.specs.declared.OutEntry.{OutEntry}
 use Rattle.types.specs.declared.InEntry.{InEntry}
+use Rattle.types.specs.declared.InQueue.{InQueue}
 use Rattle.types.specs.declared.Site.{Site}
-use Rattle.model.specs.Types.{setSite, setIn, setOut}
-use Rattle.layout.specs.Layout.{outputsFrom, leavingFrom, arrivedFrom, countsPlace, sitePlaces, counterAt, wordCount, setIndex, fieldsIndex}
+use Rattle.model.specs.Types.{setSite, setIn, setOut, setQueue}
+use Rattle.layout.specs.Layout.{outputsFrom, leavingFrom, arrivedFrom, countsFrom, sitePlaces, arrivedPlace, countPlace, counterAt, wordCount, setIndex, fieldsIndex}
 use Rattle.layout.specs.Packed.{inputFrom, outputFrom, outEntryFrom, inEntryFrom}
-use Rattle.layout.specs.Words.{setAt, fieldsAt, inputAt, outputAt, leavingAt, arrivedAt, siteOf, sitesOf}
+use Rattle.layout.specs.Words.{setAt, fieldsAt, inputAt, outputAt, leavingAt, arrivedAt, inQueueAt, siteOf, sitesOf}
 use Rattle.layout.specs.Stored.{placed, leavingSet, leavingCount, arrivedSet, arrivedCount}
 use Rattle.layout.proofs.Rows.{rows-same, rows-set}
+use Rattle.layout.proofs.Decoded.{arrived-of, in-count}
 
 -- the two words of place k of site t are the same in c and d
 abbrev pub Same : List ℕ → List ℕ → ℕ → ℕ → Type 0
@@ -98,25 +100,33 @@ module _ (c d : List ℕ) (t : ℕ) where
   unfolding leavingAt
   leaving-same m e = ap₂ outEntryFrom (e .0) (e .1)
 
-  arrived-same : (m : ℕ) → Same c d t (arrivedFrom + m) → arrivedAt d t m ≡ arrivedAt c t m
+  arrived-same : (q m : ℕ) → Same c d t (arrivedPlace q m) → arrivedAt d t q m ≡ arrivedAt c t q m
   unfolding arrivedAt
-  arrived-same m e = ap₂ inEntryFrom (e .0) (e .1)
+  arrived-same q m e = ap₂ inEntryFrom (e .0) (e .1)
 
-pub same-site : (i i′ : List Input) (o o′ : List Output) (u u′ : List OutEntry) (k k′ : ℕ) (a a′ : List InEntry) (m m′ : ℕ)
-    → i ≡ i′ → o ≡ o′ → u ≡ u′ → k ≡ k′ → a ≡ a′ → m ≡ m′
-    → _≡_ {A = Site}
-    (record { inputs = i; outputs = o; outgoing = record { entries = u; count = k }; incoming = record { entries = a; count = m } })
-    (record { inputs = i′; outputs = o′; outgoing = record { entries = u′; count = k′ }; incoming = record { entries = a′; count = m′ } })
-same-site i i′ o o′ u u′ k k′ a a′ m m′ p q r s t v = rw (p, q, r, s, t, v) refl
+pub same-queue : (a a′ : List InEntry) (k k′ : ℕ) → a ≡ a′ → k ≡ k′ → _≡_ {A = InQueue} (record { entries = a; count = k }) (record { entries = a′; count = k′ })
+same-queue a a′ k k′ p q = rw (p, q) refl
+
+pub same-site : (i i′ : List Input) (o o′ : List Output) (u u′ : List OutEntry) (k k′ : ℕ) (a a′ : List InQueue)
+    → i ≡ i′ → o ≡ o′ → u ≡ u′ → k ≡ k′ → a ≡ a′
+    → _≡_ {A = Site} (record { inputs = i; outputs = o; outgoing = record { entries = u; count = k }; incoming = a })
+    (record { inputs = i′; outputs = o′; outgoing = record { entries = u′; count = k′ }; incoming = a′ })
+same-site i i′ o o′ u u′ k k′ a a′ p q r s t = rw (p, q, r, s, t) refl
+
+-- an in-queue with the same words
+queue-same : (c d : List ℕ) (t q : ℕ) → ((m : ℕ) → m < queueRoom → Same c d t (arrivedPlace q m)) → Same c d t (countPlace q)
+    → inQueueAt d t q ≡ inQueueAt c t q
+unfolding inQueueAt
+queue-same c d t q e n = same-queue _ _ _ _ (rows-same queueRoom _ _ (λ m l. arrived-same c d t q m (e m l))) (n .0)
 
 -- a site with the same words
 pub whole-same : (c d : List ℕ) (t : ℕ) → ((l : ℕ) → l < sitePlaces → Same c d t l) → siteOf d t ≡ siteOf c t
 unfolding siteOf
 whole-same c d t e =
-    same-site _ _ _ _ _ _ _ _ _ _ _ _ (rows-same inputCount _ _ (λ i l. input-same c d t i (e i (omega arith))))
+    same-site _ _ _ _ _ _ _ _ _ _ (rows-same inputCount _ _ (λ i l. input-same c d t i (e i (omega arith))))
     (rows-same outputCount _ _ (λ j l. output-same c d t j (e (outputsFrom + j) (omega arith))))
-    (rows-same queueRoom _ _ (λ m l. leaving-same c d t m (e (leavingFrom + m) (omega arith)))) (e countsPlace (omega arith) .0)
-    (rows-same queueRoom _ _ (λ m l. arrived-same c d t m (e (arrivedFrom + m) (omega arith)))) (e countsPlace (omega arith) .1)
+    (rows-same queueRoom _ _ (λ m l. leaving-same c d t m (e (leavingFrom + m) (omega arith)))) (e countsFrom (omega arith) .0)
+    (rows-same inQueueCount _ _ (λ q g. queue-same c d t q (λ m l. e (arrivedPlace q m) (omega arith)) (e (countPlace q) (omega arith))))
 
 -- ---- the sites after it
 
@@ -135,11 +145,18 @@ module _ (c d : List ℕ) (s k X w : ℕ) (p : Wrote c d s k X w) where
   leaving-kept : (t : ℕ) → ((m : ℕ) → m < queueRoom → t ≡ s → leavingFrom + m ≢ k) → rows queueRoom (leavingAt d t) ≡ rows queueRoom (leavingAt c t)
   leaving-kept t ne = rows-same queueRoom _ _ (λ m l. leaving-same c d t m (p .others t (leavingFrom + m) (omega arith) (ne m l)))
 
-  arrived-kept : (t : ℕ) → ((m : ℕ) → m < queueRoom → t ≡ s → arrivedFrom + m ≢ k) → rows queueRoom (arrivedAt d t) ≡ rows queueRoom (arrivedAt c t)
-  arrived-kept t ne = rows-same queueRoom _ _ (λ m l. arrived-same c d t m (p .others t (arrivedFrom + m) (omega arith) (ne m l)))
+  out-count-kept : (t : ℕ) → (t ≡ s → countsFrom ≢ k) → setAt d t countsFrom ≡ setAt c t countsFrom
+  out-count-kept t ne = p .others t countsFrom (omega arith) ne .0
 
-  counts-kept : (t : ℕ) → (t ≡ s → countsPlace ≢ k) → Same c d t countsPlace
-  counts-kept t ne = p .others t countsPlace (omega arith) ne
+  queue-kept : (t q : ℕ) → q < inQueueCount → ((m : ℕ) → m < queueRoom → t ≡ s → arrivedPlace q m ≢ k) → (t ≡ s → countPlace q ≢ k)
+      → inQueueAt d t q ≡ inQueueAt c t q
+  queue-kept t q g ne nc =
+      queue-same c d t q (λ m l. p .others t (arrivedPlace q m) (omega arith) (ne m l)) (p .others t (countPlace q) (omega arith) nc)
+
+  -- a place before the in-queues' entries, or the out-queue's count
+  queues-kept : (t : ℕ) → ((q m : ℕ) → q < inQueueCount → m < queueRoom → t ≡ s → arrivedPlace q m ≢ k)
+      → ((q : ℕ) → q < inQueueCount → t ≡ s → countPlace q ≢ k) → rows inQueueCount (inQueueAt d t) ≡ rows inQueueCount (inQueueAt c t)
+  queues-kept t ne nc = rows-same inQueueCount _ _ (λ q g. queue-kept t q g (λ m l. ne q m g l) (nc q g))
 
   -- another site
   site-kept : (t : ℕ) → t ≢ s → siteOf d t ≡ siteOf c t
@@ -165,47 +182,69 @@ module _ (c d : List ℕ) (s X w : ℕ) where
   pub site-input : (i : ℕ) → i < inputCount → Wrote c d s i X w → siteOf d s ≡ setIn (siteOf c s) i (inputFrom X w)
   unfolding siteOf inputAt
   site-input i h p =
-      let n = counts-kept c d s i X w p s (λ e q. omega arith) in
-      same-site _ _ _ _ _ _ _ _ _ _ _ _
+      same-site _ _ _ _ _ _ _ _ _ _
       (rows-set inputCount (inputAt c s) (inputAt d s) i (inputFrom X w) h (ap₂ inputFrom (p .its-set) (p .its-fields))
       (λ j l ne. input-same c d s j (p .others s j (omega arith) (λ e. ne))))
-      (outputs-kept c d s i X w p s (λ j l e q. omega arith)) (leaving-kept c d s i X w p s (λ m l e q. omega arith)) (n .0)
-      (arrived-kept c d s i X w p s (λ m l e q. omega arith)) (n .1)
+      (outputs-kept c d s i X w p s (λ j l e q. omega arith)) (leaving-kept c d s i X w p s (λ m l e q. omega arith))
+      (out-count-kept c d s i X w p s (λ e q. omega arith))
+      (queues-kept c d s i X w p s (λ q m g l e z. omega arith) (λ q g e z. omega arith))
 
   pub site-output : (j : ℕ) → j < outputCount → Wrote c d s (outputsFrom + j) X w → siteOf d s ≡ setOut (siteOf c s) j (outputFrom X w)
   unfolding siteOf outputAt
   site-output j h p =
       let k = outputsFrom + j in
-      let n = counts-kept c d s k X w p s (λ e q. omega arith) in
-      same-site _ _ _ _ _ _ _ _ _ _ _ _ (inputs-kept c d s k X w p s (λ i l e q. omega arith))
+      same-site _ _ _ _ _ _ _ _ _ _ (inputs-kept c d s k X w p s (λ i l e q. omega arith))
       (rows-set outputCount (outputAt c s) (outputAt d s) j (outputFrom X w) h (ap₂ outputFrom (p .its-set) (p .its-fields))
       (λ i l ne. output-same c d s i (p .others s (outputsFrom + i) (omega arith) (λ e q. ne (omega arith)))))
-      (leaving-kept c d s k X w p s (λ m l e q. omega arith)) (n .0) (arrived-kept c d s k X w p s (λ m l e q. omega arith)) (n .1)
+      (leaving-kept c d s k X w p s (λ m l e q. omega arith)) (out-count-kept c d s k X w p s (λ e q. omega arith))
+      (queues-kept c d s k X w p s (λ q m g l e z. omega arith) (λ q g e z. omega arith))
 
   pub site-leaving : (m : ℕ) → m < queueRoom → Wrote c d s (leavingFrom + m) X w → siteOf d s ≡ leavingSet (siteOf c s) m (outEntryFrom X w)
   unfolding siteOf leavingAt
   site-leaving m h p =
       let k = leavingFrom + m in
-      let n = counts-kept c d s k X w p s (λ e q. omega arith) in
-      same-site _ _ _ _ _ _ _ _ _ _ _ _ (inputs-kept c d s k X w p s (λ i l e q. omega arith)) (outputs-kept c d s k X w p s (λ j l e q. omega arith))
+      same-site _ _ _ _ _ _ _ _ _ _ (inputs-kept c d s k X w p s (λ i l e q. omega arith)) (outputs-kept c d s k X w p s (λ j l e q. omega arith))
       (rows-set queueRoom (leavingAt c s) (leavingAt d s) m (outEntryFrom X w) h (ap₂ outEntryFrom (p .its-set) (p .its-fields))
       (λ i l ne. leaving-same c d s i (p .others s (leavingFrom + i) (omega arith) (λ e q. ne (omega arith)))))
-      (n .0) (arrived-kept c d s k X w p s (λ i l e q. omega arith)) (n .1)
+      (out-count-kept c d s k X w p s (λ e q. omega arith)) (queues-kept c d s k X w p s (λ q i g l e z. omega arith) (λ q g e z. omega arith))
 
-  pub site-arrived : (m : ℕ) → m < queueRoom → Wrote c d s (arrivedFrom + m) X w → siteOf d s ≡ arrivedSet (siteOf c s) m (inEntryFrom X w)
-  unfolding siteOf arrivedAt
-  site-arrived m h p =
-      let k = arrivedFrom + m in
-      let n = counts-kept c d s k X w p s (λ e q. omega arith) in
-      same-site _ _ _ _ _ _ _ _ _ _ _ _ (inputs-kept c d s k X w p s (λ i l e q. omega arith)) (outputs-kept c d s k X w p s (λ j l e q. omega arith))
-      (leaving-kept c d s k X w p s (λ i l e q. omega arith)) (n .0)
-      (rows-set queueRoom (arrivedAt c s) (arrivedAt d s) m (inEntryFrom X w) h (ap₂ inEntryFrom (p .its-set) (p .its-fields))
-      (λ i l ne. arrived-same c d s i (p .others s (arrivedFrom + i) (omega arith) (λ e q. ne (omega arith))))) (n .1)
-
-  -- the two counts
-  pub site-counts : Wrote c d s countsPlace X w → siteOf d s ≡ arrivedCount (leavingCount (siteOf c s) X) w
+  pub site-out-count : Wrote c d s countsFrom X w → siteOf d s ≡ leavingCount (siteOf c s) X
   unfolding siteOf
-  site-counts p =
-      let k = countsPlace in
-      same-site _ _ _ _ _ _ _ _ _ _ _ _ (inputs-kept c d s k X w p s (λ i l e q. omega arith)) (outputs-kept c d s k X w p s (λ j l e q. omega arith))
-      (leaving-kept c d s k X w p s (λ i l e q. omega arith)) (p .its-set) (arrived-kept c d s k X w p s (λ i l e q. omega arith)) (p .its-fields)
+  site-out-count p =
+      let k = countsFrom in
+      same-site _ _ _ _ _ _ _ _ _ _ (inputs-kept c d s k X w p s (λ i l e q. omega arith)) (outputs-kept c d s k X w p s (λ j l e q. omega arith))
+      (leaving-kept c d s k X w p s (λ i l e q. omega arith)) (p .its-set)
+      (queues-kept c d s k X w p s (λ q i g l e z. omega arith) (λ q g e z. omega arith))
+
+  -- a place of in-queue q, which is iq after it
+  site-queue : (q k : ℕ) (iq : InQueue) → arrivedFrom ≤ k → k ≢ countsFrom → q < inQueueCount → Wrote c d s k X w
+      → ((p : ℕ) → p < inQueueCount → p ≢ q → inQueueAt d s p ≡ inQueueAt c s p) → inQueueAt d s q ≡ iq
+      → siteOf d s ≡ setQueue (siteOf c s) q iq
+  unfolding siteOf
+  site-queue q k iq a b g p others e =
+      same-site _ _ _ _ _ _ _ _ _ _ (inputs-kept c d s k X w p s (λ i l f z. omega arith)) (outputs-kept c d s k X w p s (λ j l f z. omega arith))
+      (leaving-kept c d s k X w p s (λ i l f z. omega arith)) (out-count-kept c d s k X w p s (λ f z. b (sym z)))
+      (rows-set inQueueCount (inQueueAt c s) (inQueueAt d s) q iq g e others)
+
+  pub site-arrived : (q m : ℕ) → q < inQueueCount → m < queueRoom → Wrote c d s (arrivedPlace q m) X w
+      → siteOf d s ≡ arrivedSet (siteOf c s) q m (inEntryFrom X w)
+  unfolding inQueueAt arrivedAt
+  site-arrived q m g h p =
+      let k = arrivedPlace q m in
+      site-queue q k _ (omega arith) (λ e. omega arith) g p
+      (λ r l ne. queue-kept c d s k X w p s r l (λ i f e z. ne (omega arith)) (λ e z. omega arith))
+      (same-queue _ _ _ _
+      (rows-set queueRoom (arrivedAt c s q) (arrivedAt d s q) m (inEntryFrom X w) h (ap₂ inEntryFrom (p .its-set) (p .its-fields))
+      (λ i l ne. arrived-same c d s q i (p .others s (arrivedPlace q i) (omega arith) (λ e z. ne (omega arith))))
+      ∙ ap (λ (l : List InEntry). set l m (inEntryFrom X w)) (sym (arrived-of c s q g)))
+      (p .others s (countPlace q) (omega arith) (λ e z. omega arith) .0 ∙ sym (in-count c s q g)))
+
+  pub site-in-count : (q : ℕ) → q < inQueueCount → Wrote c d s (countPlace q) X w → siteOf d s ≡ arrivedCount (siteOf c s) q X
+  unfolding inQueueAt
+  site-in-count q g p =
+      let k = countPlace q in
+      site-queue q k _ (omega arith) (λ e. omega arith) g p
+      (λ r l ne. queue-kept c d s k X w p s r l (λ i f e z. omega arith) (λ e z. ne (omega arith)))
+      (same-queue _ _ _ _
+      (rows-same queueRoom _ _ (λ m l. arrived-same c d s q m (p .others s (arrivedPlace q m) (omega arith) (λ e z. omega arith))) ∙ sym (arrived-of c s q g))
+      (p .its-set))

@@ -2,17 +2,17 @@
 --
 --   place k of site s            words 2 * (sitePlaces * s + k) and the next one
 --     k  0 to  4                 net-inputs 0 to 4
---     k  5 to  9                 net-outputs 0 to 4
---     k 10 to 17                 the out-queue's entries, from the front
---     k 18 to 25                 the in-queue's entries, from the front
---     k 26                       the two counts: the out-queue's, then the in-queue's
+--     k  5 to 10                 net-outputs 0 to 5, the last one the split output
+--     k 11 to 18                 the out-queue's entries, from the front
+--     k 19 to 26, 27 to 34       the entries of in-queue 0, of in-queue 1, from the front
+--     k 35, 36, 37               the counts of the out-queue, of in-queue 0, of in-queue 1: each the count, then zero
 --   the last word                the counter
 --
--- src/layout.rt has the same numbers. All words zero are the empty state.
+-- src/lib.rt has the same numbers. All words zero are the empty state.
 use Prim.Native.Nat.{ℕ, _+_, _*_, _/_, _%_}
-use Rattle.base.specs.Sizes.{sitesMost, inputCount, outputCount, portCount, queueRoom}
+use Rattle.base.specs.Sizes.{sitesMost, inputCount, outputCount, portCount, inQueueCount, queueRoom}
 
--- the first place of a site's outputs, of its out-queue, of its in-queue; the place of its counts; the places of a site
+-- the first place of a site's outputs, of its out-queue, of its in-queues, of its counts; the places of a site
 abbrev pub outputsFrom : ℕ
 outputsFrom = inputCount
 
@@ -22,11 +22,18 @@ leavingFrom = outputsFrom + outputCount
 abbrev pub arrivedFrom : ℕ
 arrivedFrom = leavingFrom + queueRoom
 
-abbrev pub countsPlace : ℕ
-countsPlace = arrivedFrom + queueRoom
+abbrev pub countsFrom : ℕ
+countsFrom = arrivedFrom + inQueueCount * queueRoom
 
 abbrev pub sitePlaces : ℕ
-sitePlaces = countsPlace + 1
+sitePlaces = countsFrom + 1 + inQueueCount
+
+-- the place of entry m of in-queue q, and of the count of in-queue q; the out-queue's count is at countsFrom
+abbrev pub arrivedPlace : ℕ → ℕ → ℕ
+arrivedPlace q m = arrivedFrom + (queueRoom * q + m)
+
+abbrev pub countPlace : ℕ → ℕ
+countPlace q = countsFrom + 1 + q
 
 -- the counter's word, and how many words there are
 abbrev pub counterAt : ℕ

@@ -7,7 +7,7 @@ use lib.ListN.{length, getD, set}
 use Rattle.types.specs.declared.OutEntry.{OutEntry}
 use Rattle.types.specs.declared.InEntry.{InEntry}
 use Rattle.types.specs.declared.Site.{Site}
-use Rattle.model.specs.Types.{withOutQueue, withInQueue}
+use Rattle.model.specs.Types.{queueAt, withOutQueue, setQueue}
 use Rattle.layout.specs.Layout.{counterAt, wordCount, setIndex, fieldsIndex}
 use Rattle.layout.specs.Words.{sitesOf, canonical}
 
@@ -28,7 +28,7 @@ pub record Counted (c d : List ℕ) (xs : List Site) (k : ℕ) : Type 0 where
   pub counter : getD d counterAt 0 ≡ k
   pub kept : canonical c ≡ true → canonical d ≡ true
 
--- a site with an entry of a queue changed, or all of them, or a queue's count
+-- a site with an entry of a queue changed, or all of them, or a queue's count; q is an in-queue's number
 abbrev pub leavingSet : Site → ℕ → OutEntry → Site
 leavingSet x m u = withOutQueue x (record { entries = set (x .outgoing .entries) m u; count = x .outgoing .count })
 
@@ -38,11 +38,11 @@ leavingAll x us = withOutQueue x (record { entries = us; count = x .outgoing .co
 abbrev pub leavingCount : Site → ℕ → Site
 leavingCount x m = withOutQueue x (record { entries = x .outgoing .entries; count = m })
 
-abbrev pub arrivedSet : Site → ℕ → InEntry → Site
-arrivedSet x m a = withInQueue x (record { entries = set (x .incoming .entries) m a; count = x .incoming .count })
+abbrev pub arrivedSet : Site → ℕ → ℕ → InEntry → Site
+arrivedSet x q m a = setQueue x q (record { entries = set (queueAt x q .entries) m a; count = queueAt x q .count })
 
-abbrev pub arrivedAll : Site → List InEntry → Site
-arrivedAll x es = withInQueue x (record { entries = es; count = x .incoming .count })
+abbrev pub arrivedAll : Site → ℕ → List InEntry → Site
+arrivedAll x q es = setQueue x q (record { entries = es; count = queueAt x q .count })
 
-abbrev pub arrivedCount : Site → ℕ → Site
-arrivedCount x m = withInQueue x (record { entries = x .incoming .entries; count = m })
+abbrev pub arrivedCount : Site → ℕ → ℕ → Site
+arrivedCount x q m = setQueue x q (record { entries = queueAt x q .entries; count = m })
