@@ -56,65 +56,74 @@ pub record Part (A : Type 0) : Type 0 where
   pub n : ℕ
   pub get : Site → List A
   pub put : Site → List A → Site
-  pub got : (x : Site) → length (x .incoming) ≡ inQueueCount → (l : List A) → get (put x l) ≡ l
-  pub last : (x : Site) → length (x .incoming) ≡ inQueueCount → (k l : List A) → put (put x k) l ≡ put x l
   pub same : (x : Site) → put x (get x) ≡ x
-  pub room : (c : List ℕ) (s : ℕ) → s < sitesMost → length (get (siteAt (sitesOf c) s)) ≡ n
+
+-- what is written is read again, the last one written
+pub record Kept {A : Type 0} (P : Part A) : Type 0 where
+  pub got : (x : Site) → length (x .incoming) ≡ inQueueCount → (l : List A) → P .get (P .put x l) ≡ l
+  pub last : (x : Site) → length (x .incoming) ≡ inQueueCount → (k l : List A) → P .put (P .put x k) l ≡ P .put x l
+  pub room : (c : List ℕ) (s : ℕ) → s < sitesMost → length (P .get (siteAt (sitesOf c) s)) ≡ P .n
 
 abbrev pub outputsPart : Part Output
-outputsPart =
+outputsPart = record { d = noOutput; n = outputCount; get = λ x. x .outputs; put = withOutputs; same = λ x. refl }
+
+pub outputs-kept : Kept outputsPart
+outputs-kept =
     record {
-      d = noOutput;
-      n = outputCount;
-      get = λ x. x .outputs;
-      put = withOutputs;
       got = λ x h l. refl;
       last = λ x h k l. refl;
-      same = λ x. refl;
       room = λ c s h. ap (λ (x : Site). length (x .outputs)) (site-at c s h) ∙ six-outputs c s;
     }
 
 abbrev pub leavingPart : Part OutEntry
-leavingPart =
+leavingPart = record { d = noOutEntry; n = queueRoom; get = λ x. x .outgoing .entries; put = leavingAll; same = λ x. refl }
+
+pub leaving-kept : Kept leavingPart
+leaving-kept =
     record {
-      d = noOutEntry;
-      n = queueRoom;
-      get = λ x. x .outgoing .entries;
-      put = leavingAll;
       got = λ x h l. refl;
       last = λ x h k l. refl;
-      same = λ x. refl;
       room = λ c s h. ap (λ (x : Site). length (x .outgoing .entries)) (site-at c s h) ∙ eight-leaving c s;
     }
 
--- the site x with in-queue q written twice, or read again
+-- the site x with in-queue q written and read, or written twice
 module _ (x : Site) (q : ℕ) (g : q < inQueueCount) (h : length (x .incoming) ≡ inQueueCount) where
-  pub queue-got : (iq : InQueue) → queueAt (setQueue x q iq) q ≡ iq
+  queue-got : (iq : InQueue) → queueAt (setQueue x q iq) q ≡ iq
   queue-got iq = getD-set-same (x .incoming) q iq inQueueD (omega arith)
 
-  pub queue-last : (f : InQueue → InQueue) (iq : InQueue) → setQueue (setQueue x q iq) q (f (queueAt (setQueue x q iq) q)) ≡ setQueue x q (f iq)
+  queue-last : (f : InQueue → InQueue) (iq : InQueue) → setQueue (setQueue x q iq) q (f (queueAt (setQueue x q iq) q)) ≡ setQueue x q (f iq)
   queue-last f iq = ap (λ (z : InQueue). setQueue (setQueue x q iq) q (f z)) (queue-got iq) ∙ ap (withInQueues x) (set-set (x .incoming) q iq (f iq))
 
--- the entries, then the count
-pub queue-whole : (x : Site) (q : ℕ) → q < inQueueCount → length (x .incoming) ≡ inQueueCount → (iq : InQueue)
-    → arrivedCount (arrivedAll x q (iq .entries)) q (iq .count) ≡ setQueue x q iq
-queue-whole x q g h iq = queue-last x q g h (λ z. record { entries = z .entries; count = iq .count }) _
-
-queues : (c : List ℕ) (s : ℕ) → s < sitesMost → length (siteAt (sitesOf c) s .incoming) ≡ inQueueCount
-queues c s h = ap (λ (x : Site). length (x .incoming)) (site-at c s h) ∙ two-queues c s
-
-abbrev pub arrivedPart : (q : ℕ) → q < inQueueCount → Part InEntry
-arrivedPart q g =
+abbrev pub arrivedPart : ℕ → Part InEntry
+arrivedPart q =
     record {
       d = noInEntry;
       n = queueRoom;
       get = λ x. queueAt x q .entries;
       put = λ x l. arrivedAll x q l;
+      same = λ x. ap (withInQueues x) (set-getD (x .incoming) q inQueueD);
+    }
+
+pub arrived-kept : (q : ℕ) → q < inQueueCount → Kept (arrivedPart q)
+arrived-kept q g =
+    record {
       got = λ x h l. ap (λ (iq : InQueue). iq .entries) (queue-got x q g h _);
       last = λ x h k l. queue-last x q g h (λ z. record { entries = l; count = z .count }) _;
-      same = λ x. ap (withInQueues x) (set-getD (x .incoming) q inQueueD);
       room = λ c s h. ap (λ (x : Site). length (queueAt x q .entries)) (site-at c s h) ∙ eight-arrived c s q g;
     }
+
+queues : (c : List ℕ) (s : ℕ) → s < sitesMost → length (siteAt (sitesOf c) s .incoming) ≡ inQueueCount
+queues c s h = ap (λ (x : Site). length (x .incoming)) (site-at c s h) ∙ two-queues c s
+
+-- an in-queue's entries, then its count
+pub then-count : (c d e : List ℕ) (s q : ℕ) (iq : InQueue) → s < sitesMost → q < inQueueCount
+    → Stored c d (setSite (sitesOf c) s (arrivedAll (siteAt (sitesOf c) s) q (iq .entries)))
+    → Stored d e (setSite (sitesOf d) s (arrivedCount (siteAt (sitesOf d) s) q (iq .count)))
+    → Stored c e (setSite (sitesOf c) s (setQueue (siteAt (sitesOf c) s) q iq))
+then-count c d e s q iq hs g p r =
+    let t = then-own c d e s _ (λ x. arrivedCount x q (iq .count)) hs p r in
+    let f = queue-last (siteAt (sitesOf c) s) q g (queues c s hs) (λ z. record { entries = z .entries; count = iq .count }) _ in
+    record { size = t .size; sites = t .sites ∙ ap (setSite (sitesOf c) s) f; counter = t .counter; kept = t .kept }
 
 -- ---- stored one by one
 
@@ -138,22 +147,22 @@ module _ {A : Type 0} (P : Part A) where
       let f : setSite (sitesOf c) s (filled x l 0) ≡ sitesOf c = ap (setSite (sitesOf c) s) e ∙ set-getD (sitesOf c) s siteD in
       record { size = h; sites = sym f; counter = refl; kept = λ ok. ok }
 
-  pub one-filled : (c d e : List ℕ) (s : ℕ) (l : List A) (k : ℕ) → s < sitesMost → k < P .n → Filled c d s l k
+  pub one-filled : Kept P → (c d e : List ℕ) (s : ℕ) (l : List A) (k : ℕ) → s < sitesMost → k < P .n → Filled c d s l k
       → Stored d e (setSite (sitesOf d) s (P .put (siteAt (sitesOf d) s) (set (P .get (siteAt (sitesOf d) s)) k (getD l k (P .d)))))
       → Filled c e s l (k + 1)
-  one-filled c d e s l k hs hk p q =
+  one-filled K c d e s l k hs hk p q =
       let x = siteAt (sitesOf c) s in
       let v = getD l k (P .d) in
-      let r = P .room c s hs in
+      let r = K .room c s hs in
       let m = ap (P .put x) (over-more (λ i. getD l i (P .d)) k (P .get x) (omega arith)) in
       let f = queues c s hs in
-      let g = ap (λ (z : List A). P .put (filled x l k) (set z k v)) (P .got x f _) ∙ P .last x f _ _ in
+      let g = ap (λ (z : List A). P .put (filled x l k) (set z k v)) (K .got x f _) ∙ K .last x f _ _ in
       let t = then-own c d e s (filled x l k) (λ y. P .put y (set (P .get y) k v)) hs p q in
       record { size = t .size; sites = t .sites ∙ ap (setSite (sitesOf c) s) (g ∙ m); counter = t .counter; kept = t .kept }
 
-  pub all-filled : (c e : List ℕ) (s : ℕ) (l : List A) (k : ℕ) → s < sitesMost → length l ≡ P .n → k ≡ P .n → Filled c e s l k
+  pub all-filled : Kept P → (c e : List ℕ) (s : ℕ) (l : List A) (k : ℕ) → s < sitesMost → length l ≡ P .n → k ≡ P .n → Filled c e s l k
       → Stored c e (setSite (sitesOf c) s (P .put (siteAt (sitesOf c) s) l))
-  all-filled c e s l k hs hl hk p =
+  all-filled K c e s l k hs hl hk p =
       let x = siteAt (sitesOf c) s in
-      let f = ap (P .put x) (ap (λ (m : ℕ). over (λ i. getD l i (P .d)) m (P .get x)) hk ∙ over-all (P .n) (P .d) l (P .get x) hl (P .room c s hs)) in
+      let f = ap (P .put x) (ap (λ (m : ℕ). over (λ i. getD l i (P .d)) m (P .get x)) hk ∙ over-all (P .n) (P .d) l (P .get x) hl (K .room c s hs)) in
       record { size = p .size; sites = p .sites ∙ ap (setSite (sitesOf c) s) f; counter = p .counter; kept = p .kept }

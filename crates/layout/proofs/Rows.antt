@@ -40,6 +40,9 @@ module _ {A : Type 0} where
   rows-one (suc n) a = ap (λ (l : List A). a ∷ l) (rows-one n a)
 
   -- spelled out, entry by entry
+  pub two-rows : (f : ℕ → A) (a b : A) → a ≡ f 0 → b ≡ f 1 → (a ∷ b ∷ []) ≡ rows 2 f
+  two-rows f a b p q = rw (p, q) refl
+
   pub five-rows : (f : ℕ → A) (a b c d e : A) → a ≡ f 0 → b ≡ f 1 → c ≡ f 2 → d ≡ f 3 → e ≡ f 4 → (a ∷ b ∷ c ∷ d ∷ e ∷ []) ≡ rows 5 f
   five-rows f a b c d e p q r s t = rw (p, q, r, s, t) refl
 

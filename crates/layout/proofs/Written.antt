@@ -15,7 +15,8 @@ use Rattle.types.specs.declared.InEntry.{InEntry}
 use Rattle.types.specs.declared.InQueue.{InQueue}
 use Rattle.types.specs.declared.Site.{Site}
 use Rattle.model.specs.Types.{setSite, setIn, setOut, setQueue}
-use Rattle.layout.specs.Layout.{outputsFrom, leavingFrom, arrivedFrom, countsFrom, sitePlaces, arrivedPlace, countPlace, counterAt, wordCount, setIndex, fieldsIndex}
+use Rattle.layout.specs.Layout.{outputsFrom, leavingFrom, arrivedFrom, countsFrom, sitePlaces, arrivedPlace, countPlace}
+use Rattle.layout.specs.Layout.{counterAt, wordCount, setIndex, fieldsIndex}
 use Rattle.layout.specs.Packed.{inputFrom, outputFrom, outEntryFrom, inEntryFrom}
 use Rattle.layout.specs.Words.{setAt, fieldsAt, inputAt, outputAt, leavingAt, arrivedAt, inQueueAt, siteOf, sitesOf}
 use Rattle.layout.specs.Stored.{placed, leavingSet, leavingCount, arrivedSet, arrivedCount}
@@ -104,7 +105,8 @@ module _ (c d : List ℕ) (t : ℕ) where
   unfolding arrivedAt
   arrived-same q m e = ap₂ inEntryFrom (e .0) (e .1)
 
-pub same-queue : (a a′ : List InEntry) (k k′ : ℕ) → a ≡ a′ → k ≡ k′ → _≡_ {A = InQueue} (record { entries = a; count = k }) (record { entries = a′; count = k′ })
+pub same-queue : (a a′ : List InEntry) (k k′ : ℕ) → a ≡ a′ → k ≡ k′
+    → _≡_ {A = InQueue} (record { entries = a; count = k }) (record { entries = a′; count = k′ })
 same-queue a a′ k k′ p q = rw (p, q) refl
 
 pub same-site : (i i′ : List Input) (o o′ : List Output) (u u′ : List OutEntry) (k k′ : ℕ) (a a′ : List InQueue)

@@ -19,7 +19,7 @@ use crate::pack::output_from;
 use crate::pack::output_word;
 use layout::ARRIVED_FROM;
 use layout::COUNTER_AT;
-use layout::COUNTS_PLACE;
+use layout::COUNTS_FROM;
 use layout::LEAVING_FROM;
 use layout::OUTPUTS_FROM;
 use layout::SITE_PLACES;
@@ -38,10 +38,10 @@ fn repacked(k: usize, set: u64, w: u64) -> u64
     if k < ARRIVED_FROM {
         return out_entry_word(out_entry_from(set, w));
     }
-    if k < COUNTS_PLACE {
+    if k < COUNTS_FROM {
         return in_entry_word(in_entry_from(set, w));
     }
-    w
+    0
 }
 
 // Whether packing what place k of site s stands for gives its words again. No field set is the usual case.

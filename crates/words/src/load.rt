@@ -3,10 +3,10 @@ ghost use mathlib.Core.Path.{_≡_};
 ghost use mathlib.Core.Bool.{_&&_};
 ghost use Prim.Native.Nat.{_<_};
 ghost use lib.ListN.{length};
-ghost use Rattle.base.specs.Sizes.{sitesMost, inputCount, outputCount, queueRoom};
+ghost use Rattle.base.specs.Sizes.{sitesMost, inputCount, outputCount, inQueueCount, queueRoom};
 ghost use Rattle.types.specs.Numbers.{stateNumber};
 ghost use Rattle.types.specs.Phases.{isNone};
-ghost use Rattle.model.specs.Types.{siteAt, inAt, outAt, inEntry, carries};
+ghost use Rattle.model.specs.Types.{siteAt, inAt, outAt, queueAt, inEntry, carries};
 ghost use Rattle.model.specs.Places.{stalled};
 ghost use Rattle.layout.specs.Layout.{wordCount, sitePlaces};
 ghost use Rattle.layout.specs.Words as spec;
@@ -16,7 +16,7 @@ use crate::pack::out_entry_from;
 use crate::pack::output_from;
 use layout::ARRIVED_FROM;
 use layout::COUNTER_AT;
-use layout::COUNTS_PLACE;
+use layout::COUNTS_FROM;
 use layout::LEAVING_FROM;
 use layout::OUTPUTS_FROM;
 use layout::SITE_PLACES;
@@ -72,6 +72,7 @@ pub(crate) fn load_outputs(words: &[u64], s: usize) -> [Output; base::OUTPUTS]
         load_output(words, s, 2),
         load_output(words, s, 3),
         load_output(words, s, 4),
+        load_output(words, s, 5),
     ]
 }
 
@@ -99,29 +100,28 @@ pub(crate) fn load_out_entry(words: &[u64], s: usize, m: usize) -> OutEntry
     )
 }
 
-// Entry m of site s's in-queue.
-pub(crate) fn load_in_entry(words: &[u64], s: usize, m: usize) -> InEntry
-    requires { ⌜ (s < sitesMost) × (m < queueRoom) × (length (now words) ≡ wordCount) ⌝ }
-    ensures { λ r. ⌜ r ≡ spec.arrivedAt (now (words .entry)) s m ⌝ }
+// Entry m of site s's in-queue q.
+pub(crate) fn load_in_entry(words: &[u64], s: usize, q: usize, m: usize) -> InEntry
+    requires { ⌜ (s < sitesMost) × (q < inQueueCount) × (m < queueRoom) × (length (now words) ≡ wordCount) ⌝ }
+    ensures { λ r. ⌜ r ≡ spec.arrivedAt (now (words .entry)) s q m ⌝ }
 {
-    in_entry_from(
-        set_at(words, s, ARRIVED_FROM + m),
-        fields_at(words, s, ARRIVED_FROM + m),
-    )
+    let k = ARRIVED_FROM + (base::QUEUE * q + m);
+    in_entry_from(set_at(words, s, k), fields_at(words, s, k))
 }
 
 pub(crate) fn out_count(words: &[u64], s: usize) -> usize
     requires { ⌜ (s < sitesMost) × (length (now words) ≡ wordCount) ⌝ }
     ensures { λ r. ⌜ r ≡ siteAt (spec.sitesOf (now (words .entry))) s .outgoing .count ⌝ }
 {
-    set_at(words, s, COUNTS_PLACE) as usize
+    set_at(words, s, COUNTS_FROM) as usize
 }
 
-pub(crate) fn in_count(words: &[u64], s: usize) -> usize
-    requires { ⌜ (s < sitesMost) × (length (now words) ≡ wordCount) ⌝ }
-    ensures { λ r. ⌜ r ≡ siteAt (spec.sitesOf (now (words .entry))) s .incoming .count ⌝ }
+// The entries of site s's in-queue q.
+pub(crate) fn in_count(words: &[u64], s: usize, q: usize) -> usize
+    requires { ⌜ (s < sitesMost) × (q < inQueueCount) × (length (now words) ≡ wordCount) ⌝ }
+    ensures { λ r. ⌜ r ≡ queueAt (siteAt (spec.sitesOf (now (words .entry))) s) q .count ⌝ }
 {
-    fields_at(words, s, COUNTS_PLACE) as usize
+    set_at(words, s, COUNTS_FROM + 1 + q) as usize
 }
 
 pub(crate) fn load_out_queue(words: &[u64], s: usize) -> OutQueue
@@ -143,23 +143,31 @@ pub(crate) fn load_out_queue(words: &[u64], s: usize) -> OutQueue
     }
 }
 
-pub(crate) fn load_in_queue(words: &[u64], s: usize) -> InQueue
-    requires { ⌜ (s < sitesMost) × (length (now words) ≡ wordCount) ⌝ }
-    ensures { λ r. ⌜ r ≡ siteAt (spec.sitesOf (now (words .entry))) s .incoming ⌝ }
+// In-queue q of site s.
+pub(crate) fn load_in_queue(words: &[u64], s: usize, q: usize) -> InQueue
+    requires { ⌜ (s < sitesMost) × (q < inQueueCount) × (length (now words) ≡ wordCount) ⌝ }
+    ensures { λ r. ⌜ r ≡ queueAt (siteAt (spec.sitesOf (now (words .entry))) s) q ⌝ }
 {
     InQueue {
         entries: [
-            load_in_entry(words, s, 0),
-            load_in_entry(words, s, 1),
-            load_in_entry(words, s, 2),
-            load_in_entry(words, s, 3),
-            load_in_entry(words, s, 4),
-            load_in_entry(words, s, 5),
-            load_in_entry(words, s, 6),
-            load_in_entry(words, s, 7),
+            load_in_entry(words, s, q, 0),
+            load_in_entry(words, s, q, 1),
+            load_in_entry(words, s, q, 2),
+            load_in_entry(words, s, q, 3),
+            load_in_entry(words, s, q, 4),
+            load_in_entry(words, s, q, 5),
+            load_in_entry(words, s, q, 6),
+            load_in_entry(words, s, q, 7),
         ],
-        count: in_count(words, s),
+        count: in_count(words, s, q),
     }
+}
+
+pub(crate) fn load_in_queues(words: &[u64], s: usize) -> [InQueue; base::IN_QUEUES]
+    requires { ⌜ (s < sitesMost) × (length (now words) ≡ wordCount) ⌝ }
+    ensures { λ r. ⌜ r ≡ siteAt (spec.sitesOf (now (words .entry))) s .incoming ⌝ }
+{
+    [load_in_queue(words, s, 0), load_in_queue(words, s, 1)]
 }
 
 pub(crate) fn load_site(words: &[u64], s: usize) -> Site
@@ -169,7 +177,7 @@ pub(crate) fn load_site(words: &[u64], s: usize) -> Site
     let inputs = load_inputs(words, s);
     let outputs = load_outputs(words, s);
     let outgoing = load_out_queue(words, s);
-    let incoming = load_in_queue(words, s);
+    let incoming = load_in_queues(words, s);
     Site {
         inputs,
         outputs,
@@ -233,10 +241,10 @@ pub(crate) fn feeder_of(words: &[u64], s: usize) -> usize
     (fields_at(words, s, OUTPUTS_FROM) / 256 % 256) as usize
 }
 
-// Whether the in-queue's front entry lacks a terminator.
-pub(crate) fn front_lacks(words: &[u64], s: usize) -> bool
-    requires { ⌜ (s < sitesMost) × (length (now words) ≡ wordCount) ⌝ }
-    ensures { λ r. ⌜ r ≡ isNone (inEntry (siteAt (spec.sitesOf (now (words .entry))) s .incoming) 0 .terminator) ⌝ }
+// Whether the front entry of in-queue q lacks a terminator.
+pub(crate) fn front_lacks(words: &[u64], s: usize, q: usize) -> bool
+    requires { ⌜ (s < sitesMost) × (q < inQueueCount) × (length (now words) ≡ wordCount) ⌝ }
+    ensures { λ r. ⌜ r ≡ isNone (inEntry (queueAt (siteAt (spec.sitesOf (now (words .entry))) s) q) 0 .terminator) ⌝ }
 {
-    fields_at(words, s, ARRIVED_FROM) % 4 == 0
+    fields_at(words, s, ARRIVED_FROM + base::QUEUE * q) % 4 == 0
 }

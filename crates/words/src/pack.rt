@@ -3,6 +3,7 @@ ghost use mathlib.Core.Path.{_≡_};
 ghost use Prim.Native.Nat.{_<_, _≤_};
 ghost use lib.ListN.{length};
 ghost use Rattle.base.specs.Bools.{count};
+ghost use Rattle.base.specs.Sizes.{outputCount};
 ghost use Rattle.types.specs.Numbers.{connectionOf};
 ghost use Rattle.layout.specs.Packed as spec;
 use types::Connection;
@@ -42,7 +43,10 @@ fn connection_at(m: u64) -> Connection
     if m == 4 {
         return Connection::SomeLocal;
     }
-    Connection::Handed
+    if m == 5 {
+        return Connection::Handed;
+    }
+    Connection::Branch
 }
 
 fn received_at(m: u64) -> Received
@@ -143,25 +147,27 @@ pub(crate) fn input_from(set: u64, w: u64) -> Input
             w / 1024 % 2 == 1,
             w / 2048 % 2 == 1,
             w / 4096 % 2 == 1,
+            w / 8192 % 2 == 1,
         ],
         packet: (w / 65536 % 256) as u8,
         tries: (w / 16777216 % 256) as u8,
     }
 }
 
-// The marks of outputs 0 to 4, each at its bit of a net-input's word.
+// The marks of outputs 0 to 5, each at its bit of a net-input's word.
 fn marks_word(marks: [bool; base::OUTPUTS]) -> u64
-    ensures { λ r. ⌜ (r ≡ spec.marksWord marks) × (r < 65536) × (length marks ≡ 5) ⌝ }
+    ensures { λ r. ⌜ (r ≡ spec.marksWord marks) × (r < 65536) × (length marks ≡ outputCount) ⌝ }
 {
     256 * bit(marks[0])
         + 512 * bit(marks[1])
         + 1024 * bit(marks[2])
         + 2048 * bit(marks[3])
         + 4096 * bit(marks[4])
+        + 8192 * bit(marks[5])
 }
 
 pub(crate) fn input_word(input: Input) -> u64
-    ensures { λ r. ⌜ (r ≡ spec.inputWord input) × (input .packet < 256) × (input .tries < 256) × (length (input .outputs) ≡ 5) ⌝ }
+    ensures { λ r. ⌜ (r ≡ spec.inputWord input) × (input .packet < 256) × (input .tries < 256) × (length (input .outputs) ≡ outputCount) ⌝ }
 {
     let phase = input.phase;
     let marks = input.outputs;

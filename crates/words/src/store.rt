@@ -2,8 +2,8 @@
 ghost use mathlib.Core.Path.{_≡_};
 ghost use Prim.Native.Nat.{_<_};
 ghost use lib.ListN.{length};
-ghost use Rattle.base.specs.Sizes.{sitesMost, inputCount, outputCount, queueRoom};
-ghost use Rattle.model.specs.Types.{siteAt, setSite, setIn, withOutputs, setOut, withOutQueue, withInQueue};
+ghost use Rattle.base.specs.Sizes.{sitesMost, inputCount, outputCount, inQueueCount, queueRoom};
+ghost use Rattle.model.specs.Types.{siteAt, setSite, setIn, withOutputs, setOut, setQueue, withOutQueue};
 ghost use Rattle.layout.specs.Layout.{wordCount, sitePlaces};
 ghost use Rattle.layout.specs.Words.{sitesOf};
 ghost use Rattle.layout.specs.Stored.{placed, Stored, Counted, leavingSet, leavingAll, leavingCount, arrivedSet, arrivedAll, arrivedCount};
@@ -13,7 +13,7 @@ use crate::pack::out_entry_word;
 use crate::pack::output_word;
 use layout::ARRIVED_FROM;
 use layout::COUNTER_AT;
-use layout::COUNTS_PLACE;
+use layout::COUNTS_FROM;
 use layout::LEAVING_FROM;
 use layout::OUTPUTS_FROM;
 use layout::SITE_PLACES;
@@ -57,7 +57,7 @@ pub(crate) fn store_output(words: &mut [u64], s: usize, j: usize, output: Output
     store_place(words, s, OUTPUTS_FROM + j, set, w);
 }
 
-// The five outputs of site s.
+// The outputs of site s.
 pub(crate) fn store_outputs(words: &mut [u64], s: usize, outputs: [Output; base::OUTPUTS])
     requires { ⌜ (s < sitesMost) × (length (now words) ≡ wordCount) ⌝ }
     ensures { λ _. ⌜
@@ -86,17 +86,17 @@ pub(crate) fn store_out_entry(words: &mut [u64], s: usize, m: usize, entry: OutE
     store_place(words, s, LEAVING_FROM + m, set, w);
 }
 
-// Entry m of site s's in-queue, the count as it was.
-pub(crate) fn store_in_entry(words: &mut [u64], s: usize, m: usize, entry: InEntry)
-    requires { ⌜ (s < sitesMost) × (m < queueRoom) × (length (now words) ≡ wordCount) ⌝ }
+// Entry m of site s's in-queue q, the count as it was.
+pub(crate) fn store_in_entry(words: &mut [u64], s: usize, q: usize, m: usize, entry: InEntry)
+    requires { ⌜ (s < sitesMost) × (q < inQueueCount) × (m < queueRoom) × (length (now words) ≡ wordCount) ⌝ }
     ensures { λ _. ⌜
         Stored (now (words .entry)) (now (words .exit))
-        (setSite (sitesOf (now (words .entry))) s (arrivedSet (siteAt (sitesOf (now (words .entry))) s) m entry))
+        (setSite (sitesOf (now (words .entry))) s (arrivedSet (siteAt (sitesOf (now (words .entry))) s) q m entry))
         ⌝ }
 {
     let set = entry.set;
     let w = in_entry_word(entry);
-    store_place(words, s, ARRIVED_FROM + m, set, w);
+    store_place(words, s, ARRIVED_FROM + (base::QUEUE * q + m), set, w);
 }
 
 // The entries of site s's out-queue, the count as it was.
@@ -115,23 +115,23 @@ fn store_out_entries(words: &mut [u64], s: usize, entries: [OutEntry; base::QUEU
     }
 }
 
-// The entries of site s's in-queue, the count as it was.
-fn store_in_entries(words: &mut [u64], s: usize, entries: [InEntry; base::QUEUE])
-    requires { ⌜ (s < sitesMost) × (length (now words) ≡ wordCount) ⌝ }
+// The entries of site s's in-queue q, the count as it was.
+fn store_in_entries(words: &mut [u64], s: usize, q: usize, entries: [InEntry; base::QUEUE])
+    requires { ⌜ (s < sitesMost) × (q < inQueueCount) × (length (now words) ≡ wordCount) ⌝ }
     ensures { λ _. ⌜
         Stored (now (words .entry)) (now (words .exit))
-        (setSite (sitesOf (now (words .entry))) s (arrivedAll (siteAt (sitesOf (now (words .entry))) s) entries))
+        (setSite (sitesOf (now (words .entry))) s (arrivedAll (siteAt (sitesOf (now (words .entry))) s) q entries))
         ⌝ }
 {
     let mut m: usize = 0;
     while m < base::QUEUE {
         let entry = entries[m];
-        store_in_entry(words, s, m, entry);
+        store_in_entry(words, s, q, m, entry);
         m += 1;
     }
 }
 
-// The counts of site s's queues.
+// The counts of site s's queues; the word beside a count stays.
 pub(crate) fn store_out_count(words: &mut [u64], s: usize, count: usize)
     requires { ⌜ (s < sitesMost) × (length (now words) ≡ wordCount) ⌝ }
     ensures { λ _. ⌜
@@ -139,17 +139,17 @@ pub(crate) fn store_out_count(words: &mut [u64], s: usize, count: usize)
         (setSite (sitesOf (now (words .entry))) s (leavingCount (siteAt (sitesOf (now (words .entry))) s) count))
         ⌝ }
 {
-    words[2 * (SITE_PLACES * s + COUNTS_PLACE)] = count as u64;
+    words[2 * (SITE_PLACES * s + COUNTS_FROM)] = count as u64;
 }
 
-pub(crate) fn store_in_count(words: &mut [u64], s: usize, count: usize)
-    requires { ⌜ (s < sitesMost) × (length (now words) ≡ wordCount) ⌝ }
+pub(crate) fn store_in_count(words: &mut [u64], s: usize, q: usize, count: usize)
+    requires { ⌜ (s < sitesMost) × (q < inQueueCount) × (length (now words) ≡ wordCount) ⌝ }
     ensures { λ _. ⌜
         Stored (now (words .entry)) (now (words .exit))
-        (setSite (sitesOf (now (words .entry))) s (arrivedCount (siteAt (sitesOf (now (words .entry))) s) count))
+        (setSite (sitesOf (now (words .entry))) s (arrivedCount (siteAt (sitesOf (now (words .entry))) s) q count))
         ⌝ }
 {
-    words[2 * (SITE_PLACES * s + COUNTS_PLACE) + 1] = count as u64;
+    words[2 * (SITE_PLACES * s + (COUNTS_FROM + 1 + q))] = count as u64;
 }
 
 pub(crate) fn store_out_queue(words: &mut [u64], s: usize, queue: OutQueue)
@@ -165,17 +165,17 @@ pub(crate) fn store_out_queue(words: &mut [u64], s: usize, queue: OutQueue)
     store_out_count(words, s, count);
 }
 
-pub(crate) fn store_in_queue(words: &mut [u64], s: usize, queue: InQueue)
-    requires { ⌜ (s < sitesMost) × (length (now words) ≡ wordCount) ⌝ }
+pub(crate) fn store_in_queue(words: &mut [u64], s: usize, q: usize, queue: InQueue)
+    requires { ⌜ (s < sitesMost) × (q < inQueueCount) × (length (now words) ≡ wordCount) ⌝ }
     ensures { λ _. ⌜
         Stored (now (words .entry)) (now (words .exit))
-        (setSite (sitesOf (now (words .entry))) s (withInQueue (siteAt (sitesOf (now (words .entry))) s) queue))
+        (setSite (sitesOf (now (words .entry))) s (setQueue (siteAt (sitesOf (now (words .entry))) s) q queue))
         ⌝ }
 {
     let count = queue.count;
     let entries = queue.entries;
-    store_in_entries(words, s, entries);
-    store_in_count(words, s, count);
+    store_in_entries(words, s, q, entries);
+    store_in_count(words, s, q, count);
 }
 
 // The counter's word.

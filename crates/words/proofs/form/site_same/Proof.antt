@@ -16,7 +16,7 @@ abbrev Inv-loop : tie.InvT-loop
 Inv-loop words s ok₀ k₀ ok k = (k ≤ sitePlaces) × (ok ≡ all (placeSame words s) k)
 
 abbrev μ-loop : tie.MeasureT-loop
-μ-loop words s ok₀ k₀ ok k = 27 - k
+μ-loop words s ok₀ k₀ ok k = 38 - k
 
 -- src/form.rt:64:5
 loop-holds : tie.Need-loop-holds Inv-loop μ-loop
@@ -40,7 +40,7 @@ loop-again c = (search needs, all-next _ (c .before .before .loop .k) _ _ (c .be
 
 -- src/form.rt:58:1
 returns : tie.Need-returns Inv-loop μ-loop
-returns c = all-end _ 27 (c .before .loop .k) _ (c .before .loop .inv .0) (search needs) (c .before .loop .inv .1)
+returns c = all-end _ 38 (c .before .loop .k) _ (c .before .loop .inv .0) (search needs) (c .before .loop .inv .1)
 
 pub site-same-spec : {M : Type 1} → statement M
 site-same-spec =

@@ -10,27 +10,31 @@ use Rattle.words.proofs.load.fields_at.Reads as fields-at-reads
 use Rattle.words.proofs.load.set_at.Reads as set-at-reads
 use Rattle.words.proofs.pack.in_entry_from.Reads as in-entry-from-reads
 
--- src/load.rt:106:26
-add-set-at : tie.Need-add-set-at
-add-set-at c = search needs
+-- src/load.rt:108:29
+mul-k : tie.Need-mul-k
+mul-k c = search needs
 
--- src/load.rt:106:9
+-- src/load.rt:108:29
+add-k : tie.Need-add-k
+add-k c = search needs
+
+-- src/load.rt:108:13
+add-k-2 : tie.Need-add-k-2
+add-k-2 c = search needs
+
+-- src/load.rt:109:19
 set-at-requires : tie.Need-set-at-requires
 set-at-requires c κs = search needs
 
--- src/load.rt:107:29
-add-fields-at : tie.Need-add-fields-at
-add-fields-at c = search needs
-
--- src/load.rt:107:9
+-- src/load.rt:109:40
 fields-at-requires : tie.Need-fields-at-requires
 fields-at-requires c κs = search needs
 
--- src/load.rt:105:5
+-- src/load.rt:109:5
 in-entry-from-requires : tie.Need-in-entry-from-requires
 in-entry-from-requires c κs = search needs
 
--- src/load.rt:101:1
+-- src/load.rt:104:1
 returns : tie.Need-returns
 unfolding arrivedAt
 returns c = c .in-entry-from .ensures ∙ ap₂ inEntryFrom (c .before .before .set-at .ensures) (c .before .fields-at .ensures)
@@ -39,9 +43,10 @@ pub load-in-entry-spec : {M : Type 1} → statement M
 load-in-entry-spec =
     tie.close
     (tie.spec
-    add-set-at
+    mul-k
+    add-k
+    add-k-2
     set-at-requires
-    add-fields-at
     fields-at-requires
     in-entry-from-requires
     returns)

@@ -9,27 +9,27 @@ use Rattle.words.proofs.pack.connection_at.Reads as connection-at-reads
 use Rattle.words.proofs.pack.phase_at.Reads as phase-at-reads
 use Rattle.words.proofs.pack.received_at.Reads as received-at-reads
 
--- src/pack.rt:134:9
+-- src/pack.rt:138:9
 connection-at-requires : tie.Need-connection-at-requires
 connection-at-requires c κs = search needs
 
--- src/pack.rt:135:9
+-- src/pack.rt:139:9
 received-at-requires : tie.Need-received-at-requires
 received-at-requires c κs = search needs
 
--- src/pack.rt:136:9
+-- src/pack.rt:140:9
 phase-at-requires : tie.Need-phase-at-requires
 phase-at-requires c κs = search needs
 
--- src/pack.rt:147:17
-cast-t24 : tie.Need-cast-t24
-cast-t24 c = search needs
-
--- src/pack.rt:148:16
+-- src/pack.rt:152:17
 cast-t27 : tie.Need-cast-t27
 cast-t27 c = search needs
 
--- src/pack.rt:131:1
+-- src/pack.rt:153:16
+cast-t30 : tie.Need-cast-t30
+cast-t30 c = search needs
+
+-- src/pack.rt:135:1
 returns : tie.Need-returns
 unfolding inputFrom
 returns c = rw (c .phase-at .ensures, c .before .received-at .ensures, c .before .before .connection-at .ensures) refl
@@ -41,6 +41,6 @@ input-from-spec =
     connection-at-requires
     received-at-requires
     phase-at-requires
-    cast-t24
     cast-t27
+    cast-t30
     returns)

@@ -1,5 +1,4 @@
-use Rattle.layout.specs.Stored.{arrivedCount}
-use Rattle.layout.proofs.Chained.{then-own}
+use Rattle.layout.proofs.Chained.{then-count}
 use borrow.Author.Needs.{needs}
 use Rattle.words.proofs.store.store_in_queue.Statement.{statement}
 use Rattle.words.proofs.store.store_in_queue.Tie as tie
@@ -25,7 +24,7 @@ returns : tie.Need-returns
 returns c =
     let b = c .before .before .before .before .before in
     let a = b .before .before .before .before .before in
-    then-own _ _ _ (a .args .s) _ (λ x. arrivedCount x (a .args .queue .count)) (a .pre .0) (b .before .store-in-entries .ensures)
+    then-count _ _ _ (a .args .s) (a .args .q) (a .args .queue) (a .pre .0) (a .pre .1) (b .before .store-in-entries .ensures)
     (c .before .before .store-in-count .ensures)
 
 pub store-in-queue-spec : {M : Type 1} → statement M

@@ -3,7 +3,7 @@ use Prim.Native.Nat.{_≤_, _-_}
 use lib.ListN.{length}
 use native.Mathlib.Omega.{arith}
 use Rattle.base.specs.Sizes.{queueRoom}
-use Rattle.layout.proofs.Chained.{leavingPart, Filled, none-filled, one-filled, all-filled}
+use Rattle.layout.proofs.Chained.{leavingPart, leaving-kept, Filled, none-filled, one-filled, all-filled}
 use native.Mathlib.Omega.{arith}
 use borrow.Author.Needs.{needs}
 use Rattle.words.proofs.store.store_out_entries.Statement.{statement}
@@ -53,7 +53,7 @@ loop-again c =
     let b = c .before .before .before .before in
     let a = b .before .before .before .before in (
       omega arith,
-      one-filled leavingPart _ _ _ _ (a .args .t3) _ (a .pre .0) (b .before .loop-test .taken) (l .inv .1)
+      one-filled leavingPart leaving-kept _ _ _ _ (a .args .t3) _ (a .pre .0) (b .before .loop-test .taken) (l .inv .1)
           (c .before .before .store-out-entry .ensures),
     )
 
@@ -65,7 +65,7 @@ same-length c = c .before .loop .inv .1 .size ∙ sym (c .before .before .before
 returns : tie.Need-returns Inv-loop μ-loop
 returns c =
     let e : length (c .before .before .before .args .t3) ≡ 8 = search needs in
-    all-filled leavingPart _ _ _ _ (c .before .loop .m) (c .before .before .before .pre .0) e (omega arith) (c .before .loop .inv .1)
+    all-filled leavingPart leaving-kept _ _ _ _ (c .before .loop .m) (c .before .before .before .pre .0) e (omega arith) (c .before .loop .inv .1)
 
 pub store-out-entries-spec : {M : Type 1} → statement M
 store-out-entries-spec =

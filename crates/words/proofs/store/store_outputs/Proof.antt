@@ -3,7 +3,7 @@ use Prim.Native.Nat.{_≤_, _-_}
 use lib.ListN.{length}
 use native.Mathlib.Omega.{arith}
 use Rattle.base.specs.Sizes.{outputCount}
-use Rattle.layout.proofs.Chained.{outputsPart, Filled, none-filled, one-filled, all-filled}
+use Rattle.layout.proofs.Chained.{outputsPart, outputs-kept, Filled, none-filled, one-filled, all-filled}
 use native.Mathlib.Omega.{arith}
 use borrow.Author.Needs.{needs}
 use Rattle.words.proofs.store.store_outputs.Statement.{statement}
@@ -16,7 +16,7 @@ abbrev Inv-loop : tie.InvT-loop
 Inv-loop words₀ s outputs j₀ words j = (j ≤ outputCount) × Filled outputsPart words₀ words s outputs j
 
 abbrev μ-loop : tie.MeasureT-loop
-μ-loop words₀ s outputs j₀ words j = 5 - j
+μ-loop words₀ s outputs j₀ words j = outputCount - j
 
 -- src/store.rt:51:5
 loop-holds : tie.Need-loop-holds Inv-loop μ-loop
@@ -53,7 +53,7 @@ loop-again c =
     let b = c .before .before .before .before in
     let a = b .before .before .before .before in (
       omega arith,
-      one-filled outputsPart _ _ _ _ (a .args .t3) _ (a .pre .0) (b .before .loop-test .taken) (l .inv .1)
+      one-filled outputsPart outputs-kept _ _ _ _ (a .args .t3) _ (a .pre .0) (b .before .loop-test .taken) (l .inv .1)
           (c .before .before .store-output .ensures),
     )
 
@@ -64,8 +64,8 @@ same-length c = c .before .loop .inv .1 .size ∙ sym (c .before .before .before
 -- src/store.rt:46:1
 returns : tie.Need-returns Inv-loop μ-loop
 returns c =
-    let e : length (c .before .before .before .args .t3) ≡ 5 = search needs in
-    all-filled outputsPart _ _ _ _ (c .before .loop .j) (c .before .before .before .pre .0) e (omega arith) (c .before .loop .inv .1)
+    let e : length (c .before .before .before .args .t3) ≡ outputCount = search needs in
+    all-filled outputsPart outputs-kept _ _ _ _ (c .before .loop .j) (c .before .before .before .pre .0) e (omega arith) (c .before .loop .inv .1)
 
 pub store-outputs-spec : {M : Type 1} → statement M
 store-outputs-spec =
