@@ -1,7 +1,7 @@
 -- What RUN decides and what its code has stored. Assumes what each law names.
 use mathlib.Core.Path.{_≡_, refl, sym, ap, ap₂, subst, _∙_}
 use mathlib.Core.List.{List}
-use mathlib.Core.Bool.{Bool, true, false, not, _||_}
+use mathlib.Core.Bool.{Bool, true, false, not, _||_, or-true}
 use Prim.Native.Nat.{ℕ, suc, _+_}
 use native.Mathlib.Numerals.{add-one}
 use borrow.Author.Tests.{eq-eqb}
@@ -15,7 +15,8 @@ use Rattle.types.specs.declared.Site.{Site}
 use Rattle.types.specs.declared.Network.{Network}
 use Rattle.types.specs.declared.Ran.the-variants.{the-data as Ran, Nothing, Changed, Serviced}
 use Rattle.types.specs.Phases.{isNone}
-use Rattle.model.specs.Types.{inAt, outAt, inEntry, setSite, setIn, setOut, withInQueue, withOutQueue}
+use Rattle.draws.specs.Draws.{restricted}
+use Rattle.model.specs.Types.{inAt, outAt, queueAt, inEntry, queuePort, setSite, setIn, setOut, setQueue, withOutQueue}
 use Rattle.model.specs.Network.{channel, isChannel}
 use Rattle.model.specs.NetInput.{Turn, Stay, To}
 use Rattle.model.specs.Places.{Work, Rest, Cleared, Service, localOutput, channelOutput, outQueue, operator, timeout, stalled}
@@ -39,20 +40,21 @@ use Rattle.theorems.proofs.Editions.{unjoined}
 
 -- ---- the arms that have nothing to do
 
-pub local-idle : (D : ℕ) (x : Site) → atRest (outAt x 0) ≡ true → localAct D x ≡ Idle
-local-idle D x h = ap (ownTurn (λ o iq. setOut (withInQueue x iq) 0 o)) (local-rests D (outAt x 0) (x .incoming) h)
+pub local-idle : (D : ℕ) (x : Site) (q : ℕ) → atRest (outAt x (queuePort q)) ≡ true → localAct D x q ≡ Idle
+local-idle D x q h =
+    ap (ownTurn (λ o iq. setOut (setQueue x q iq) (queuePort q) o)) (local-rests D (outAt x (queuePort q)) (queueAt x q) h)
 
 pub queue-idle : (x : Site) → eqb (x .outgoing .count) 0 ≡ true → queueAct x ≡ Idle
 queue-idle x h = ap (ownTurn (λ oq y. setIn (withOutQueue x oq) 0 y)) (queue-rests (x .outgoing) (inAt x 0) h)
 
-pub operator-idle : (D s : ℕ) (x : Site) → (eqb (x .incoming .count) 0 || isNone (inEntry (x .incoming) 0 .terminator)) ≡ true
-    → operatorAct D s x ≡ Idle
-operator-idle D s x h = ap (workDone x) (operator-rests D s (x .incoming) (x .outgoing) h)
+pub operator-idle : (D s : ℕ) (x : Site) (q : ℕ) → (eqb (queueAt x q .count) 0 || isNone (inEntry (queueAt x q) 0 .terminator)) ≡ true
+    → operatorAct D s x q ≡ Idle
+operator-idle D s x q h = ap (workDone x q) (operator-rests D s (queueAt x q) (x .outgoing) h)
 
-pub timeout-idle : (x : Site) → stalled (outAt x 0) ≡ false → timeoutAct x ≡ Idle
-timeout-idle x h =
+pub timeout-idle : (edition : ℕ) (x : Site) → (restricted edition || not (stalled (outAt x 0))) ≡ true → timeoutAct edition x ≡ Idle
+timeout-idle edition x h =
     ap (ownTurn (setBoth x (outAt x 0 .input)))
-    (timeout-rests (x .incoming) (x .outputs) (inAt x (outAt x 0 .input)) (ap not h))
+    (timeout-rests edition (queueAt x 0) (x .outputs) (inAt x (outAt x 0 .input)) h)
 
 -- an output 1 to 4 without a channel
 pub pass-none : (edition : ℕ) (o : Output) (y : Input) (b : ℕ) → isChannel b ≡ false
@@ -104,11 +106,14 @@ module _ (c d : List ℕ) (s : ℕ) (r : Ran) where
   abbrev x : Site
   x = siteIn c s
 
-  pub local-done : (D : ℕ) (w : LocalTurn) → w ≡ ofLocalTurn (outAt x 0) (x .incoming) (localOutput D (outAt x 0) (x .incoming))
-      → DidOwn c d s r (ownTurn (λ o iq. setOut (withInQueue x iq) 0 o) (localBack w)) → DidOwn c d s r (localAct D x)
-  local-done D w e p n =
-      subst (λ (t : Turn Output InQueue). Did n c d s r (ownTurn (λ o iq. setOut (withInQueue x iq) 0 o) t))
-      (ap localBack e ∙ local-back (outAt x 0) (x .incoming) (localOutput D (outAt x 0) (x .incoming))) (p n)
+  pub local-done : (D q : ℕ) (w : LocalTurn)
+      → let o = outAt x (queuePort q) in
+      w ≡ ofLocalTurn o (queueAt x q) (localOutput D o (queueAt x q))
+      → DidOwn c d s r (ownTurn (λ o iq. setOut (setQueue x q iq) (queuePort q) o) (localBack w)) → DidOwn c d s r (localAct D x q)
+  local-done D q w e p n =
+      let o = outAt x (queuePort q) in
+      subst (λ (t : Turn Output InQueue). Did n c d s r (ownTurn (λ o iq. setOut (setQueue x q iq) (queuePort q) o) t))
+      (ap localBack e ∙ local-back o (queueAt x q) (localOutput D o (queueAt x q))) (p n)
 
   pub channel-done : (edition j b : ℕ) (there : isChannel b ≡ true) (w : ChannelTurn)
       → let o = outAt x (suc j) in
@@ -128,11 +133,11 @@ module _ (c d : List ℕ) (s : ℕ) (r : Ran) where
       subst (λ (t : Turn OutQueue Input). Did n c d s r (ownTurn (λ oq y. setIn (withOutQueue x oq) 0 y) t))
       (ap queueBack e ∙ queue-back (x .outgoing) (inAt x 0) (outQueue (x .outgoing) (inAt x 0))) (p n)
 
-  pub work-done : (D : ℕ) (w : OperatorTurn) → w ≡ ofWork (x .incoming) (x .outgoing) (operator D s (x .incoming) (x .outgoing))
-      → DidOwn c d s r (workDone x (workBack w)) → DidOwn c d s r (operatorAct D s x)
-  work-done D w e p n =
-      subst (λ (t : Work). Did n c d s r (workDone x t))
-      (ap workBack e ∙ work-back (x .incoming) (x .outgoing) (operator D s (x .incoming) (x .outgoing))) (p n)
+  pub work-done : (D q : ℕ) (w : OperatorTurn) → w ≡ ofWork (queueAt x q) (x .outgoing) (operator D s (queueAt x q) (x .outgoing))
+      → DidOwn c d s r (workDone x q (workBack w)) → DidOwn c d s r (operatorAct D s x q)
+  work-done D q w e p n =
+      subst (λ (t : Work). Did n c d s r (workDone x q t))
+      (ap workBack e ∙ work-back (queueAt x q) (x .outgoing) (operator D s (queueAt x q) (x .outgoing))) (p n)
 
   -- a net-input and the outputs, whatever the rule
   pub input-done : (i : ℕ) (t : Turn Input (List Output)) (w : InputTurn) → w ≡ ofInputTurn (inAt x i) (x .outputs) t
@@ -142,12 +147,12 @@ module _ (c d : List ℕ) (s : ℕ) (r : Ran) where
       (ap inputBack e ∙ input-back (inAt x i) (x .outputs) t) (p n)
 
   -- the timeout, i being the input that feeds output 0
-  pub timeout-done : (i : ℕ) → i ≡ outAt x 0 .input → (w : InputTurn)
-      → w ≡ ofInputTurn (inAt x i) (x .outputs) (timeout (x .incoming) (x .outputs) (inAt x i))
-      → DidOwn c d s r (ownTurn (setBoth x i) (inputBack w)) → DidOwn c d s r (timeoutAct x)
-  timeout-done i e w f p n =
-      subst (λ (k : ℕ). Did n c d s r (ownTurn (setBoth x k) (timeout (x .incoming) (x .outputs) (inAt x k)))) e
-      (input-done i (timeout (x .incoming) (x .outputs) (inAt x i)) w f p n)
+  pub timeout-done : (edition i : ℕ) → i ≡ outAt x 0 .input → (w : InputTurn)
+      → w ≡ ofInputTurn (inAt x i) (x .outputs) (timeout edition (queueAt x 0) (x .outputs) (inAt x i))
+      → DidOwn c d s r (ownTurn (setBoth x i) (inputBack w)) → DidOwn c d s r (timeoutAct edition x)
+  timeout-done edition i e w f p n =
+      subst (λ (k : ℕ). Did n c d s r (ownTurn (setBoth x k) (timeout edition (queueAt x 0) (x .outputs) (inAt x k)))) e
+      (input-done i (timeout edition (queueAt x 0) (x .outputs) (inAt x i)) w f p n)
 
 -- ---- an arm that ends at its place's packed word
 
@@ -155,19 +160,25 @@ module _ (c : List ℕ) (s : ℕ) (h : length c ≡ wordCount) where
   abbrev z : Site
   z = siteIn c s
 
-  pub local-none : (D : ℕ) → atRest (outAt z 0) ≡ true → DidOwn c c s Nothing (localAct D z)
-  local-none D e n = did-nothing n c s (localAct D z) h (local-idle D z e)
+  pub local-none : (D q : ℕ) → atRest (outAt z (queuePort q)) ≡ true → DidOwn c c s Nothing (localAct D z q)
+  local-none D q e n = did-nothing n c s (localAct D z q) h (local-idle D z q e)
 
   pub queue-none : (m : ℕ) → m ≡ z .outgoing .count → m ≡ 0 → DidOwn c c s Nothing (queueAct z)
   queue-none m e f n = did-nothing n c s (queueAct z) h (queue-idle z (eq-eqb (z .outgoing .count) 0 (sym e ∙ f)))
 
-  pub operator-none : (D m : ℕ) (l : Bool) → m ≡ z .incoming .count → l ≡ isNone (inEntry (z .incoming) 0 .terminator)
-      → (eqb m 0 || l) ≡ true → DidOwn c c s Nothing (operatorAct D s z)
-  operator-none D m l e f g n =
-      did-nothing n c s (operatorAct D s z) h (operator-idle D s z (sym (ap₂ (λ (k : ℕ) (b : Bool). eqb k 0 || b) e f) ∙ g))
+  pub operator-none : (D q m : ℕ) (l : Bool) → m ≡ queueAt z q .count → l ≡ isNone (inEntry (queueAt z q) 0 .terminator)
+      → (eqb m 0 || l) ≡ true → DidOwn c c s Nothing (operatorAct D s z q)
+  operator-none D q m l e f g n =
+      did-nothing n c s (operatorAct D s z q) h (operator-idle D s z q (sym (ap₂ (λ (k : ℕ) (b : Bool). eqb k 0 || b) e f) ∙ g))
 
-  pub timeout-none : stalled (outAt z 0) ≡ false → DidOwn c c s Nothing (timeoutAct z)
-  timeout-none e n = did-nothing n c s (timeoutAct z) h (timeout-idle z e)
+  pub timeout-never : (edition : ℕ) → restricted edition ≡ true → DidOwn c c s Nothing (timeoutAct edition z)
+  timeout-never edition e n =
+      did-nothing n c s (timeoutAct edition z) h (timeout-idle edition z (ap (λ (b : Bool). b || not (stalled (outAt z 0))) e))
+
+  pub timeout-none : (edition : ℕ) → stalled (outAt z 0) ≡ false → DidOwn c c s Nothing (timeoutAct edition z)
+  timeout-none edition e n =
+      did-nothing n c s (timeoutAct edition z) h
+      (timeout-idle edition z (ap (λ (b : Bool). restricted edition || not b) e ∙ or-true (restricted edition)))
 
   module _ (edition j b : ℕ) where
     abbrev t : Turn Output Input

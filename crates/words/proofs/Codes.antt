@@ -1,11 +1,13 @@
 -- RUN's arms by the code number, and what an arm asks of the words. Assumes what each law names.
 use mathlib.Core.Path.{_≡_, refl}
 use mathlib.Core.List.{List}
-use Prim.Native.Nat.{ℕ, suc, _-_, _<_}
+use mathlib.Core.Bool.{false}
+use Prim.Native.Nat.{ℕ, zero, suc, _-_, _<_}
 use native.Mathlib.Omega.{arith}
 use borrow.Author.Tests.{lt-ltb, le-ltb, le-leb, ne-eqb}
+use lib.Dec.{eqb}
 use lib.ListN.{length}
-use Rattle.base.specs.Sizes.{sitesMost, inputCount}
+use Rattle.base.specs.Sizes.{sitesMost, inputCount, inQueueCount}
 use Rattle.types.specs.declared.Input.{Input}
 use Rattle.types.specs.declared.Network.{Network}
 use Rattle.types.specs.declared.Site.{Site}
@@ -30,6 +32,15 @@ module _ (version edition S D T : ℕ) (l m c : List ℕ) (s : ℕ) (ok : RunAsk
   seekable i h =
       record { site = ok .site; few = ok .few; words = ok .words; routes = ok .routes; set = λ e. ok .sought i h e }
 
+-- the codes of the output that fills in-queue q, and of the operator there
+abbrev pub localCode : ℕ → ℕ
+localCode zero = 5
+localCode (suc q) = 13
+
+abbrev pub operatorCode : ℕ → ℕ
+operatorCode zero = 11
+operatorCode (suc q) = 14
+
 -- ---- an arm by its code
 
 module _ (n : Network) (c d : List ℕ) (s : ℕ) (r : Ran) (code : ℕ) where
@@ -43,9 +54,11 @@ module _ (n : Network) (c d : List ℕ) (s : ℕ) (r : Ran) (code : ℕ) where
   unfolding act
   by-input h p = rw (lt-ltb code 5 h) p
 
-  pub by-local : code ≡ 5 → Did n c d s r (localAct (n .depth) x) → Did n c d s r (act n s x far code)
+  pub by-local : (q : ℕ) → q < inQueueCount → code ≡ localCode q → Did n c d s r (localAct (n .depth) x q) → Did n c d s r (act n s x far code)
   unfolding act netOutput
-  by-local e p = rw e p
+  by-local zero h e p = rw e p
+  by-local (suc zero) h e p = rw e p
+  by-local (suc (suc q)) h e p = absurd (omega arith)
 
   pub by-channel : 5 < code → code < 10
       → DidPass c d s r (code - 6) (channel n s (suc (code - 6)))
@@ -61,20 +74,24 @@ module _ (n : Network) (c d : List ℕ) (s : ℕ) (r : Ran) (code : ℕ) where
   unfolding act
   by-queue e p = rw e p
 
-  pub by-operator : code ≡ 11 → Did n c d s r (operatorAct (n .depth) s x) → Did n c d s r (act n s x far code)
+  pub by-operator : (q : ℕ) → q < inQueueCount → code ≡ operatorCode q → Did n c d s r (operatorAct (n .depth) s x q)
+      → Did n c d s r (act n s x far code)
   unfolding act
-  by-operator e p = rw e p
+  by-operator zero h e p = rw e p
+  by-operator (suc zero) h e p = rw e p
+  by-operator (suc (suc q)) h e p = absurd (omega arith)
 
-  pub by-timeout : code ≡ 12 → Did n c d s r (timeoutAct x) → Did n c d s r (act n s x far code)
+  pub by-timeout : code ≡ 12 → Did n c d s r (timeoutAct (n .edition) x) → Did n c d s r (act n s x far code)
   unfolding act
   by-timeout e p = rw e p
 
 -- no code
-pub by-none : (n : Network) (c : List ℕ) (s code : ℕ) → length c ≡ wordCount → 12 < code
+pub by-none : (n : Network) (c : List ℕ) (s code : ℕ) → length c ≡ wordCount → 14 < code
     → Did n c c s Nothing (act n s (siteIn c s) (ends n (sitesOf c) s) code)
 unfolding act
 by-none n c s code h k =
     did-nothing n c s (act n s (siteIn c s) (ends n (sitesOf c) s) code) h
     (let low = le-ltb code 5 (omega arith) in
     let high = le-ltb code 10 (omega arith) in
-    rw (low, high, ne-eqb code 10 (λ e. omega arith), ne-eqb code 11 (λ e. omega arith), ne-eqb code 12 (λ e. omega arith)) refl)
+    let no : (m : ℕ) → m < 15 → eqb code m ≡ false = λ m l. ne-eqb code m (λ e. omega (arith, k, l, e)) in
+    rw (low, high, no 10 (omega arith), no 11 (omega arith), no 12 (omega arith), no 13 (omega arith), no 14 (omega arith)) refl)

@@ -4,7 +4,7 @@ use mathlib.Core.Path.{_≡_}
 use mathlib.Core.List.{List, [], _∷_}
 use mathlib.Core.Bool.{Bool, true, cond, _&&_}
 use lib.ListN.{length, getD}
-use Rattle.base.specs.Sizes.{sitesMost, portCount, inputCount}
+use Rattle.base.specs.Sizes.{sitesMost, portCount, inputCount, splitPort}
 use Rattle.sets.specs.Sets.{targets}
 use Rattle.types.specs.Numbers.{stateNumber}
 use Rattle.types.specs.Phases.{listening}
@@ -18,7 +18,7 @@ use Rattle.types.specs.declared.Network.{Network}
 use Rattle.types.specs.declared.AfterSend.{AfterSend}
 use Rattle.types.specs.declared.Sent.the-variants.{the-data as Sent}
 use Rattle.types.specs.declared.Ran.the-variants.{the-data as Ran}
-use Rattle.model.specs.Types.{noInput, siteAt, inAt, outAt, carries}
+use Rattle.model.specs.Types.{noInput, siteAt, inAt, outAt, mark, carries}
 use Rattle.model.specs.Network.{channel, joined, isChannel}
 use Rattle.model.specs.NetInput.{Turn, Stay, To, netInput, seek}
 use Rattle.model.specs.Places.{Work, Rest, Cleared, Service}
@@ -115,23 +115,29 @@ readyAt l xs s j =
     let b = getD l (portCount * s + j) 0 in
     carries (outAt (siteAt xs s) (j + 1)) && outAt (siteAt xs s) (j + 1) .head && (isChannel b && listening (endOf xs b .phase))
 
--- which outputs of site s are ready
-abbrev pub readyFlags : List ℕ → List Site → ℕ → List Bool
-readyFlags l xs s =
+-- whether the split output of site s is connected to net-input i and ready
+abbrev pub splitReady : List Site → ℕ → ℕ → Bool
+splitReady xs s i =
+    mark (inAt (siteAt xs s) i .outputs) splitPort && (carries (outAt (siteAt xs s) splitPort) && outAt (siteAt xs s) splitPort .head)
+
+-- which outputs of site s are ready, the split output if it is connected to net-input i
+abbrev pub readyFlags : List ℕ → List Site → ℕ → ℕ → List Bool
+readyFlags l xs s i =
     (carries (outAt (siteAt xs s) 0) && outAt (siteAt xs s) 0 .head && true)
     ∷ readyAt l xs s 0
     ∷ readyAt l xs s 1
     ∷ readyAt l xs s 2
     ∷ readyAt l xs s 3
+    ∷ splitReady xs s i
     ∷ []
 
 -- the channels of site s end within the sites
 abbrev pub ChannelsWithin : List ℕ → ℕ → Type 0
 ChannelsWithin l s = (j : ℕ) → j < portCount → isChannel (getD l (portCount * s + j) 0) ≡ true → getD l (portCount * s + j) 0 < endCount
 
--- what the router's answer makes of net-input i of site x
-abbrev pub sought : List ℕ → ℕ → ℕ → Site → ℕ → ℕ → Turn Input (List Output)
-sought m S T x s i = seek T i (inAt x i) (x .outputs) (askedBy m S s (x .outputs) (inAt x i .set))
+-- what the router's answer in an edition makes of net-input i of site x
+abbrev pub sought : ℕ → List ℕ → ℕ → ℕ → Site → ℕ → ℕ → Turn Input (List Output)
+sought edition m S T x s i = seek T i (inAt x i) (x .outputs) (askedBy edition m S s (x .outputs) (inAt x i .set))
 
 -- what net-input i in seek asks of the routes m
 pub record Seekable (m : List ℕ) (S : ℕ) (c : List ℕ) (s i : ℕ) : Type 0 where
@@ -142,7 +148,7 @@ pub record Seekable (m : List ℕ) (S : ℕ) (c : List ℕ) (s i : ℕ) : Type 0
   pub set : stateNumber (inAt (siteIn c s) i .phase) ≡ 1 → targets S (inAt (siteIn c s) i .set) ≡ true
 
 -- net-input i: of any network, where it is known which outputs are ready; of any with the channels l; of any with the
--- routes m, sites and tries; of any with all of these
+-- edition, the routes m, sites and tries; of any with all of these
 abbrev pub DidReady : List ℕ → List ℕ → ℕ → Ran → ℕ → (ℕ → Bool) → Type 0
 DidReady c d s r i isReady =
     (n : Network) → Did n c d s r (ownTurn (setBoth (siteIn c s) i) (netInput n s i (inAt (siteIn c s) i) (siteIn c s .outputs) isReady))
@@ -150,10 +156,10 @@ DidReady c d s r i isReady =
 abbrev pub DidInput : List ℕ → List ℕ → List ℕ → ℕ → Ran → ℕ → Type 0
 DidInput l c d s r i = (n : Network) → n .channels ≡ l → Did n c d s r (inputAct n s (siteIn c s) (ends n (sitesOf c) s) i)
 
-abbrev pub DidSought : List ℕ → ℕ → ℕ → List ℕ → List ℕ → ℕ → Ran → ℕ → Type 0
-DidSought m S T c d s r i =
-    (version edition D : ℕ) (l : List ℕ) → let n = networkBy version edition S D T l m in Did n c d s r (inputAct n s (siteIn c s) (ends n (sitesOf c) s) i)
+abbrev pub DidSought : ℕ → List ℕ → ℕ → ℕ → List ℕ → List ℕ → ℕ → Ran → ℕ → Type 0
+DidSought edition m S T c d s r i =
+    (version D : ℕ) (l : List ℕ) → let n = networkBy version edition S D T l m in Did n c d s r (inputAct n s (siteIn c s) (ends n (sitesOf c) s) i)
 
-abbrev pub DidAsked : List ℕ → List ℕ → ℕ → ℕ → List ℕ → List ℕ → ℕ → Ran → ℕ → Type 0
-DidAsked l m S T c d s r i =
-    (version edition D : ℕ) → let n = networkBy version edition S D T l m in Did n c d s r (inputAct n s (siteIn c s) (ends n (sitesOf c) s) i)
+abbrev pub DidAsked : ℕ → List ℕ → List ℕ → ℕ → ℕ → List ℕ → List ℕ → ℕ → Ran → ℕ → Type 0
+DidAsked edition l m S T c d s r i =
+    (version D : ℕ) → let n = networkBy version edition S D T l m in Did n c d s r (inputAct n s (siteIn c s) (ends n (sitesOf c) s) i)

@@ -3,7 +3,7 @@ ghost use mathlib.Core.Path.{_≡_};
 ghost use mathlib.Core.Bool.{true};
 ghost use Prim.Native.Nat.{suc, _<_};
 ghost use lib.ListN.{length};
-ghost use Rattle.base.specs.Sizes.{sitesMost, inputCount, outputCount, portCount};
+ghost use Rattle.base.specs.Sizes.{sitesMost, inputCount, outputCount, portCount, inQueueCount};
 ghost use Rattle.model.specs.Types.{outAt};
 ghost use Rattle.model.specs.Places.{channelOutput};
 ghost use Rattle.model.specs.Network.{isChannel};
@@ -42,16 +42,16 @@ fn is_at_rest(words: &[u64], s: usize, j: usize) -> bool
     !used | stalled
 }
 
-// Code 5: net-output 0.
-pub(crate) fn local_in_place(depth: usize, words: &mut [u64], s: usize) -> Ran
-    requires { ⌜ (s < sitesMost) × (length (now words) ≡ wordCount) ⌝ }
-    ensures { λ r. ⌜ DidOwn (now (words .entry)) (now (words .exit)) s r (localAct depth (siteIn (now (words .entry)) s)) ⌝ }
+// Codes 5 and 13: the net-output that fills in-queue q, output 0 or the split output.
+pub(crate) fn local_in_place(depth: usize, words: &mut [u64], s: usize, q: usize) -> Ran
+    requires { ⌜ (s < sitesMost) × (q < inQueueCount) × (length (now words) ≡ wordCount) ⌝ }
+    ensures { λ r. ⌜ DidOwn (now (words .entry)) (now (words .exit)) s r (localAct depth (siteIn (now (words .entry)) s) q) ⌝ }
 {
-    if is_at_rest(words, s, 0) {
+    if is_at_rest(words, s, base::SPLIT_PORT * q) {
         return Ran::Nothing;
     }
-    let turn = local_turn(depth, words, s);
-    put_local(words, s, turn)
+    let turn = local_turn(depth, words, s, q);
+    put_local(words, s, q, turn)
 }
 
 // Codes 6 to 9: net-output j + 1; its channel is at hand.
@@ -91,28 +91,31 @@ pub(crate) fn queue_in_place(words: &mut [u64], s: usize) -> Ran
     put_queue(words, s, turn)
 }
 
-// Code 11: the operator.
-pub(crate) fn operator_in_place(depth: usize, words: &mut [u64], s: usize) -> Ran
-    requires { ⌜ (s < sitesMost) × (length (now words) ≡ wordCount) ⌝ }
-    ensures { λ r. ⌜ DidOwn (now (words .entry)) (now (words .exit)) s r (operatorAct depth s (siteIn (now (words .entry)) s)) ⌝ }
+// Codes 11 and 14: the operator at in-queue q.
+pub(crate) fn operator_in_place(depth: usize, words: &mut [u64], s: usize, q: usize) -> Ran
+    requires { ⌜ (s < sitesMost) × (q < inQueueCount) × (length (now words) ≡ wordCount) ⌝ }
+    ensures { λ r. ⌜ DidOwn (now (words .entry)) (now (words .exit)) s r (operatorAct depth s (siteIn (now (words .entry)) s) q) ⌝ }
 {
-    let n = in_count(words, s);
-    let lacks = front_lacks(words, s);
+    let n = in_count(words, s, q);
+    let lacks = front_lacks(words, s, q);
     if (n == 0) | lacks {
         return Ran::Nothing;
     }
-    let turn = operator_turn(depth, words, s);
-    put_work(words, s, turn)
+    let turn = operator_turn(depth, words, s, q);
+    put_work(words, s, q, turn)
 }
 
-// Code 12: the timeout.
-pub(crate) fn timeout_in_place(words: &mut [u64], s: usize) -> Ran
+// Code 12: the timeout, of which edition 3 has none.
+pub(crate) fn timeout_in_place(edition: u8, words: &mut [u64], s: usize) -> Ran
     requires { ⌜ (s < sitesMost) × (length (now words) ≡ wordCount) × (outAt (siteIn (now words) s) 0 .input < inputCount) ⌝ }
-    ensures { λ r. ⌜ DidOwn (now (words .entry)) (now (words .exit)) s r (timeoutAct (siteIn (now (words .entry)) s)) ⌝ }
+    ensures { λ r. ⌜ DidOwn (now (words .entry)) (now (words .exit)) s r (timeoutAct edition (siteIn (now (words .entry)) s)) ⌝ }
 {
+    if draws::is_restricted(edition) {
+        return Ran::Nothing;
+    }
     if is_stalled(words, s, 0) {
         let i = feeder_of(words, s);
-        let turn = timeout_turn(words, s, i);
+        let turn = timeout_turn(edition, words, s, i);
         return put_input(words, s, i, turn);
     }
     Ran::Nothing

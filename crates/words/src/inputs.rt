@@ -14,6 +14,7 @@ ghost use Rattle.layout.specs.Words.{sitesOf};
 ghost use Rattle.layout.specs.Idle.{stands, waits};
 ghost use Rattle.words.specs.Events as spec;
 ghost use Rattle.words.specs.Events.{siteIn, endOf};
+use crate::load::feeds_split;
 use crate::load::is_taken;
 use crate::load::load_input;
 use crate::load::load_outputs;
@@ -54,10 +55,24 @@ fn is_ready(channels: &[u16], words: &[u64], s: usize, j: usize) -> bool
     taken & heard
 }
 
-// Which outputs of site s are ready.
-fn readies(channels: &[u16], words: &[u64], s: usize) -> [bool; base::OUTPUTS]
-    requires { ⌜ (s < sitesMost) × (length (now channels) ≡ endCount) × (length (now words) ≡ wordCount) × spec.ChannelsWithin (now channels) s ⌝ }
-    ensures { λ r. ⌜ r ≡ spec.readyFlags (now (channels .entry)) (sitesOf (now (words .entry))) s ⌝ }
+// Whether the split output is connected to net-input i and ready; it is looked at only where it is connected.
+fn is_split_ready(words: &[u64], s: usize, i: usize) -> bool
+    requires { ⌜ (s < sitesMost) × (i < inputCount) × (length (now words) ≡ wordCount) ⌝ }
+    ensures { λ r. ⌜ r ≡ spec.splitReady (sitesOf (now (words .entry))) s i ⌝ }
+{
+    if feeds_split(words, s, i) {
+        return is_taken(words, s, base::SPLIT_PORT);
+    }
+    false
+}
+
+// Which outputs of site s are ready, the split output as net-input i is connected to it.
+fn readies(channels: &[u16], words: &[u64], s: usize, i: usize) -> [bool; base::OUTPUTS]
+    requires { ⌜
+        (s < sitesMost) × (i < inputCount) × (length (now channels) ≡ endCount) × (length (now words) ≡ wordCount) ×
+        spec.ChannelsWithin (now channels) s
+        ⌝ }
+    ensures { λ r. ⌜ r ≡ spec.readyFlags (now (channels .entry)) (sitesOf (now (words .entry))) s i ⌝ }
 {
     let own = is_taken(words, s, 0);
     [
@@ -66,6 +81,7 @@ fn readies(channels: &[u16], words: &[u64], s: usize) -> [bool; base::OUTPUTS]
         is_ready(channels, words, s, 1),
         is_ready(channels, words, s, 2),
         is_ready(channels, words, s, 3),
+        is_split_ready(words, s, i),
     ]
 }
 
@@ -131,26 +147,35 @@ fn other_in_place(channels: &[u16], words: &mut [u64], s: usize, i: usize) -> Ra
         ⌝ }
     ensures { λ r. ⌜ spec.DidInput (now (channels .entry)) (now (words .entry)) (now (words .exit)) s r i ⌝ }
 {
-    let ready = readies(channels, words, s);
+    let ready = readies(channels, words, s, i);
     ready_in_place(words, s, i, ready)
 }
 
 // What the router's answer makes of net-input i in seek.
-fn seeking(routes: &[u16], sites: usize, tries: u8, words: &[u64], s: usize, i: usize) -> InputTurn
+fn seeking(
+    edition: u8,
+    routes: &[u16],
+    sites: usize,
+    tries: u8,
+    words: &[u64],
+    s: usize,
+    i: usize,
+) -> InputTurn
     requires { ⌜ (s < sitesMost) × (i < inputCount) × (length (now words) ≡ wordCount) ⌝ }
     ensures { λ r. ⌜
         r ≡ ofInputTurn (inAt (siteIn (now (words .entry)) s) i) (siteIn (now (words .entry)) s .outputs)
-        (spec.sought (now (routes .entry)) sites tries (siteIn (now (words .entry)) s) s i)
+        (spec.sought edition (now (routes .entry)) sites tries (siteIn (now (words .entry)) s) s i)
         ⌝ }
 {
     let input = load_input(words, s, i);
     let outputs = load_outputs(words, s);
-    let choice = route_in(routes, sites, s, outputs, input.set);
+    let choice = route_in(edition, routes, sites, s, outputs, input.set);
     seek_turn(tries, i as u8, input, outputs, choice)
 }
 
 // Net-input i in seek.
 fn seek_in_place(
+    edition: u8,
     routes: &[u16],
     sites: usize,
     tries: u8,
@@ -159,14 +184,15 @@ fn seek_in_place(
     i: usize,
 ) -> Ran
     requires { ⌜ i < inputCount ⌝ ∗ ⌜ spec.Seekable (now routes) sites (now words) s i ⌝ ∗ ⌜ stateNumber (inAt (siteIn (now words) s) i .phase) ≡ 1 ⌝ }
-    ensures { λ r. ⌜ spec.DidSought (now (routes .entry)) sites tries (now (words .entry)) (now (words .exit)) s r i ⌝ }
+    ensures { λ r. ⌜ spec.DidSought edition (now (routes .entry)) sites tries (now (words .entry)) (now (words .exit)) s r i ⌝ }
 {
-    let turn = seeking(routes, sites, tries, words, s, i);
+    let turn = seeking(edition, routes, sites, tries, words, s, i);
     put_input(words, s, i, turn)
 }
 
 // Codes 0 to 4: net-input i, by its state number.
 pub(crate) fn input_in_place(
+    edition: u8,
     channels: &[u16],
     routes: &[u16],
     sites: usize,
@@ -178,7 +204,7 @@ pub(crate) fn input_in_place(
     requires { ⌜ (i < inputCount) × (length (now channels) ≡ endCount) ⌝ ∗ ⌜ spec.ChannelsWithin (now channels) s ⌝ ∗
         ⌜ spec.Seekable (now routes) sites (now words) s i ⌝ }
     ensures { λ r. ⌜
-        spec.DidAsked (now (channels .entry)) (now (routes .entry)) sites tries (now (words .entry))
+        spec.DidAsked edition (now (channels .entry)) (now (routes .entry)) sites tries (now (words .entry))
         (now (words .exit)) s r i
         ⌝ }
 {
@@ -187,7 +213,7 @@ pub(crate) fn input_in_place(
         return Ran::Nothing;
     }
     if number == 1 {
-        return seek_in_place(routes, sites, tries, words, s, i);
+        return seek_in_place(edition, routes, sites, tries, words, s, i);
     }
     other_in_place(channels, words, s, i)
 }

@@ -2,8 +2,8 @@
 ghost use mathlib.Core.Path.{_≡_};
 ghost use Prim.Native.Nat.{suc, _<_};
 ghost use lib.ListN.{length};
-ghost use Rattle.base.specs.Sizes.{sitesMost, inputCount, portCount};
-ghost use Rattle.model.specs.Types.{setSite, setIn, setOut, withInQueue, withOutQueue};
+ghost use Rattle.base.specs.Sizes.{sitesMost, inputCount, portCount, inQueueCount};
+ghost use Rattle.model.specs.Types.{setSite, setIn, setOut, setQueue, withOutQueue, queuePort};
 ghost use Rattle.model.specs.Steps.{setBoth, setFar};
 ghost use Rattle.layout.specs.Layout.{wordCount, endCount};
 ghost use Rattle.layout.specs.Words.{sitesOf};
@@ -19,17 +19,17 @@ use types::Input;
 use types::OutQueue;
 use types::Output;
 
-// The in-queue and output 0.
-pub(crate) fn store_local(words: &mut [u64], s: usize, queue: InQueue, output: Output)
-    requires { ⌜ (s < sitesMost) × (length (now words) ≡ wordCount) ⌝ }
+// In-queue q and the output that fills it.
+pub(crate) fn store_local(words: &mut [u64], s: usize, q: usize, queue: InQueue, output: Output)
+    requires { ⌜ (s < sitesMost) × (q < inQueueCount) × (length (now words) ≡ wordCount) ⌝ }
     ensures { λ _. ⌜
         Stored (now (words .entry)) (now (words .exit))
         (setSite (sitesOf (now (words .entry))) s
-        (setOut (withInQueue (siteIn (now (words .entry)) s) queue) 0 output))
+        (setOut (setQueue (siteIn (now (words .entry)) s) q queue) (queuePort q) output))
         ⌝ }
 {
-    store_in_queue(words, s, queue);
-    store_output(words, s, 0, output);
+    store_in_queue(words, s, q, queue);
+    store_output(words, s, base::SPLIT_PORT * q, output);
 }
 
 // Output j + 1, and the input at the end of its channel, this one.
@@ -66,16 +66,22 @@ pub(crate) fn store_leaving(words: &mut [u64], s: usize, queue: OutQueue, input:
     store_input(words, s, 0, input);
 }
 
-// The two queues.
-pub(crate) fn store_queues(words: &mut [u64], s: usize, incoming: InQueue, outgoing: OutQueue)
-    requires { ⌜ (s < sitesMost) × (length (now words) ≡ wordCount) ⌝ }
+// In-queue q and the out-queue.
+pub(crate) fn store_queues(
+    words: &mut [u64],
+    s: usize,
+    q: usize,
+    incoming: InQueue,
+    outgoing: OutQueue,
+)
+    requires { ⌜ (s < sitesMost) × (q < inQueueCount) × (length (now words) ≡ wordCount) ⌝ }
     ensures { λ _. ⌜
         Stored (now (words .entry)) (now (words .exit))
         (setSite (sitesOf (now (words .entry))) s
-        (withOutQueue (withInQueue (siteIn (now (words .entry)) s) incoming) outgoing))
+        (withOutQueue (setQueue (siteIn (now (words .entry)) s) q incoming) outgoing))
         ⌝ }
 {
-    store_in_queue(words, s, incoming);
+    store_in_queue(words, s, q, incoming);
     store_out_queue(words, s, outgoing);
 }
 

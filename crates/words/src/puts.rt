@@ -2,8 +2,8 @@
 ghost use mathlib.Core.Path.{_≡_};
 ghost use Prim.Native.Nat.{suc, _<_};
 ghost use lib.ListN.{length};
-ghost use Rattle.base.specs.Sizes.{sitesMost, inputCount, portCount};
-ghost use Rattle.model.specs.Types.{setIn, setOut, withInQueue, withOutQueue};
+ghost use Rattle.base.specs.Sizes.{sitesMost, inputCount, portCount, inQueueCount};
+ghost use Rattle.model.specs.Types.{setIn, setOut, setQueue, withOutQueue, queuePort};
 ghost use Rattle.model.specs.Steps.{ownTurn, passTurn, workDone, setBoth};
 ghost use Rattle.model.specs.Network.{channel};
 ghost use Rattle.layout.specs.Layout.{wordCount, endCount};
@@ -21,17 +21,17 @@ use rules::OperatorTurn;
 use rules::QueueTurn;
 use types::Ran;
 
-pub(crate) fn put_local(words: &mut [u64], s: usize, turn: LocalTurn) -> Ran
-    requires { ⌜ (s < sitesMost) × (length (now words) ≡ wordCount) ⌝ }
+pub(crate) fn put_local(words: &mut [u64], s: usize, q: usize, turn: LocalTurn) -> Ran
+    requires { ⌜ (s < sitesMost) × (q < inQueueCount) × (length (now words) ≡ wordCount) ⌝ }
     ensures { λ r. ⌜
         DidOwn (now (words .entry)) (now (words .exit)) s r
-        (ownTurn (λ o iq. setOut (withInQueue (siteIn (now (words .entry)) s) iq) 0 o) (spec.localBack turn))
+        (ownTurn (λ o iq. setOut (setQueue (siteIn (now (words .entry)) s) q iq) (queuePort q) o) (spec.localBack turn))
         ⌝ }
 {
     let queue = turn.queue;
     let output = turn.output;
     if turn.changed {
-        store_local(words, s, queue, output);
+        store_local(words, s, q, queue, output);
         return Ran::Changed;
     }
     Ran::Nothing
@@ -72,15 +72,15 @@ pub(crate) fn put_queue(words: &mut [u64], s: usize, turn: QueueTurn) -> Ran
     Ran::Nothing
 }
 
-pub(crate) fn put_work(words: &mut [u64], s: usize, turn: OperatorTurn) -> Ran
-    requires { ⌜ (s < sitesMost) × (length (now words) ≡ wordCount) ⌝ }
-    ensures { λ r. ⌜ DidOwn (now (words .entry)) (now (words .exit)) s r (workDone (siteIn (now (words .entry)) s) (spec.workBack turn)) ⌝ }
+pub(crate) fn put_work(words: &mut [u64], s: usize, q: usize, turn: OperatorTurn) -> Ran
+    requires { ⌜ (s < sitesMost) × (q < inQueueCount) × (length (now words) ≡ wordCount) ⌝ }
+    ensures { λ r. ⌜ DidOwn (now (words .entry)) (now (words .exit)) s r (workDone (siteIn (now (words .entry)) s) q (spec.workBack turn)) ⌝ }
 {
     let incoming = turn.incoming;
     let outgoing = turn.outgoing;
     let packet = turn.packet;
     if turn.changed {
-        store_queues(words, s, incoming, outgoing);
+        store_queues(words, s, q, incoming, outgoing);
         if turn.serviced {
             return Ran::Serviced(packet, s as u8);
         }

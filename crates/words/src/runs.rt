@@ -36,8 +36,8 @@ pub(crate) fn run_in_place(
         ⌝ }
 {
     match code {
-        0..=4 => input_in_place(channels, routes, sites, tries, words, s, code),
-        5 => local_in_place(depth, words, s),
+        0..=4 => input_in_place(edition, channels, routes, sites, tries, words, s, code),
+        5 => local_in_place(depth, words, s, 0),
         6..=9 => channel_in_place(
             edition,
             words,
@@ -46,8 +46,10 @@ pub(crate) fn run_in_place(
             channels[base::PORTS * s + (code - 6)],
         ),
         10 => queue_in_place(words, s),
-        11 => operator_in_place(depth, words, s),
-        12 => timeout_in_place(words, s),
+        11 => operator_in_place(depth, words, s, 0),
+        12 => timeout_in_place(edition, words, s),
+        13 => local_in_place(depth, words, s, 1),
+        14 => operator_in_place(depth, words, s, 1),
         _ => Ran::Nothing,
     }
 }

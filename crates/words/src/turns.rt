@@ -3,8 +3,8 @@ ghost use mathlib.Core.Path.{_≡_};
 ghost use mathlib.Core.Bool.{true};
 ghost use Prim.Native.Nat.{suc, _<_};
 ghost use lib.ListN.{length};
-ghost use Rattle.base.specs.Sizes.{sitesMost, inputCount, portCount};
-ghost use Rattle.model.specs.Types.{inAt, outAt};
+ghost use Rattle.base.specs.Sizes.{sitesMost, inputCount, portCount, inQueueCount};
+ghost use Rattle.model.specs.Types.{inAt, outAt, queueAt, queuePort};
 ghost use Rattle.model.specs.Places as places;
 ghost use Rattle.model.specs.Steps.{farEnd};
 ghost use Rattle.rules.specs.Turns.{ofLocalTurn, ofChannelTurn, ofQueueTurn, ofWork, ofInputTurn};
@@ -27,15 +27,17 @@ use rules::operator;
 use rules::out_queue;
 use rules::time_out;
 
-pub(crate) fn local_turn(depth: usize, words: &[u64], s: usize) -> LocalTurn
-    requires { ⌜ (s < sitesMost) × (length (now words) ≡ wordCount) ⌝ }
+// The output that fills in-queue q.
+pub(crate) fn local_turn(depth: usize, words: &[u64], s: usize, q: usize) -> LocalTurn
+    requires { ⌜ (s < sitesMost) × (q < inQueueCount) × (length (now words) ≡ wordCount) ⌝ }
     ensures { λ r. ⌜
-        r ≡ ofLocalTurn (outAt (siteIn (now (words .entry)) s) 0) (siteIn (now (words .entry)) s .incoming)
-        (places.localOutput depth (outAt (siteIn (now (words .entry)) s) 0) (siteIn (now (words .entry)) s .incoming))
+        r ≡ ofLocalTurn (outAt (siteIn (now (words .entry)) s) (queuePort q)) (queueAt (siteIn (now (words .entry)) s) q)
+        (places.localOutput depth (outAt (siteIn (now (words .entry)) s) (queuePort q))
+        (queueAt (siteIn (now (words .entry)) s) q))
         ⌝ }
 {
-    let output = load_output(words, s, 0);
-    let queue = load_in_queue(words, s);
+    let output = load_output(words, s, base::SPLIT_PORT * q);
+    let queue = load_in_queue(words, s, q);
     local_output(depth, output, queue)
 }
 
@@ -72,29 +74,30 @@ pub(crate) fn queue_turn(words: &[u64], s: usize) -> QueueTurn
     out_queue(queue, input)
 }
 
-pub(crate) fn operator_turn(depth: usize, words: &[u64], s: usize) -> OperatorTurn
-    requires { ⌜ (s < sitesMost) × (length (now words) ≡ wordCount) ⌝ }
+// The operator at in-queue q.
+pub(crate) fn operator_turn(depth: usize, words: &[u64], s: usize, q: usize) -> OperatorTurn
+    requires { ⌜ (s < sitesMost) × (q < inQueueCount) × (length (now words) ≡ wordCount) ⌝ }
     ensures { λ r. ⌜
-        r ≡ ofWork (siteIn (now (words .entry)) s .incoming) (siteIn (now (words .entry)) s .outgoing)
-        (places.operator depth s (siteIn (now (words .entry)) s .incoming) (siteIn (now (words .entry)) s .outgoing))
+        r ≡ ofWork (queueAt (siteIn (now (words .entry)) s) q) (siteIn (now (words .entry)) s .outgoing)
+        (places.operator depth s (queueAt (siteIn (now (words .entry)) s) q) (siteIn (now (words .entry)) s .outgoing))
         ⌝ }
 {
-    let incoming = load_in_queue(words, s);
+    let incoming = load_in_queue(words, s, q);
     let outgoing = load_out_queue(words, s);
     operator(depth, s, incoming, outgoing)
 }
 
 // The timeout, where net-input i feeds output 0.
-pub(crate) fn timeout_turn(words: &[u64], s: usize, i: usize) -> InputTurn
+pub(crate) fn timeout_turn(edition: u8, words: &[u64], s: usize, i: usize) -> InputTurn
     requires { ⌜ (s < sitesMost) × (i < inputCount) × (length (now words) ≡ wordCount) ⌝ }
     ensures { λ r. ⌜
         r ≡ ofInputTurn (inAt (siteIn (now (words .entry)) s) i) (siteIn (now (words .entry)) s .outputs)
-        (places.timeout (siteIn (now (words .entry)) s .incoming) (siteIn (now (words .entry)) s .outputs)
+        (places.timeout edition (queueAt (siteIn (now (words .entry)) s) 0) (siteIn (now (words .entry)) s .outputs)
         (inAt (siteIn (now (words .entry)) s) i))
         ⌝ }
 {
-    let queue = load_in_queue(words, s);
+    let queue = load_in_queue(words, s, 0);
     let outputs = load_outputs(words, s);
     let input = load_input(words, s, i);
-    time_out(queue, outputs, input)
+    time_out(edition, queue, outputs, input)
 }

@@ -7,19 +7,19 @@ use Rattle.words.proofs.inputs.other_in_place.Lts as lts
 use Rattle.words.proofs.inputs.readies.Reads as readies-reads
 use Rattle.words.proofs.inputs.ready_in_place.Reads as ready-in-place-reads
 
--- src/inputs.rt:123:9
+-- src/inputs.rt:150:9
 readies-requires : tie.Need-readies-requires
 readies-requires c κs = search needs
 
--- src/inputs.rt:124:5
+-- src/inputs.rt:151:5
 ready-in-place-requires : tie.Need-ready-in-place-requires
 ready-in-place-requires c κs = search needs
 
--- src/inputs.rt:119:1
+-- src/inputs.rt:143:1
 same-length : tie.Need-same-length
 same-length c = search needs
 
--- src/inputs.rt:119:1
+-- src/inputs.rt:143:1
 returns : tie.Need-returns
 returns c = flags-done _ _ _ _ _ _ _ (c .before .before .before .before .readies .ensures) (c .before .before .ready-in-place .ensures)
 

@@ -5,40 +5,37 @@ use Rattle.words.proofs.inputs.seeking.Statement.{statement}
 use Rattle.words.proofs.inputs.seeking.Tie as tie
 use Rattle.words.proofs.inputs.seeking.Reads as reads
 use Rattle.words.proofs.inputs.seeking.Lts as lts
+use Rattle.rules.proofs.seek_turn.Reads as seek-turn-reads
+use Rattle.rules.proofs.route_in.Reads as route-in-reads
 use Rattle.words.proofs.load.load_input.Reads as load-input-reads
 use Rattle.words.proofs.load.load_outputs.Reads as load-outputs-reads
-use Rattle.rules.proofs.route_in.Reads as route-in-reads
-use Rattle.rules.proofs.seek_turn.Reads as seek-turn-reads
 
--- src/inputs.rt:132:9
+-- src/inputs.rt:170:9
 load-input-requires : tie.Need-load-input-requires
 load-input-requires c κs = search needs
 
--- src/inputs.rt:133:9
+-- src/inputs.rt:171:9
 load-outputs-requires : tie.Need-load-outputs-requires
 load-outputs-requires c κs = search needs
 
--- src/inputs.rt:134:9
+-- src/inputs.rt:172:9
 route-in-requires : tie.Need-route-in-requires
 route-in-requires c κs = search needs
 
--- src/inputs.rt:135:22
+-- src/inputs.rt:173:22
 cast-seek-turn : tie.Need-cast-seek-turn
 cast-seek-turn c = search needs
 
--- src/inputs.rt:135:5
+-- src/inputs.rt:173:5
 seek-turn-requires : tie.Need-seek-turn-requires
 seek-turn-requires c κs = search needs
 
--- src/inputs.rt:128:1
+-- src/inputs.rt:155:1
 returns : tie.Need-returns
 returns c =
-    let load-input = c .before .before .before .load-input in
-    let args = c .before .before .before .before .before .before .args in
-    let a = args in
-    sought-by (a .routes .now) (a .sites) (a .tries) (siteIn (a .words .now) (a .s)) (a .s) (a .i) _ _ _ _
-    (load-input .ensures) (c .before .before .load-outputs .ensures) (c .before .route-in .ensures)
-    (c .seek-turn .ensures)
+    let a = c .before .before .before .before .before .before .args in
+    sought-by (a .edition) (a .routes .now) (a .sites) (a .tries) (siteIn (a .words .now) (a .s)) (a .s) (a .i) _ _ _ _
+    (c .before .before .before .load-input .ensures) (c .before .before .load-outputs .ensures) (c .before .route-in .ensures) (c .seek-turn .ensures)
 
 pub seeking-spec : {M : Type 1} → statement M
 seeking-spec =

@@ -7,19 +7,23 @@ use Rattle.words.proofs.pairs.store_local.Lts as lts
 use Rattle.words.proofs.store.store_in_queue.Reads as store-in-queue-reads
 use Rattle.words.proofs.store.store_output.Reads as store-output-reads
 
--- src/pairs.rt:26:5
+-- src/pairs.rt:31:5
 store-in-queue-requires : tie.Need-store-in-queue-requires
 store-in-queue-requires c κs = search needs
 
--- src/pairs.rt:27:5
+-- src/pairs.rt:32:28
+mul-store-output : tie.Need-mul-store-output
+mul-store-output c = search needs
+
+-- src/pairs.rt:32:5
 store-output-requires : tie.Need-store-output-requires
 store-output-requires c κs = search needs
 
--- src/pairs.rt:22:1
+-- src/pairs.rt:23:1
 same-length : tie.Need-same-length
 same-length c = search needs
 
--- src/pairs.rt:22:1
+-- src/pairs.rt:23:1
 returns : tie.Need-returns
 returns c =
     let store-in-queue = c .before .before .before .before .before .before .store-in-queue in
@@ -27,4 +31,5 @@ returns c =
 
 pub store-local-spec : {M : Type 1} → statement M
 store-local-spec =
-    tie.close (tie.spec store-in-queue-requires store-output-requires same-length returns)
+    tie.close
+    (tie.spec store-in-queue-requires mul-store-output store-output-requires same-length returns)

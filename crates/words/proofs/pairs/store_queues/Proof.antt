@@ -7,19 +7,19 @@ use Rattle.words.proofs.pairs.store_queues.Lts as lts
 use Rattle.words.proofs.store.store_in_queue.Reads as store-in-queue-reads
 use Rattle.words.proofs.store.store_out_queue.Reads as store-out-queue-reads
 
--- src/pairs.rt:61:5
+-- src/pairs.rt:78:5
 store-in-queue-requires : tie.Need-store-in-queue-requires
 store-in-queue-requires c κs = search needs
 
--- src/pairs.rt:62:5
+-- src/pairs.rt:79:5
 store-out-queue-requires : tie.Need-store-out-queue-requires
 store-out-queue-requires c κs = search needs
 
--- src/pairs.rt:57:1
+-- src/pairs.rt:70:1
 same-length : tie.Need-same-length
 same-length c = search needs
 
--- src/pairs.rt:57:1
+-- src/pairs.rt:70:1
 returns : tie.Need-returns
 returns c =
     let store-in-queue = c .before .before .before .before .before .before .store-in-queue in

@@ -2,6 +2,7 @@ use Prim.Native.Nat.{ℕ, _-_, _<_}
 use native.Mathlib.Omega.{arith}
 use Rattle.base.specs.Sizes.{portCount}
 use Rattle.words.proofs.Codes.{by-input, by-local, by-channel, by-queue, by-operator, by-timeout, by-none, seekable}
+use native.Mathlib.Omega.{arith}
 use borrow.Author.Needs.{needs}
 use Rattle.words.proofs.runs.run_in_place.Statement.{statement}
 use Rattle.words.proofs.runs.run_in_place.Tie as tie
@@ -14,23 +15,34 @@ use Rattle.words.proofs.arms.queue_in_place.Reads as queue-in-place-rea
 use Rattle.words.proofs.arms.timeout_in_place.Reads as timeout-in-place-reads
 use Rattle.words.proofs.inputs.input_in_place.Reads as input-in-place-reads
 
--- src/runs.rt:30:14
+port-below : (code : ℕ) → code < 10 → code - 6 < portCount
+port-below code h = omega arith
+
+-- src/runs.rt:40:14
 local-in-place-requires : tie.Need-local-in-place-requires
 local-in-place-requires c κs = search needs
 
--- src/runs.rt:32:15
+-- src/runs.rt:48:15
 queue-in-place-requires : tie.Need-queue-in-place-requires
 queue-in-place-requires c κs = search needs
 
--- src/runs.rt:33:15
+-- src/runs.rt:49:15
 operator-in-place-requires : tie.Need-operator-in-place-requires
 operator-in-place-requires c κs = search needs
 
--- src/runs.rt:34:15
+-- src/runs.rt:50:15
 timeout-in-place-requires : tie.Need-timeout-in-place-requires
 timeout-in-place-requires c κs = search needs
 
--- src/runs.rt:29:18
+-- src/runs.rt:51:15
+local-in-place-requires-2 : tie.Need-local-in-place-requires-2
+local-in-place-requires-2 c κs = search needs
+
+-- src/runs.rt:52:15
+operator-in-place-requires-2 : tie.Need-operator-in-place-requires-2
+operator-in-place-requires-2 c κs = search needs
+
+-- src/runs.rt:39:18
 input-in-place-requires : tie.Need-input-in-place-requires
 input-in-place-requires c κs =
     let here = c .before .before .before .before .before .before in
@@ -45,34 +57,40 @@ input-in-place-requires c κs =
       ),
     )
 
--- src/runs.rt:31:45
+-- src/runs.rt:45:13
 sub-channel-in-place : tie.Need-sub-channel-in-place
 sub-channel-in-place c = search needs
 
--- src/runs.rt:31:64
+-- src/runs.rt:46:22
 mul-channel-in-place : tie.Need-mul-channel-in-place
 mul-channel-in-place c = search needs
 
--- src/runs.rt:31:73
+-- src/runs.rt:46:41
 sub-channel-in-place-2 : tie.Need-sub-channel-in-place-2
 sub-channel-in-place-2 c = search needs
 
--- src/runs.rt:31:64
+-- src/runs.rt:46:22
 add-channel-in-place : tie.Need-add-channel-in-place
-add-channel-in-place c = search needs
+add-channel-in-place c =
+    let tested = c .before in
+    let here = tested .before .before .before .before .before .before in
+    omega (arith, here .pre .site, here .pre .few, tested .if2 .taken)
 
--- src/runs.rt:31:55
+-- src/runs.rt:46:13
 mul-channel-in-place-2 : tie.Need-mul-channel-in-place-2
-mul-channel-in-place-2 c = search needs
+mul-channel-in-place-2 c =
+    let tested = c .before in
+    let here = tested .before .before .before .before .before .before in
+    omega (arith, here .pre .site, here .pre .few, tested .if2 .taken)
 
--- src/runs.rt:31:55
+-- src/runs.rt:46:13
 shared-slice-read-channel-in-place : tie.Need-shared-slice-read-channel-in-place
-shared-slice-read-channel-in-place c = search needs
+shared-slice-read-channel-in-place c =
+    let tested = c .before .before in
+    let here = tested .before .before .before .before .before .before in
+    omega (arith, here .pre .site, here .pre .few, here .pre .channels, tested .if2 .taken)
 
-port-below : (code : ℕ) → code < 10 → code - 6 < portCount
-port-below code h = omega arith
-
--- src/runs.rt:31:18
+-- src/runs.rt:41:18
 channel-in-place-requires : tie.Need-channel-in-place-requires
 channel-in-place-requires c κs =
     let tested = c .before .before in
@@ -88,7 +106,7 @@ same-length c = search needs
 
 -- src/runs.rt:15:1
 returns : tie.Need-returns
-returns c = by-local _ _ _ _ _ _ (c .before .before .before .before .match .keys1) (c .before .before .local-in-place .ensures _)
+returns c = by-local _ _ _ _ _ _ 0 (omega arith) (c .before .before .before .before .match .keys1) (c .before .before .local-in-place .ensures _)
 
 -- src/runs.rt:15:1
 same-length-2 : tie.Need-same-length-2
@@ -104,7 +122,7 @@ same-length-3 c = search needs
 
 -- src/runs.rt:15:1
 returns-3 : tie.Need-returns-3
-returns-3 c = by-operator _ _ _ _ _ _ (c .before .before .before .before .match .keys3) (c .before .before .operator-in-place .ensures _)
+returns-3 c = by-operator _ _ _ _ _ _ 0 (omega arith) (c .before .before .before .before .match .keys3) (c .before .before .operator-in-place .ensures _)
 
 -- src/runs.rt:15:1
 same-length-4 : tie.Need-same-length-4
@@ -120,7 +138,7 @@ same-length-5 c = search needs
 
 -- src/runs.rt:15:1
 returns-5 : tie.Need-returns-5
-returns-5 c = by-input _ _ _ _ _ _ (omega arith) (c .before .before .input-in-place .ensures _ _ _)
+returns-5 c = by-local _ _ _ _ _ _ 1 (omega arith) (c .before .before .before .before .match .keys5) (c .before .before .local-in-place2 .ensures _)
 
 -- src/runs.rt:15:1
 same-length-6 : tie.Need-same-length-6
@@ -128,11 +146,27 @@ same-length-6 c = search needs
 
 -- src/runs.rt:15:1
 returns-6 : tie.Need-returns-6
-returns-6 c = by-channel _ _ _ _ _ _ (omega arith) (omega arith) (c .before .before .channel-in-place .ensures)
+returns-6 c = by-operator _ _ _ _ _ _ 1 (omega arith) (c .before .before .before .before .match .keys6) (c .before .before .operator-in-place2 .ensures _)
+
+-- src/runs.rt:15:1
+same-length-7 : tie.Need-same-length-7
+same-length-7 c = search needs
 
 -- src/runs.rt:15:1
 returns-7 : tie.Need-returns-7
-returns-7 c = by-none _ _ _ _ (search needs) (omega arith)
+returns-7 c = by-input _ _ _ _ _ _ (omega arith) (c .before .before .input-in-place .ensures _ _)
+
+-- src/runs.rt:15:1
+same-length-8 : tie.Need-same-length-8
+same-length-8 c = search needs
+
+-- src/runs.rt:15:1
+returns-8 : tie.Need-returns-8
+returns-8 c = by-channel _ _ _ _ _ _ (omega arith) (omega arith) (c .before .before .channel-in-place .ensures)
+
+-- src/runs.rt:15:1
+returns-9 : tie.Need-returns-9
+returns-9 c = by-none _ _ _ _ (search needs) (omega arith)
 
 pub run-in-place-spec : {M : Type 1} → statement M
 run-in-place-spec =
@@ -142,6 +176,8 @@ run-in-place-spec =
     queue-in-place-requires
     operator-in-place-requires
     timeout-in-place-requires
+    local-in-place-requires-2
+    operator-in-place-requires-2
     input-in-place-requires
     sub-channel-in-place
     mul-channel-in-place
@@ -162,4 +198,8 @@ run-in-place-spec =
     returns-5
     same-length-6
     returns-6
-    returns-7)
+    same-length-7
+    returns-7
+    same-length-8
+    returns-8
+    returns-9)
