@@ -1,13 +1,13 @@
 //! Counters of what archives or cases reach, apart for each version and edition, and the lines that show them.
 
 use crate::format::{Format, VERSION_AT};
-use crate::network::{Network, EDITION_2};
+use crate::network::{Network, EDITION_2, EDITION_3};
 use crate::refusal::NUMBERS;
 use crate::watch::{Tally, Watch, RULES};
 
-/// The columns: version 1, version 2 in edition 1 or one that there is not, version 2 in edition 2, and neither
-/// (another version, or no version byte).
-pub const COLUMNS: [&str; 4] = ["version 1", "version 2", "edition 2", "neither"];
+/// The columns: version 1, version 2 in edition 1 or one that there is not, version 2 in edition 2, in edition 3, and
+/// neither (another version, or no version byte).
+pub const COLUMNS: [&str; 5] = ["version 1", "version 2", "edition 2", "edition 3", "neither"];
 
 /// The version and the edition of an archive or of a network, as far as it has them.
 pub type Kind = (Option<u8>, Option<u8>);
@@ -29,8 +29,9 @@ pub fn column(kind: Kind) -> usize {
     match kind {
         (Some(1), _) => 0,
         (Some(2), Some(EDITION_2)) => 2,
+        (Some(2), Some(EDITION_3)) => 3,
         (Some(2), _) => 1,
-        _ => 3,
+        _ => 4,
     }
 }
 

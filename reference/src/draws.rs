@@ -1,7 +1,5 @@
 //! Draws: Marsaglia's 32 bit xorshift with shifts 13, 17, 5, and the event that a draw names.
 
-use crate::network::CODES;
-
 pub struct Draws(u32);
 
 impl Draws {
@@ -19,9 +17,9 @@ impl Draws {
     }
 }
 
-/// The site and code that a value names in a network of `sites` sites.
+/// The site and code that a value names in a network of `sites` sites with `codes` event codes each.
 #[inline]
-pub fn event(value: u32, sites: usize) -> (usize, usize) {
-    let m = value % (CODES * sites) as u32;
-    ((m / CODES as u32) as usize, (m % CODES as u32) as usize)
+pub fn event(value: u32, sites: usize, codes: usize) -> (usize, usize) {
+    let m = value % (codes * sites) as u32;
+    ((m / codes as u32) as usize, (m % codes as u32) as usize)
 }

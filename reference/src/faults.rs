@@ -98,7 +98,7 @@ impl<'a> Held<'a> {
 
     fn edition(&self) -> String {
         let at = self.format.edition.expect("the reader refuses editions of version 2 alone");
-        format!("byte {at}, the edition, is {}, not 1 or 2", self.byte(at))
+        format!("byte {at}, the edition, is {}, not 1, 2 or 3", self.byte(at))
     }
 
     fn size(&self) -> String {

@@ -1,5 +1,6 @@
 //! Making things to test with: networks, runs, damaged archives, states. Everything follows from a seed.
 
+pub mod branches;
 pub mod cases;
 pub mod clauses;
 pub mod corpus;
@@ -8,6 +9,7 @@ pub mod edges;
 pub mod graphs;
 pub mod held;
 pub mod marks;
+pub mod restricted;
 pub mod rng;
 pub mod routes;
 pub mod runs;

@@ -12,12 +12,23 @@ pub const SITES_OF_1: usize = 16;
 pub const EDITION: u8 = 1;
 /// The edition, of version 2 alone, in which outputs 1 to 4 are closing after that.
 pub const EDITION_2: u8 = 2;
-/// Net-inputs, and net-outputs, of a site; port 0 is local.
+/// The edition, of version 2 alone, in which a packet splits only into its own site and one way onward, through the
+/// split output; outputs 1 to 4 are closing there too, and timeouts do nothing.
+pub const EDITION_3: u8 = 3;
+/// The editions that there are.
+pub const EDITIONS: [u8; 3] = [EDITION, EDITION_2, EDITION_3];
+/// Net-inputs of a site, and net-outputs with these numbers; port 0 is local.
 pub const PORTS: usize = 5;
+/// Net-outputs of a site, the split output among them.
+pub const OUTPUTS: usize = 6;
+/// The number of the split output, which edition 3 alone uses.
+pub const SPLIT: usize = 5;
 /// Places in each queue at most.
 pub const DEPTH: usize = 8;
-/// Event codes of a site.
+/// Event codes of a site in editions 1 and 2.
 pub const CODES: usize = 13;
+/// Event codes of a site in edition 3: the split output, 13, and its operator, 14, are the last.
+pub const CODES_OF_3: usize = 15;
 /// The channel of an output without one, in both versions.
 pub const NO_CHANNEL: u16 = 65_535;
 /// In a wiring: no input at the end of this output.
@@ -43,10 +54,12 @@ pub struct Wiring {
     pub sites: usize,
     pub tries: u8,
     pub depth: usize,
-    /// Edition 2: an output 1 to 4 that has delivered its terminator is closing.
+    /// Editions 2 and 3: an output 1 to 4 that has delivered its terminator is closing.
     pub closes: bool,
+    /// Edition 3: a packet splits through the split output alone, and timeouts do nothing.
+    pub restricted: bool,
     /// For each output place, the input place that its channel feeds, or `NO_INPUT`.
-    pub far: [u16; PORTS * SITES],
+    pub far: [u16; OUTPUTS * SITES],
     /// At S * from + to: the route list.
     lists: [u16; SITES * SITES],
 }
@@ -56,6 +69,12 @@ impl Wiring {
     #[inline]
     pub fn list(&self, from: usize, to: usize) -> u16 {
         self.lists[(from * self.sites + to) % (SITES * SITES)]
+    }
+
+    /// Event codes of a site.
+    #[inline]
+    pub fn codes(&self) -> usize {
+        codes(self.restricted)
     }
 }
 
@@ -68,6 +87,14 @@ pub fn ports(list: u16) -> impl Iterator<Item = usize> {
         rest <<= 4;
         (port != 0).then_some(port)
     })
+}
+
+fn codes(restricted: bool) -> usize {
+    if restricted {
+        CODES_OF_3
+    } else {
+        CODES
+    }
 }
 
 /// Sites that a network of this version, 1 or 2, can have at most.
@@ -100,8 +127,13 @@ impl Network {
 
     /// Refusal 17, for a known version: an edition unknown, or not 1 in version 1.
     pub fn check_edition(&self) -> Result<(), Refusal> {
-        let known = self.edition == EDITION || self.edition == EDITION_2 && self.version != 1;
+        let known = EDITIONS.contains(&self.edition) && (self.edition == EDITION || self.version != 1);
         known.then_some(()).ok_or(Refusal::Edition)
+    }
+
+    /// Event codes of a site in the network's edition.
+    pub fn codes(&self) -> usize {
+        codes(self.edition == EDITION_3)
     }
 
     /// Refusal 3, for a known version: S 1 to 16 or to 64, T 1 to 255, D 1 to 8.
@@ -166,18 +198,19 @@ impl Network {
 
     fn wired(&self) -> Wiring {
         let sites = self.sites as usize;
-        let mut far = [NO_INPUT; PORTS * SITES];
+        let mut far = [NO_INPUT; OUTPUTS * SITES];
         let mut lists = [0; SITES * SITES];
         for site in 0..sites {
             for port in 1..PORTS {
                 let end = self.channels[4 * site + port - 1];
                 if end != NO_CHANNEL {
-                    far[PORTS * site + port] = end / 4 * PORTS as u16 + end % 4 + 1;
+                    far[OUTPUTS * site + port] = end / 4 * PORTS as u16 + end % 4 + 1;
                 }
             }
         }
         lists[..sites * sites].copy_from_slice(&self.routes[..sites * sites]);
-        let (tries, depth, closes) = (self.tries, self.depth as usize, self.edition == EDITION_2);
-        Wiring { sites, tries, depth, closes, far, lists }
+        let (tries, depth) = (self.tries, self.depth as usize);
+        let (closes, restricted) = (self.edition >= EDITION_2, self.edition == EDITION_3);
+        Wiring { sites, tries, depth, closes, restricted, far, lists }
     }
 }

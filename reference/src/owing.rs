@@ -1,6 +1,6 @@
 //! Owing: which place owes which targets of which packet, place by place.
 
-use crate::network::SITES;
+use crate::network::{SITES, SPLIT};
 use crate::sets::{only, size, Set};
 use crate::state::{Phase, State, Terminator};
 
@@ -17,10 +17,15 @@ pub enum Debt {
     RemoteEnd,
     InQueueEnd,
     InQueueKeepLocal,
+    SplitEnd,
+    SplitQueueEnd,
 }
 
+/// Kinds of place that owe in runs of edition 1; those of the split output come behind them.
+pub const DEBTS_OF_1: usize = 10;
+
 /// Every kind with its words, in the order of the enum.
-pub const DEBTS: [(Debt, &str); 10] = [
+pub const DEBTS: [(Debt, &str); 12] = [
     (Debt::OutQueue, "out-queue entry, not started"),
     (Debt::OutQueueStarted, "out-queue entry, started"),
     (Debt::InputDone, "net-input done with end"),
@@ -31,6 +36,8 @@ pub const DEBTS: [(Debt, &str); 10] = [
     (Debt::RemoteEnd, "output 1 to 4 with end"),
     (Debt::InQueueEnd, "in-queue entry with end"),
     (Debt::InQueueKeepLocal, "in-queue entry with keep-local"),
+    (Debt::SplitEnd, "split output with end"),
+    (Debt::SplitQueueEnd, "split in-queue entry with end"),
 ];
 
 /// What a place with this terminator owes of its set. A closing output holds none and owes nothing.
@@ -65,14 +72,18 @@ pub fn each(state: &State, mut owes: impl FnMut(Debt, u8, Set)) {
             let kind = match (port, o.terminator) {
                 (0, Terminator::KeepLocal) => Debt::LocalKeepLocal,
                 (0, _) => Debt::LocalEnd,
+                (SPLIT, _) => Debt::SplitEnd,
                 _ => Debt::RemoteEnd,
             };
             tell(kind, o.packet, due(o.terminator, o.set, site));
         }
-        for e in state.in_queues[site].items() {
-            let keeps = e.terminator == Terminator::KeepLocal;
-            let kind = if keeps { Debt::InQueueKeepLocal } else { Debt::InQueueEnd };
-            tell(kind, e.packet, due(e.terminator, e.set, site));
+        for (queue, end) in [(&state.in_queues, Debt::InQueueEnd), (&state.split_queues, Debt::SplitQueueEnd)]
+        {
+            for e in queue[site].items() {
+                let keeps = e.terminator == Terminator::KeepLocal;
+                let kind = if keeps { Debt::InQueueKeepLocal } else { end };
+                tell(kind, e.packet, due(e.terminator, e.set, site));
+            }
         }
     }
 }

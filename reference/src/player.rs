@@ -71,7 +71,7 @@ impl<'a, W: Watch> Play<'a, W> {
     #[inline]
     pub fn draw(&mut self) -> (u16, Answer) {
         self.sends();
-        let (site, code) = event(self.draws.next_value(), self.wiring.sites);
+        let (site, code) = event(self.draws.next_value(), self.wiring.sites, self.wiring.codes());
         let mut machine = Machine { wiring: self.wiring, state: &mut self.state, watch: &mut self.watch };
         let answer = machine.run(site, code);
         let draw = self.draw;

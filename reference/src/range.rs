@@ -1,23 +1,25 @@
-//! In range: which states the single events take (refusal 13). Clause by clause as document 01 lists them, and the mark
-//! of edition 2.
+//! In range: which states the single events take (refusal 13). Clause by clause as document 01 lists them, and those of
+//! the mark closing and of the split output.
 
-use crate::network::{Wiring, DEPTH, PORTS, SITES};
+use crate::network::{Wiring, DEPTH, OUTPUTS, PORTS, SITES, SPLIT};
 use crate::sets::{is_target_set, Set};
 use crate::state::{Connection, InEntry, Input, OutEntry, Output, Phase, Queue, State, Terminator};
 
 /// Whether the state is in range for the network of this wiring.
 pub fn in_range(wiring: &Wiring, state: &State) -> bool {
-    let &Wiring { sites, tries, closes, .. } = wiring;
-    let bounds = Bounds { sites, tries, closes, counter: state.counter };
+    let &Wiring { sites, tries, closes, restricted, .. } = wiring;
+    let bounds = Bounds { sites, tries, closes, restricted, counter: state.counter };
     (0..SITES).all(|site| {
         if site >= wiring.sites {
             return state.is_zero_site(site);
         }
         let outputs = state.outputs_of(site);
         (0..PORTS).all(|port| bounds.input(port, &state.inputs_of(site)[port], outputs))
-            && (0..PORTS).all(|port| bounds.output(port, &outputs[port]))
+            && (0..OUTPUTS).all(|port| bounds.output(port, &outputs[port]))
             && queue(&state.out_queues[site], wiring.depth, |i, e| bounds.out_entry(i, e))
             && queue(&state.in_queues[site], wiring.depth, |_, e| bounds.in_entry(e))
+            && queue(&state.split_queues[site], wiring.depth, |_, e| bounds.in_entry(e))
+            && (restricted || state.is_zero_split(site))
     })
 }
 
@@ -25,6 +27,7 @@ struct Bounds {
     sites: usize,
     tries: u8,
     closes: bool,
+    restricted: bool,
     counter: u8,
 }
 
@@ -47,11 +50,12 @@ impl Bounds {
             && input.tries <= self.tries
             && (input.connection == Connection::None) == seeks
             && (input.outputs == 0) == seeks
-            && input.outputs < 1 << PORTS
+            && input.outputs < 1 << OUTPUTS
             && (input.received != Terminator::None) == received
             && input.received != Terminator::KeepLocal
-            && (0..PORTS).all(|p| !connected(p) || takes_from(&outputs[p], port))
-            && (!splits || connected(0))
+            && (0..OUTPUTS).all(|p| !connected(p) || takes_from(&outputs[p], port))
+            && (!splits || connected(0) && !self.restricted)
+            && (input.connection == Connection::Split) == connected(SPLIT)
             && (!aborting || splits && input.outputs == 1)
     }
 
@@ -65,10 +69,10 @@ impl Bounds {
             && (!output.closing || self.may_close(port, output))
     }
 
-    /// The mark of an output in use: in edition 2, at outputs 1 to 4, head taken, without a terminator; that no input
-    /// is connected to it says `takes_from`.
+    /// The mark of an output in use: in editions 2 and 3, at outputs 1 to 4, head taken, without a terminator; that no
+    /// input is connected to it says `takes_from`.
     fn may_close(&self, port: usize, output: &Output) -> bool {
-        self.closes && port != 0 && output.head && output.terminator == Terminator::None
+        self.closes && (1..PORTS).contains(&port) && output.head && output.terminator == Terminator::None
     }
 
     fn out_entry(&self, place: usize, entry: &OutEntry) -> bool {

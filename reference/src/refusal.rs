@@ -16,7 +16,7 @@ pub enum Refusal {
     Channel = 6,
     Route = 7,
     Send = 8,
-    /// RUN or SEND: no such site or code.
+    /// RUN or SEND: no such site, or no such code in the edition.
     Address = 9,
     /// SEND: set empty or outside S.
     Set = 10,

@@ -3,7 +3,7 @@
 //! It reads the network and the outputs that are empty, and changes nothing. The set is a target set. A closing output is
 //! in use, and serves nobody.
 
-use crate::network::{ports, Wiring, PORTS};
+use crate::network::{ports, Wiring, OUTPUTS, SPLIT};
 use crate::sets::{has, members, only, without, Set};
 use crate::state::Connection;
 use crate::watch::{Rule, Watch};
@@ -11,7 +11,7 @@ use crate::watch::{Rule, Watch};
 /// The outputs that a packet gets: `shares[p]` is the set for output p, empty where it is not chosen.
 pub struct Choice {
     pub connection: Connection,
-    pub shares: [Set; PORTS],
+    pub shares: [Set; OUTPUTS],
 }
 
 pub enum Verdict {
@@ -32,7 +32,7 @@ pub struct Request<'a> {
 }
 
 fn whole(connection: Connection, port: usize, set: Set) -> Choice {
-    let mut shares = [0; PORTS];
+    let mut shares = [0; OUTPUTS];
     shares[port] = set;
     Choice { connection, shares }
 }
@@ -70,6 +70,9 @@ impl Request<'_> {
     /// The only target is the own site or another one.
     fn unicast(&self, watch: &mut impl Watch) -> Option<Choice> {
         let target = self.set.trailing_zeros() as usize;
+        if target == self.site && self.wiring.restricted && !self.is_empty(0) && self.is_empty(SPLIT) {
+            watch.saw(Rule::LocalAloneBusy);
+        }
         let port = if target == self.site {
             self.is_empty(0).then_some(0)?
         } else {
@@ -83,22 +86,59 @@ impl Request<'_> {
         Some(whole(Connection::Unicast, port, self.set))
     }
 
-    /// Two or more targets: a split if output 0 is empty and every target gets an output, else passthru.
+    /// Two or more targets: a split where there is one, else passthru.
     fn multicast(&self, watch: &mut impl Watch) -> Option<Choice> {
+        if self.wiring.restricted {
+            return self.onward(watch);
+        }
         if self.is_empty(0) {
             if let Some(shares) = self.shares(watch) {
                 return Some(self.split(shares, watch));
             }
         }
-        let lowest = without(self.set, self.site).trailing_zeros() as usize;
-        let port = self.first(lowest, self.empty)?;
+        let port = self.way()?;
         watch.saw(if self.is_empty(0) { Rule::PassthruPartial } else { Rule::PassthruBusy });
         Some(whole(Connection::Passthru, port, self.set))
     }
 
+    /// The first empty output in the list of the lowest target but the own site.
+    fn way(&self) -> Option<usize> {
+        self.first(self.lowest(), self.empty)
+    }
+
+    fn lowest(&self) -> usize {
+        without(self.set, self.site).trailing_zeros() as usize
+    }
+
+    /// Edition 3: the own site to the split output and the rest that way, if it is a target and the split output is
+    /// empty; else the whole set that way.
+    fn onward(&self, watch: &mut impl Watch) -> Option<Choice> {
+        let local = has(self.set, self.site);
+        let Some(port) = self.way() else {
+            if self.is_empty(SPLIT) {
+                watch.saw(Rule::BranchNoOnward);
+            }
+            return None;
+        };
+        if !local || !self.is_empty(SPLIT) {
+            watch.saw(if local { Rule::OnwardBranchBusy } else { Rule::OnwardElsewhere });
+            return Some(whole(Connection::Passthru, port, self.set));
+        }
+        watch.saw(Rule::BranchTaken);
+        if self.first(self.lowest(), u8::MAX) != Some(port) {
+            watch.saw(Rule::BranchLater);
+        }
+        if !self.is_empty(0) {
+            watch.saw(Rule::BranchLocalBusy);
+        }
+        let mut choice = whole(Connection::Split, port, without(self.set, self.site));
+        choice.shares[SPLIT] = only(self.site);
+        Some(choice)
+    }
+
     /// For each target but the own site, ascending, the first output empty or already chosen.
-    fn shares(&self, watch: &mut impl Watch) -> Option<[Set; PORTS]> {
-        let mut shares = [0; PORTS];
+    fn shares(&self, watch: &mut impl Watch) -> Option<[Set; OUTPUTS]> {
+        let mut shares = [0; OUTPUTS];
         for target in members(without(self.set, self.site)) {
             // An output chosen for this packet was empty before, so it is still among the empty ones here.
             let port = self.first(target, self.empty)?;
@@ -110,7 +150,7 @@ impl Request<'_> {
         Some(shares)
     }
 
-    fn split(&self, mut shares: [Set; PORTS], watch: &mut impl Watch) -> Choice {
+    fn split(&self, mut shares: [Set; OUTPUTS], watch: &mut impl Watch) -> Choice {
         let local = has(self.set, self.site);
         let single = shares.iter().filter(|&&s| s != 0).count() == 1;
         if single && !local {

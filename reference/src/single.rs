@@ -3,7 +3,7 @@
 //!
 //! A refusal leaves the state as it was handed in.
 
-use crate::network::{Network, Wiring, CODES};
+use crate::network::{Network, Wiring};
 use crate::range::in_range;
 use crate::refusal::Refusal;
 use crate::sets::{is_target_set, Set};
@@ -57,7 +57,7 @@ pub fn run_seen(
     watch: &mut impl Watch,
 ) -> Result<Answer, Refusal> {
     let wiring = checked(network, state)?;
-    if site >= wiring.sites as u64 || code >= CODES as u64 {
+    if site >= wiring.sites as u64 || code >= wiring.codes() as u64 {
         return Err(Refusal::Address);
     }
     Ok(Machine { wiring: &wiring, state, watch }.run(site as usize, code as usize))

@@ -1,10 +1,9 @@
-//! The state: every net-input, net-output and queue in flat arrays, and the packet counter; one state for both
-//! editions.
+//! The state: every net-input, net-output and queue in flat arrays, and the packet counter; one state for all editions.
 //!
 //! A state here can hold anything that its types allow, in range or not. The zero value of every type is
 //! the empty place.
 
-use crate::network::{DEPTH, PORTS, SITES};
+use crate::network::{DEPTH, OUTPUTS, PORTS, SITES, SPLIT};
 use crate::sets::Set;
 
 /// A net-input's state number.
@@ -32,6 +31,8 @@ pub enum Connection {
     AllRemote,
     SomeLocal,
     Handed,
+    /// Edition 3: the own site by the split output, the rest onward.
+    Split,
 }
 
 #[derive(Clone, Copy, PartialEq, Eq, Debug, Default)]
@@ -54,13 +55,14 @@ pub const PHASES: [Phase; 8] = [
     Phase::Abort,
     Phase::FinAbort,
 ];
-pub const CONNECTIONS: [Connection; 6] = [
+pub const CONNECTIONS: [Connection; 7] = [
     Connection::None,
     Connection::Unicast,
     Connection::Passthru,
     Connection::AllRemote,
     Connection::SomeLocal,
     Connection::Handed,
+    Connection::Split,
 ];
 pub const TERMINATORS: [Terminator; 4] =
     [Terminator::None, Terminator::End, Terminator::Abort, Terminator::KeepLocal];
@@ -88,7 +90,7 @@ pub struct Output {
     /// Whether its head has been taken.
     pub head: bool,
     pub terminator: Terminator,
-    /// Edition 2: its terminator is delivered, and it is held until its channel's input is free.
+    /// Editions 2 and 3: its terminator is delivered, and it is held until its channel's input is free.
     pub closing: bool,
 }
 
@@ -155,9 +157,11 @@ impl<E: Copy + Default> Queue<E> {
 #[derive(Clone, PartialEq, Eq, Debug)]
 pub struct State {
     pub inputs: [Input; PORTS * SITES],
-    pub outputs: [Output; PORTS * SITES],
+    pub outputs: [Output; OUTPUTS * SITES],
     pub out_queues: [Queue<OutEntry>; SITES],
     pub in_queues: [Queue<InEntry>; SITES],
+    /// The in-queues of the split outputs.
+    pub split_queues: [Queue<InEntry>; SITES],
     /// The packets accepted so far: the number of the next one.
     pub counter: u8,
 }
@@ -166,9 +170,10 @@ impl State {
     pub fn empty() -> State {
         State {
             inputs: [Input::default(); PORTS * SITES],
-            outputs: [Output::default(); PORTS * SITES],
+            outputs: [Output::default(); OUTPUTS * SITES],
             out_queues: [Queue::default(); SITES],
             in_queues: [Queue::default(); SITES],
+            split_queues: [Queue::default(); SITES],
             counter: 0,
         }
     }
@@ -178,7 +183,24 @@ impl State {
     }
 
     pub fn outputs_of(&self, site: usize) -> &[Output] {
-        &self.outputs[PORTS * site..][..PORTS]
+        &self.outputs[OUTPUTS * site..][..OUTPUTS]
+    }
+
+    /// The in-queue of output 0, or that of the split output.
+    pub fn in_queue(&self, site: usize, port: usize) -> &Queue<InEntry> {
+        if port == SPLIT {
+            &self.split_queues[site]
+        } else {
+            &self.in_queues[site]
+        }
+    }
+
+    pub fn in_queue_mut(&mut self, site: usize, port: usize) -> &mut Queue<InEntry> {
+        if port == SPLIT {
+            &mut self.split_queues[site]
+        } else {
+            &mut self.in_queues[site]
+        }
     }
 
     /// Whether every field of the site is zero.
@@ -187,5 +209,13 @@ impl State {
             && self.outputs_of(site).iter().all(|o| *o == Output::default())
             && self.out_queues[site] == Queue::default()
             && self.in_queues[site] == Queue::default()
+            && self.split_queues[site] == Queue::default()
+    }
+
+    /// Whether the split output of the site, its marks at the inputs and its in-queue are zero.
+    pub fn is_zero_split(&self, site: usize) -> bool {
+        self.inputs_of(site).iter().all(|i| i.outputs >> SPLIT & 1 == 0)
+            && self.outputs_of(site)[SPLIT] == Output::default()
+            && self.split_queues[site] == Queue::default()
     }
 }

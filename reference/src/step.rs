@@ -7,7 +7,7 @@ mod inputs;
 mod outputs;
 mod queues;
 
-use crate::network::{Wiring, CODES, NO_INPUT, PORTS};
+use crate::network::{Wiring, NO_INPUT, OUTPUTS, SPLIT};
 use crate::sets::Set;
 use crate::state::{Input, Phase, State, Terminator};
 use crate::watch::{Rule, Watch};
@@ -33,20 +33,22 @@ impl<W: Watch> Machine<'_, W> {
     pub fn run(&mut self, site: usize, code: usize) -> Answer {
         match code {
             0..=4 => self.net_input(site, code),
-            5 => self.local_output(site),
+            5 => self.local_output(site, 0),
             6..=9 => self.remote_output(site, code - 5),
             10 => self.out_queue(site),
-            11 => self.operator(site),
+            11 => self.operator(site, 0),
             12 => self.timeout(site),
-            _ => unreachable!("codes end below {CODES}"),
+            13 => self.local_output(site, SPLIT),
+            14 => self.operator(site, SPLIT),
+            _ => unreachable!("the codes of every edition are above"),
         }
     }
 
-    /// In use, head taken, and either output 0 or its channel's input open or abort.
+    /// In use, head taken, and either output 0, the split output, or its channel's input open or abort.
     fn is_ready(&self, site: usize, port: usize) -> bool {
-        let place = PORTS * site + port;
+        let place = OUTPUTS * site + port;
         let output = &self.state.outputs[place];
-        output.used && output.head && (port == 0 || self.far_takes_terminator(place))
+        output.used && output.head && (matches!(port, 0 | SPLIT) || self.far_takes_terminator(place))
     }
 
     /// Whether the output has a channel whose input is open or abort.

@@ -3,11 +3,14 @@
 //! docs/TESTING.md gives the forms number by number. Only states that an enum of phases can hold are written:
 //! connection and received terminator stand exactly where the phase has them.
 
-use crate::network::{Network, DEPTH, NO_CHANNEL, PORTS, SITES, SITES_OF_1};
+mod reading;
+
+pub use reading::read_cases;
+
+use crate::network::{Network, NO_CHANNEL, PORTS, SITES, SITES_OF_1, SPLIT};
 use crate::refusal::Refusal;
 use crate::single::{run_seen, send_seen, Event};
-use crate::state::{Connection, InEntry, Input, OutEntry, Output, Phase, State, Terminator};
-use crate::state::{CONNECTIONS, PHASES, TERMINATORS};
+use crate::state::{Connection, InEntry, Output, Phase, Queue, State, Terminator};
 use crate::step::Answer;
 use crate::watch::Watch;
 
@@ -148,138 +151,36 @@ impl Writer {
     }
 }
 
-/// The numbers of a site, the mark 1 first.
+/// The numbers of a site, the mark first: 1, or 2 where the last 36 numbers, those of the split output, come too.
 fn site_numbers(state: &State, site: usize) -> Vec<u64> {
-    let mut numbers = vec![1];
+    let splits = !state.is_zero_split(site);
+    let mut numbers = vec![1 + splits as u64];
     for i in state.inputs_of(site) {
         numbers.extend([i.phase as u64, i.connection as u64, i.received as u64, i.packet as u64, i.set]);
         numbers.extend((0..PORTS).map(|p| (i.outputs >> p & 1) as u64));
         numbers.push(i.tries as u64);
     }
-    for o in state.outputs_of(site) {
-        let used = o.used as u64 + 2 * o.closing as u64;
-        numbers.extend([used, o.packet as u64, o.set, o.input as u64, o.head as u64]);
-        numbers.push(o.terminator as u64);
-    }
+    numbers.extend(state.outputs_of(site)[..PORTS].iter().flat_map(output_numbers));
     numbers.push(state.out_queues[site].count);
     for e in &state.out_queues[site].entries {
         numbers.extend([e.packet as u64, e.set, e.started as u64]);
     }
-    numbers.push(state.in_queues[site].count);
-    for e in &state.in_queues[site].entries {
-        numbers.extend([e.packet as u64, e.set, e.terminator as u64]);
+    numbers.extend(queue_numbers(&state.in_queues[site]));
+    if splits {
+        numbers.extend(state.inputs_of(site).iter().map(|i| (i.outputs >> SPLIT & 1) as u64));
+        numbers.extend(output_numbers(&state.outputs_of(site)[SPLIT]));
+        numbers.extend(queue_numbers(&state.split_queues[site]));
     }
     numbers
 }
 
-/// Reads numbers one after another; it panics on a text that is not of the form.
-struct Reader<'a>(std::str::SplitAsciiWhitespace<'a>);
-
-/// The cases of a text.
-pub fn read_cases(text: &str) -> Vec<Case> {
-    let mut reader = Reader(text.split_ascii_whitespace());
-    let (first, second) = (reader.number(), reader.number());
-    let forms = (0..first).map(|_| Form::First).chain((0..second).map(|_| Form::Second));
-    forms.map(|form| reader.case(form)).collect()
+fn output_numbers(o: &Output) -> [u64; 6] {
+    let used = o.used as u64 + 2 * o.closing as u64;
+    [used, o.packet as u64, o.set, o.input as u64, o.head as u64, o.terminator as u64]
 }
 
-impl Reader<'_> {
-    fn number(&mut self) -> u64 {
-        self.0.next().expect("another number").parse().expect("a decimal number")
-    }
-
-    fn byte(&mut self) -> u8 {
-        self.number().try_into().expect("a number below 256")
-    }
-
-    fn word(&mut self) -> u16 {
-        self.number().try_into().expect("a number below 65536")
-    }
-
-    fn mark(&mut self) -> bool {
-        self.number() == 1
-    }
-
-    fn terminator(&mut self) -> Terminator {
-        TERMINATORS[self.number() as usize]
-    }
-
-    fn case(&mut self, form: Form) -> Case {
-        let network = self.network(form);
-        let state = self.state(form);
-        let (kind, site, number) = (self.number(), self.number(), self.number());
-        let event =
-            if kind == 1 { Event::Run { site, code: number } } else { Event::Send { site, set: number } };
-        Case { form, network, state, event }
-    }
-
-    fn network(&mut self, form: Form) -> Network {
-        let mut network = Network::blank();
-        if form == Form::Second {
-            (network.version, network.edition) = (self.byte(), self.byte());
-        }
-        (network.sites, network.tries, network.depth) = (self.number(), self.byte(), self.number());
-        let room = form.room();
-        self.fill(&mut network.channels[..4 * room], |reader| reader.channel(form));
-        self.fill(&mut network.routes[..room * room], Reader::word);
-        network
-    }
-
-    fn channel(&mut self, form: Form) -> u16 {
-        match form {
-            Form::First => match self.byte() {
-                255 => NO_CHANNEL,
-                end => end.into(),
-            },
-            Form::Second => self.word(),
-        }
-    }
-
-    /// The number that fills the room, and those that stand at its front.
-    fn fill(&mut self, room: &mut [u16], next: impl Fn(&mut Self) -> u16) {
-        room.fill(next(self));
-        let count = self.number() as usize;
-        room[..count].fill_with(|| next(self));
-    }
-
-    fn state(&mut self, form: Form) -> State {
-        let mut state = State { counter: self.byte(), ..State::empty() };
-        for site in 0..form.room() {
-            if self.mark() {
-                self.site(&mut state, site);
-            }
-        }
-        state
-    }
-
-    fn site(&mut self, state: &mut State, site: usize) {
-        state.inputs[PORTS * site..][..PORTS].fill_with(|| self.input());
-        state.outputs[PORTS * site..][..PORTS].fill_with(|| self.output());
-        state.out_queues[site].count = self.number();
-        for place in 0..DEPTH {
-            let (packet, set, started) = (self.byte(), self.number(), self.mark());
-            state.out_queues[site].entries[place] = OutEntry { packet, set, started };
-        }
-        state.in_queues[site].count = self.number();
-        for place in 0..DEPTH {
-            let (packet, set, terminator) = (self.byte(), self.number(), self.terminator());
-            state.in_queues[site].entries[place] = InEntry { packet, set, terminator };
-        }
-    }
-
-    fn input(&mut self) -> Input {
-        let phase = PHASES[self.number() as usize];
-        let connection = CONNECTIONS[self.number() as usize];
-        let received = self.terminator();
-        let (packet, set) = (self.byte(), self.number());
-        let outputs = (0..PORTS).fold(0, |marks, port| marks | (self.mark() as u8) << port);
-        Input { phase, connection, received, packet, set, outputs, tries: self.byte() }
-    }
-
-    fn output(&mut self) -> Output {
-        let (marks, packet, set) = (self.number(), self.byte(), self.number());
-        assert!(marks < 4, "in use, and 2 more for closing");
-        let (input, head, terminator) = (self.byte(), self.mark(), self.terminator());
-        Output { used: marks % 2 == 1, packet, set, input, head, terminator, closing: marks > 1 }
-    }
+/// The numbers of an in-queue.
+fn queue_numbers(queue: &Queue<InEntry>) -> Vec<u64> {
+    let entries = queue.entries.iter().flat_map(|e| [e.packet as u64, e.set, e.terminator as u64]);
+    std::iter::once(queue.count).chain(entries).collect()
 }

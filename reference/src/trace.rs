@@ -5,7 +5,7 @@
 
 use crate::archive::{Run, Send};
 use crate::draws::{event, Draws};
-use crate::network::{Wiring, PORTS};
+use crate::network::{Wiring, OUTPUTS, PORTS, SPLIT};
 use crate::owing::owed;
 use crate::refusal::Refusal;
 use crate::sets::{members, size, Set};
@@ -39,6 +39,7 @@ fn connection_name(connection: Connection) -> &'static str {
         Connection::AllRemote => "all-remote",
         Connection::SomeLocal => "some-local",
         Connection::Handed => "handed",
+        Connection::Split => "split",
     }
 }
 
@@ -57,7 +58,9 @@ fn component_name(code: usize) -> String {
         5..=9 => format!("net-output {}", code - 5),
         10 => "out-queue".to_string(),
         11 => "operator".to_string(),
-        _ => "timeout".to_string(),
+        12 => "timeout".to_string(),
+        13 => "split output".to_string(),
+        _ => "split operator".to_string(),
     }
 }
 
@@ -77,8 +80,10 @@ impl Seen<'_> {
             (_, 5) => format!("{} enters the in-queue", self.carried(0)),
             (_, 6..=9) => self.remote_output(code - 5),
             (_, 10) => self.out_queue(),
-            (_, 11) => self.operator(answer),
-            _ => self.timeout(),
+            (_, 11) => self.operator(0, answer),
+            (_, 12) => self.timeout(),
+            (_, 13) => format!("{} enters the split in-queue", self.carried(SPLIT)),
+            _ => self.operator(SPLIT, answer),
         }
     }
 
@@ -88,10 +93,14 @@ impl Seen<'_> {
         format!("{} to {}", phase_name(from), phase_name(to))
     }
 
-    /// For each of these outputs `, output J gets ..`.
+    /// For each of these outputs `, output J gets ..`, for the split output `, split output gets ..`.
     fn gets(&self, outputs: u8, what: impl Fn(usize) -> String) -> String {
-        let marked = (0..PORTS).filter(|port| outputs >> port & 1 == 1);
-        marked.map(|port| format!(", output {port} gets {}", what(PORTS * self.site + port))).collect()
+        let name = |port: usize| match port {
+            SPLIT => "split output".to_string(),
+            _ => format!("output {port}"),
+        };
+        let marked = (0..OUTPUTS).filter(|port| outputs >> port & 1 == 1);
+        marked.map(|port| format!(", {} gets {}", name(port), what(OUTPUTS * self.site + port))).collect()
     }
 
     fn terminators(&self, outputs: u8) -> String {
@@ -117,7 +126,7 @@ impl Seen<'_> {
 
     /// What an output passed on: the packet, that is its head, or the packet's terminator.
     fn carried(&self, port: usize) -> String {
-        let output = &self.before.outputs[PORTS * self.site + port];
+        let output = &self.before.outputs_of(self.site)[port];
         match output.head {
             false => format!("packet {}", output.packet),
             true => format!("{} of packet {}", terminator_name(output.terminator), output.packet),
@@ -125,7 +134,7 @@ impl Seen<'_> {
     }
 
     fn remote_output(&self, port: usize) -> String {
-        let place = PORTS * self.site + port;
+        let place = OUTPUTS * self.site + port;
         let far = self.wiring.far[place] as usize;
         let end = format!("to site {}, net-input {}", far / PORTS, far % PORTS);
         let (old, new) = (&self.before.outputs[place], &self.after.outputs[place]);
@@ -142,8 +151,9 @@ impl Seen<'_> {
         format!("packet {} {verb}, net-input 0 {}", front.packet, self.turn(PORTS * self.site))
     }
 
-    fn operator(&self, answer: Answer) -> String {
-        let front = self.before.in_queues[self.site].entries[0];
+    /// The operator of the in-queue of output 0, or of the split output.
+    fn operator(&self, port: usize, answer: Answer) -> String {
+        let front = self.before.in_queue(self.site, port).entries[0];
         let (old, new) = (&self.before.out_queues[self.site], &self.after.out_queues[self.site]);
         let requeued = new.last().filter(|_| new.count > old.count).map(|entry| set_text(entry.set));
         let packet = format!("packet {}", front.packet);
@@ -158,7 +168,7 @@ impl Seen<'_> {
     }
 
     fn timeout(&self) -> String {
-        let feeder = self.before.outputs[PORTS * self.site].input as usize;
+        let feeder = self.before.outputs_of(self.site)[0].input as usize;
         let place = PORTS * self.site + feeder;
         let input = &self.before.inputs[place];
         let cut = self.terminators(input.outputs & !1);
@@ -231,7 +241,7 @@ pub fn trace(bytes: &[u8], all: bool) -> Result<String, Refusal> {
     let mut serviced = 0;
     for draw in 0..run.draws {
         trace.sends(draw);
-        let (site, code) = event(draws.next_value(), wiring.sites);
+        let (site, code) = event(draws.next_value(), wiring.sites, wiring.codes());
         serviced += trace.draw(draw, site, code, all) as u32;
     }
     trace.sends(run.draws);

@@ -3,6 +3,8 @@
 //! The step tells a `Watch` which rule it took. The watch `()` costs nothing; a `Tally` counts. A new rule is added at
 //! the end: the corpus's searches are seeded by a rule's place.
 
+use crate::network::{EDITION_2, EDITION_3, SPLIT};
+
 /// Sees each rule as it is taken.
 pub trait Watch {
     fn saw(&mut self, rule: Rule);
@@ -116,11 +118,111 @@ rules! {
     ClosingHeld "net-output: closing, input not free"
     ClosingEmptied "net-output: closing, input free, emptied"
     ClosingNoChannel "net-output: closing, no channel"
+    BranchTaken "router: own site to the split output, the rest onward"
+    BranchLater "router: such a split with a later choice onward"
+    BranchLocalBusy "router: such a split, output 0 in use"
+    OnwardBranchBusy "router: split output in use, the whole set onward"
+    OnwardElsewhere "router: own site no target, the whole set onward"
+    BranchNoOnward "router: no way onward, the split output empty"
+    LocalAloneBusy "router: own site alone, output 0 in use, the split output empty"
+    DoneBranch "net-input: done, end, split through the split output"
+    DoneAbortBranch "net-input: done, received abort, split through the split output"
+    SplitOutputEmpty "split output: empty"
+    SplitHeadQueued "split output: head into its in-queue"
+    SplitHeadQueueFull "split output: head, its in-queue full"
+    SplitTerminatorNone "split output: head taken, no terminator yet"
+    SplitTerminatorRefused "split output: its in-queue empty or its last entry has one"
+    SplitEndQueued "split output: end to its in-queue"
+    SplitAbortQueued "split output: abort to its in-queue"
+    SplitQueueEmpty "split operator: in-queue empty"
+    SplitQueueWaits "split operator: front without terminator"
+    SplitOperatorAbort "split operator: abort, discarded"
+    SplitKeepLocalServiced "split operator: keep-local, serviced"
+    SplitKeepLocalDropped "split operator: keep-local, own site not in the set"
+    SplitEndServiced "split operator: end, serviced, no rest"
+    SplitEndServicedRest "split operator: end, serviced, rest requeued"
+    SplitEndRest "split operator: end, own site not in the set, requeued"
+    SplitEndBlocked "split operator: end with a rest, out-queue full"
+    TimeoutRestricted "timeout: none in edition 3"
+    TimeoutBranch "timeout: none in edition 3, the head of a split waits for its terminator"
 }
 
-/// The rules that edition 2 alone has.
-pub const OF_EDITION_2: [Rule; 4] =
+/// The rules that editions 2 and 3 have.
+pub const OF_CLOSING: [Rule; 4] =
     [Rule::Closing, Rule::ClosingHeld, Rule::ClosingEmptied, Rule::ClosingNoChannel];
+
+/// Whether edition 3 alone has the rule.
+pub fn is_of_edition_3(rule: Rule) -> bool {
+    rule as usize >= Rule::BranchTaken as usize
+}
+
+/// Whether some state in range takes the rule in this edition.
+pub fn is_of(edition: u8, rule: Rule) -> bool {
+    match edition {
+        EDITION_3 => !NOT_IN_EDITION_3.contains(&rule),
+        EDITION_2 => !is_of_edition_3(rule),
+        _ => !is_of_edition_3(rule) && !OF_CLOSING.contains(&rule),
+    }
+}
+
+/// The rules that no state in range takes in edition 3: splits by output 0, abort and fin-abort, timeouts that act.
+pub const NOT_IN_EDITION_3: [Rule; 26] = [
+    Rule::DoneAbortSplit,
+    Rule::DoneAllRemote,
+    Rule::DoneSomeLocal,
+    Rule::FinAbortStays,
+    Rule::FinAbortEnd,
+    Rule::FinAbortAbort,
+    Rule::SplitAllRemote,
+    Rule::SplitSomeLocal,
+    Rule::SplitOneRemote,
+    Rule::SplitShared,
+    Rule::PassthruSingle,
+    Rule::PassthruBusy,
+    Rule::PassthruPartial,
+    Rule::EndToAbort,
+    Rule::AbortToAbort,
+    Rule::FrontEndAbort,
+    Rule::TimeoutOpen,
+    Rule::TimeoutWait,
+    Rule::TimeoutDone,
+    Rule::TimeoutLast,
+    Rule::TimeoutAllRemote,
+    Rule::TimeoutSomeLocal,
+    Rule::TimeoutNoEntry,
+    Rule::TimeoutNoOutput,
+    Rule::TimeoutPhase,
+    Rule::TimeoutConnection,
+];
+
+impl Rule {
+    /// The rule's name at this output or its in-queue: the split output has names of its own.
+    #[inline]
+    pub fn at(self, port: usize) -> Rule {
+        if port != SPLIT {
+            return self;
+        }
+        match self {
+            Rule::OutputEmpty => Rule::SplitOutputEmpty,
+            Rule::HeadQueued => Rule::SplitHeadQueued,
+            Rule::HeadQueueFull => Rule::SplitHeadQueueFull,
+            Rule::TerminatorNone => Rule::SplitTerminatorNone,
+            Rule::TerminatorRefused => Rule::SplitTerminatorRefused,
+            Rule::EndQueued => Rule::SplitEndQueued,
+            Rule::AbortQueued => Rule::SplitAbortQueued,
+            Rule::InQueueEmpty => Rule::SplitQueueEmpty,
+            Rule::InQueueWaits => Rule::SplitQueueWaits,
+            Rule::OperatorAbort => Rule::SplitOperatorAbort,
+            Rule::KeepLocalServiced => Rule::SplitKeepLocalServiced,
+            Rule::KeepLocalDropped => Rule::SplitKeepLocalDropped,
+            Rule::EndServiced => Rule::SplitEndServiced,
+            Rule::EndServicedRest => Rule::SplitEndServicedRest,
+            Rule::EndRest => Rule::SplitEndRest,
+            Rule::EndBlocked => Rule::SplitEndBlocked,
+            other => other,
+        }
+    }
+}
 
 /// Counts every rule.
 #[derive(Clone)]

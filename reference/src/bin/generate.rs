@@ -1,6 +1,6 @@
-//! `generate SEED COUNT [FOLDER]`: makes COUNT archives of both versions and editions, a third of them damaged, and
-//! prints what they reach, for each version and edition. One in three of version 2 is followed by itself in the other
-//! edition.
+//! `generate SEED COUNT [FOLDER]`: makes COUNT archives of both versions and all editions, a third of them damaged,
+//! and prints what they reach, for each version and edition. One in three of version 2 is followed by itself in the
+//! other two editions.
 //!
 //! With a folder each archive becomes a file there; their names, sorted, are in the order of making.
 
@@ -20,7 +20,7 @@ struct Reached {
     coverage: Coverage,
     debts: [[u64; COLUMNS.len()]; DEBTS.len()],
     played: [u64; COLUMNS.len()],
-    /// Runs that are made in the other edition too, and those of them whose books differ.
+    /// Runs that are made in the other editions too, and those of them with another book in one of these.
     twins: [u64; COLUMNS.len()],
     differ: [u64; COLUMNS.len()],
 }
@@ -54,16 +54,16 @@ impl Reached {
         self.short_room(run, bytes);
     }
 
-    /// The run in the other edition, of one in three of version 2.
-    fn twin(&mut self, rng: &mut Rng, run: &Run) -> Option<Run> {
+    /// The run in the other editions, of one in three of version 2.
+    fn twins(&mut self, rng: &mut Rng, run: &Run) -> Vec<Run> {
         if run.network.version == 1 || !rng.one_in(3) {
-            return None;
+            return Vec::new();
         }
-        let twin = runs::twin(run);
+        let twins = runs::twins(run);
         let column = column(kind(&run.network));
         self.twins[column] += 1;
-        self.differ[column] += u64::from(book(run) != book(&twin));
-        Some(twin)
+        self.differ[column] += u64::from(twins.iter().any(|twin| book(run) != book(twin)));
+        twins
     }
 
     /// Refusal 14, at one byte too few.
@@ -78,8 +78,8 @@ impl Reached {
     fn print(&self) {
         println!("{}", Coverage::heading());
         line(self.played, "played");
-        line(self.twins, "played in the other edition too");
-        line(self.differ, "of these with another book there");
+        line(self.twins, "played in the other editions too");
+        line(self.differ, "of these with another book in one of them");
         self.coverage.print(&[1, 2, 17, 3, 4, 5, 6, 7, 8, 11, 14]);
         for (kind, words) in DEBTS {
             line(self.debts[kind as usize], &format!("owes at the end: {words}"));
@@ -97,13 +97,13 @@ fn main() {
     let folder = args.get(2).map(PathBuf::from);
     let mut rng = Rng::new(seed);
     let mut reached = Reached::default();
-    let mut twin = None;
+    let mut twins = Vec::new();
     for at in 0..count {
-        let run = match twin.take() {
+        let run = match twins.pop() {
             Some(run) => run,
             None => {
                 let run = runs::either_run(&mut rng, true);
-                twin = reached.twin(&mut rng, &run);
+                twins = reached.twins(&mut rng, &run);
                 run
             }
         };

@@ -2,13 +2,13 @@
 //!
 //! Of the events that a state allows, those whose rules the cases so far show least are preferred.
 
-use super::{clauses, graphs, marks, rng::Rng, runs, spoil, states};
-use crate::network::{Network, CODES, EDITION_2, SITES, SITES_OF_1};
+use super::{branches, clauses, graphs, marks, rng::Rng, runs, spoil, states};
+use crate::network::{Network, EDITION, EDITION_2, EDITION_3, SITES, SITES_OF_1};
 use crate::single::Event;
 use crate::state::State;
 use crate::step::Machine;
 use crate::text::{Case, Form};
-use crate::watch::{Rule, Tally, OF_EDITION_2};
+use crate::watch::{is_of_edition_3, Rule, Tally, OF_CLOSING};
 
 /// The kinds of case, with the share of each in a hundred.
 pub const KINDS: [(&str, usize); 6] = [
@@ -23,28 +23,29 @@ pub const KINDS: [(&str, usize); 6] = [
 /// States looked at for one case.
 const TURNS: usize = 14;
 
-/// How much oftener than others the rules of edition 2 are shown in its cases.
-const OFTENER: u64 = 5;
+/// How much oftener than others the rules that edition 2 brings are shown in its cases, and those of edition 3 in its.
+const OFTENER: [u64; 2] = [5, 2];
 
 pub struct Maker {
     rng: Rng,
     form: Form,
-    /// Whether the cases are of edition 2.
-    held: bool,
-    /// The rules that the cases so far take, of the second form those in version 2, of edition 2 those in it.
+    edition: u8,
+    /// The rules that the cases so far take, of the second form those in version 2, of edition 2 or 3 those in it.
     pub shown: Tally,
+    /// How many cases so far break each of `branches::CLAUSES` on purpose.
+    pub broken: [u64; branches::CLAUSES.len()],
 }
 
 impl Maker {
     /// Cases of edition 1, in the first form of version 1, in the second of both versions.
     pub fn new(seed: u64, form: Form) -> Maker {
-        Maker { rng: Rng::new(seed), form, held: false, shown: Tally::default() }
+        let (rng, shown) = (Rng::new(seed), Tally::default());
+        Maker { rng, form, edition: EDITION, shown, broken: [0; branches::CLAUSES.len()] }
     }
 
-    /// Cases of edition 2, in the second form, from numbers of their own.
-    pub fn held(seed: u64) -> Maker {
-        let rng = Rng::new(seed ^ u64::from(EDITION_2) << 32);
-        Maker { rng, form: Form::Second, held: true, shown: Tally::default() }
+    /// Cases of edition 2 or 3, in the second form, from numbers of their own.
+    pub fn of_edition(seed: u64, edition: u8) -> Maker {
+        Maker { edition, ..Maker::new(seed ^ u64::from(edition) << 32, Form::Second) }
     }
 
     /// Draws a kind of case, its place in `KINDS`, by its share.
@@ -62,14 +63,18 @@ impl Maker {
     pub fn any_case(&mut self, kind: usize) -> Case {
         loop {
             let mut case = self.telling_case(kind == 1, if kind < 2 { TURNS } else { 1 });
-            let (rng, form) = (&mut self.rng, self.form);
+            let (rng, form, later) = (&mut self.rng, self.form, self.edition > EDITION);
+            let mut broken = None;
             match kind {
-                2 if self.held && rng.one_in(3) => marks::spoil_edition(rng, &mut case.network),
+                2 if later && rng.one_in(3) => marks::spoil_edition(rng, &mut case.network),
                 2 => spoil::spoil_network(rng, form, &mut case.network),
-                3 if self.held && rng.one_in(2) => marks::break_mark(rng, &mut case),
+                3 if self.edition == EDITION_3 && rng.one_in(2) => {
+                    broken = Some(branches::break_branch(rng, &mut case));
+                }
+                3 if later && rng.one_in(2) => marks::break_mark(rng, &mut case),
                 3 if rng.one_in(3) => clauses::break_clause(rng, &case.network, form.room(), &mut case.state),
                 3 => spoil::spoil_state(rng, form, &case.network, &mut case.state),
-                4 => case.event = spoil::stray_event(rng, form, case.network.sites as usize),
+                4 => case.event = spoil::stray_event(rng, form, &case.network),
                 5 => two_faults(rng, &mut case),
                 _ => (),
             }
@@ -80,6 +85,7 @@ impl Maker {
                 if self.counts(&case.network) {
                     case.outcome(&mut self.shown);
                 }
+                broken.iter().for_each(|&clause: &usize| self.broken[clause] += 1);
                 return case;
             }
         }
@@ -89,7 +95,7 @@ impl Maker {
     fn counts(&self, network: &Network) -> bool {
         match self.form {
             Form::First => true,
-            Form::Second if self.held => network.version == 2 && network.edition == EDITION_2,
+            Form::Second if self.edition > EDITION => network.version == 2 && network.edition == self.edition,
             Form::Second => network.version == 2,
         }
     }
@@ -126,8 +132,8 @@ impl Maker {
         }
     }
 
-    /// A network of up to 64 sites, in version 2 or, where it can, sometimes 1, or in edition 2, and a state of it.
-    /// Most have few sites, and of many few hold anything, so that the texts stay small.
+    /// A network of up to 64 sites, in version 2 or, where it can, sometimes 1, or in edition 2 or 3, and a state of
+    /// it. Most have few sites, and of many few hold anything, so that the texts stay small.
     fn wide(&mut self, reached: bool) -> (Network, State) {
         let rng = &mut self.rng;
         let sites = match rng.below(24) {
@@ -138,8 +144,8 @@ impl Maker {
         };
         let network = graphs::of_size(rng, sites);
         let mut network = runs::furnished(rng, network);
-        if self.held {
-            network.edition = EDITION_2;
+        if self.edition > EDITION {
+            network.edition = self.edition;
         } else if sites <= SITES_OF_1 && rng.one_in(6) {
             network.version = 1;
         }
@@ -149,7 +155,7 @@ impl Maker {
             return states::end_of(run);
         }
         let mut state = states::sparse_state(rng, &network);
-        if self.held {
+        if self.edition > EDITION {
             marks::close_some(rng, &network, &mut state);
         }
         (network, state)
@@ -158,15 +164,15 @@ impl Maker {
     /// A SEND, or a RUN: any, or the one whose rules have been shown least.
     fn with_event(&mut self, network: Network, state: State, send: bool) -> Case {
         let rng = &mut self.rng;
-        let sites = network.sites as usize;
+        let (sites, codes) = (network.sites as usize, network.codes());
         let site = rng.below(sites) as u64;
-        let mut event = Event::Run { site, code: rng.below(CODES) as u64 };
+        let mut event = Event::Run { site, code: rng.below(codes) as u64 };
         if send {
             event = Event::Send { site, set: rng.target_set(sites) };
         } else if !rng.one_in(5) {
-            let mut order: Vec<usize> = (0..sites.min(4) * CODES).collect();
+            let mut order: Vec<usize> = (0..sites.min(4) * codes).collect();
             rng.shuffle(&mut order);
-            let addresses = order.into_iter().map(|m| (self.looked_at(sites, m / CODES), m % CODES));
+            let addresses = order.into_iter().map(|m| (self.looked_at(sites, m / codes), m % codes));
             let (site, code) = self.least_shown(&network, &state, addresses);
             event = Event::Run { site: site as u64, code: code as u64 };
         }
@@ -206,21 +212,23 @@ impl Maker {
     }
 
     fn least(&self, rules: &[Rule]) -> u64 {
-        let shown =
-            |rule: &Rule| self.shown.count(*rule) / if OF_EDITION_2.contains(rule) { OFTENER } else { 1 };
-        rules.iter().map(shown).min().unwrap_or(u64::MAX)
+        let oftener = |rule: &Rule| match self.edition {
+            EDITION_2 if OF_CLOSING.contains(rule) => OFTENER[0],
+            EDITION_3 if is_of_edition_3(*rule) => OFTENER[1],
+            _ => 1,
+        };
+        rules.iter().map(|rule| self.shown.count(*rule) / oftener(rule)).min().unwrap_or(u64::MAX)
     }
 }
 
 /// Two of: a spoiled state, a stray event, a spoiled network (once or twice).
 fn two_faults(rng: &mut Rng, case: &mut Case) {
-    let sites = case.network.sites as usize;
     let left_out = rng.below(3);
     if left_out != 0 {
         spoil::spoil_state(rng, case.form, &case.network, &mut case.state);
     }
     if left_out != 1 {
-        case.event = spoil::stray_event(rng, case.form, sites);
+        case.event = spoil::stray_event(rng, case.form, &case.network);
     }
     if left_out != 2 {
         spoil::spoil_network(rng, case.form, &mut case.network);

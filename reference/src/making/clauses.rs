@@ -1,7 +1,7 @@
 //! Faults aimed at the clauses of in range that a random change seldom meets alone.
 
 use super::rng::Rng;
-use crate::network::{Network, DEPTH, PORTS};
+use crate::network::{Network, DEPTH, OUTPUTS, PORTS};
 use crate::state::{Connection, Input, Output, Phase, State, Terminator};
 
 /// A site of a network, in a case with room for so many.
@@ -53,7 +53,7 @@ fn aborts(input: &Input) -> bool {
 fn empty_connected(_: &mut Rng, &Spot { site, .. }: &Spot, state: &mut State) -> bool {
     let Some(input) = input_where(state, site, |i| i.outputs != 0) else { return false };
     let port = input.outputs.trailing_zeros() as usize;
-    state.outputs[PORTS * site + port] = Output::default();
+    state.outputs[OUTPUTS * site + port] = Output::default();
     true
 }
 
@@ -61,7 +61,7 @@ fn empty_connected(_: &mut Rng, &Spot { site, .. }: &Spot, state: &mut State) ->
 fn stop_connected(rng: &mut Rng, &Spot { site, .. }: &Spot, state: &mut State) -> bool {
     let Some(input) = input_where(state, site, |i| i.outputs != 0) else { return false };
     let port = input.outputs.trailing_zeros() as usize;
-    state.outputs[PORTS * site + port].terminator = rng.pick(&[Terminator::End, Terminator::Abort]);
+    state.outputs[OUTPUTS * site + port].terminator = rng.pick(&[Terminator::End, Terminator::Abort]);
     true
 }
 
@@ -115,7 +115,7 @@ fn overfill(rng: &mut Rng, &Spot { network, site, .. }: &Spot, state: &mut State
 
 /// An output 1 to 4 has keep-local.
 fn keep_local_remote(_: &mut Rng, &Spot { site, .. }: &Spot, state: &mut State) -> bool {
-    let remote = &mut state.outputs[PORTS * site + 1..][..PORTS - 1];
+    let remote = &mut state.outputs[OUTPUTS * site + 1..][..PORTS - 1];
     let Some(output) = remote.iter_mut().find(|o| o.terminator != Terminator::None) else { return false };
     output.terminator = Terminator::KeepLocal;
     true
@@ -129,8 +129,9 @@ fn copy_beyond(rng: &mut Rng, &Spot { network, room, site }: &Spot, state: &mut 
     }
     let to = rng.pick(&[sites, sites, room - 1]);
     state.inputs.copy_within(PORTS * site..PORTS * (site + 1), PORTS * to);
-    state.outputs.copy_within(PORTS * site..PORTS * (site + 1), PORTS * to);
+    state.outputs.copy_within(OUTPUTS * site..OUTPUTS * (site + 1), OUTPUTS * to);
     state.out_queues[to] = state.out_queues[site];
     state.in_queues[to] = state.in_queues[site];
+    state.split_queues[to] = state.split_queues[site];
     true
 }

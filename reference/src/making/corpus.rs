@@ -1,15 +1,17 @@
 //! The corpus: archives by name, made anew from the recipes here. A name says what its file is about; one that begins
-//! with `v2-` is laid out as version 2 in edition 1, one that begins with `e2-` as version 2 in edition 2.
+//! with `v2-` is laid out as version 2 in edition 1, one that begins with `e2-` or `e3-` as version 2 in edition 2 or
+//! 3.
 
 mod bounds;
 mod faults;
 mod held;
 mod loads;
+mod restricted;
 mod searched;
 mod wide_bounds;
 mod wide_loads;
 
-pub use searched::{UNREACHED, UNREACHED_IN_EDITION_2};
+pub use searched::{UNREACHED, UNREACHED_IN_EDITION_2, UNREACHED_IN_EDITION_3};
 
 use crate::archive::{Run, Send};
 use crate::making::{graphs, routes};
@@ -26,6 +28,7 @@ pub fn all() -> Vec<Named> {
     all.extend(wide_bounds::all());
     all.extend(wide_loads::all());
     all.extend(held::all());
+    all.extend(restricted::all());
     all.sort();
     all
 }

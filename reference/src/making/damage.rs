@@ -43,7 +43,7 @@ fn fault(refusal: usize, rng: &mut Rng, whole: &[u8], bytes: &mut Vec<u8>) -> bo
         1 => wrong_length(rng, bytes),
         2 => bytes[VERSION_AT] = rng.pick(&[0, 3, 4, 255, 3 - at.version]),
         17 => match at.format.edition {
-            Some(place) => bytes[place] = rng.pick(&[0, 3, 3, 9, 255]),
+            Some(place) => bytes[place] = rng.pick(&[0, 4, 4, 9, 255]),
             None => bytes[VERSION_AT] = 2,
         },
         3 => wrong_limit(rng, &at, bytes),

@@ -1,7 +1,7 @@
 //! Single event cases of the second form at the limits of both versions, one by one.
 
 use super::{graphs, routes};
-use crate::network::{Network, NO_CHANNEL, PORTS};
+use crate::network::{Network, NO_CHANNEL, OUTPUTS, PORTS};
 use crate::sets::all;
 use crate::single::Event;
 use crate::state::{InEntry, Input, OutEntry, Output, Phase, State, Terminator};
@@ -43,7 +43,7 @@ fn heads() -> Vec<Case> {
     let bare = [heads.as_slice(), wide.as_slice(), &[(1, 1, 2), (2, 1, 2)]].concat();
     let mut cases: Vec<Case> = bare.into_iter().map(|(v, e, s)| head(v, e, s)).collect();
     let rings = [(1, 16), (1, 17), (1, 64), (2, 16), (2, 17), (2, 64)];
-    cases.extend(rings.map(|(version, sites)| from_empty(ring(version, sites), FIRST)));
+    cases.extend(rings.into_iter().map(|(version, sites)| from_empty(ring(version, sites), FIRST)));
     cases
 }
 
@@ -67,7 +67,8 @@ fn ends() -> Vec<Case> {
         (1, 16, 256),
         (1, 16, NO_CHANNEL),
     ];
-    let mut cases = Vec::from(ends.map(|(version, sites, end)| from_empty(joined(version, sites, end), run)));
+    let with = |(version, sites, end)| from_empty(joined(version, sites, end), run);
+    let mut cases: Vec<Case> = ends.into_iter().map(with).collect();
     let mut twice = joined(2, 64, 255);
     twice.channels[2] = 255;
     cases.push(from_empty(twice, run));
@@ -87,9 +88,11 @@ fn addresses() -> Vec<Case> {
     ];
     let runs =
         [(64, 63, 12), (64, 63, 13), (64, 64, 0), (17, 16, 0), (17, 17, 0), (2, 64, 0), (2, 1 << 32, 0)];
-    let sends = sends.map(|(sites, site, set)| from_empty(ring(2, sites), Event::Send { site, set }));
-    let runs = runs.map(|(sites, site, code)| from_empty(ring(2, sites), Event::Run { site, code }));
-    sends.into_iter().chain(runs).collect()
+    let sends =
+        sends.into_iter().map(|(sites, site, set)| from_empty(ring(2, sites), Event::Send { site, set }));
+    let runs =
+        runs.into_iter().map(|(sites, site, code)| from_empty(ring(2, sites), Event::Run { site, code }));
+    sends.chain(runs).collect()
 }
 
 /// Something in a state beyond S: refusal 13, and next to it what passes.
@@ -101,7 +104,7 @@ fn beyond() -> Vec<Case> {
         let mut state = State { counter: 1, ..State::empty() };
         match turn % 4 {
             0 => state.inputs[PORTS * site].tries = 1,
-            1 => state.outputs[PORTS * site + 4].head = true,
+            1 => state.outputs[OUTPUTS * site + 4].head = true,
             2 => state.out_queues[site].entries[7].packet = 1,
             _ => state.in_queues[site].count = 1,
         }

@@ -4,7 +4,7 @@
 
 use super::marks::closing;
 use super::{graphs, routes};
-use crate::network::{Network, EDITION, EDITION_2, NO_CHANNEL, PORTS};
+use crate::network::{Network, EDITION, EDITION_2, NO_CHANNEL, OUTPUTS, PORTS};
 use crate::single::Event;
 use crate::state::{Connection, InEntry, Input, Output, Phase, State, Terminator, PHASES};
 use crate::text::{Case, Form};
@@ -16,7 +16,7 @@ const STEP: Event = Event::Run { site: 0, code: 6 };
 const ASK: Event = Event::Run { site: 0, code: 0 };
 
 /// Two sites joined on ports 1 and 2 both ways, lists 1, 2, T = 3, D = 2.
-fn two(edition: u8) -> Network {
+pub(super) fn two(edition: u8) -> Network {
     let mut network = graphs::ring(2, false).in_edition(edition);
     network.join((0, 2), (1, 2));
     network.join((1, 2), (0, 2));
@@ -25,12 +25,12 @@ fn two(edition: u8) -> Network {
     network
 }
 
-fn case(network: Network, state: State, event: Event) -> Case {
+pub(super) fn case(network: Network, state: State, event: Event) -> Case {
     Case { form: Form::Second, network, state, event }
 }
 
 /// The state with one packet accepted and these changes.
-fn with(change: impl FnOnce(&mut State)) -> State {
+pub(super) fn with(change: impl FnOnce(&mut State)) -> State {
     let mut state = State { counter: 1, ..State::empty() };
     change(&mut state);
     state
@@ -52,7 +52,7 @@ fn put_input(state: &mut State, place: usize, phase: Phase) {
     }
     (input.connection, input.outputs) = (Connection::SomeLocal, 1);
     let local = Output { used: true, set: 2, input: port as u8, head: true, ..Output::default() };
-    state.outputs[PORTS * site] = local;
+    state.outputs[OUTPUTS * site] = local;
 }
 
 /// 17 in both versions, and 2 and 3 beside it.
@@ -87,8 +87,8 @@ fn marks() -> Vec<Case> {
         (HERE, Output { set: 0, ..closing() }),
         (HERE, Output { packet: 1, ..closing() }),
         (HERE, Output { input: 5, ..closing() }),
-        (PORTS * 2 + 1, Output { closing: true, ..Output::default() }),
-        (PORTS * 63 + 4, closing()),
+        (OUTPUTS * 2 + 1, Output { closing: true, ..Output::default() }),
+        (OUTPUTS * 63 + 4, closing()),
     ];
     let at = |(place, output): (usize, Output)| with(|state| state.outputs[place] = output);
     let mut cases = vec![case(two(EDITION), at(outputs[0]), STEP)];

@@ -2,7 +2,7 @@
 
 use super::{graphs, rng::Rng, routes};
 use crate::archive::{Run, Send};
-use crate::network::{Network, EDITION, EDITION_2};
+use crate::network::{Network, EDITIONS};
 use crate::owing::{self, Debt, DEBTS};
 use crate::player::Play;
 use crate::step::Answer;
@@ -13,9 +13,9 @@ pub fn any_network(rng: &mut Rng) -> Network {
     furnished(rng, network)
 }
 
-/// The same in version 2, of up to 64 sites, in either edition.
+/// The same in version 2, of up to 64 sites, in any edition.
 pub fn wide_network(rng: &mut Rng) -> Network {
-    let network = graphs::any_wide(rng).in_edition(rng.pick(&[EDITION, EDITION_2]));
+    let network = graphs::any_wide(rng).in_edition(rng.pick(&EDITIONS));
     furnished(rng, network)
 }
 
@@ -55,13 +55,13 @@ pub fn any_run(rng: &mut Rng, long: bool) -> Run {
     run_on(rng, network, long)
 }
 
-/// The same in version 2, in either edition.
+/// The same in version 2, in any edition.
 pub fn wide_run(rng: &mut Rng, long: bool) -> Run {
     let network = wide_network(rng);
     run_on(rng, network, long)
 }
 
-/// A valid run of either version and edition.
+/// A valid run of either version and any edition.
 pub fn either_run(rng: &mut Rng, long: bool) -> Run {
     if rng.one_in(2) {
         any_run(rng, long)
@@ -70,10 +70,11 @@ pub fn either_run(rng: &mut Rng, long: bool) -> Run {
     }
 }
 
-/// The run of version 2 in the other edition.
-pub fn twin(run: &Run) -> Run {
-    let edition = EDITION + EDITION_2 - run.network.edition;
-    Run { network: run.network.clone().in_edition(edition), ..run.clone() }
+/// The run of version 2 in the other editions.
+pub fn twins(run: &Run) -> Vec<Run> {
+    let others = EDITIONS.into_iter().filter(|&edition| edition != run.network.edition);
+    let within = |edition| Run { network: run.network.clone().in_edition(edition), ..run.clone() };
+    others.map(within).collect()
 }
 
 /// A run on the network.

@@ -3,9 +3,10 @@
 //! A changed field may also be good by chance; the model says what comes of it.
 
 use super::rng::Rng;
-use crate::network::{Network, NO_CHANNEL, PORTS};
+use crate::network::{Network, CODES, EDITION_3, NO_CHANNEL, OUTPUTS, PORTS, SPLIT};
 use crate::single::Event;
-use crate::state::{Connection, Input, Output, Phase, Queue, State, Terminator, PHASES, TERMINATORS};
+use crate::state::{Connection, InEntry, Input, Output, Phase, Queue, State, Terminator};
+use crate::state::{CONNECTIONS, PHASES, TERMINATORS};
 use crate::text::Form;
 
 /// Spoils the network of a case of this form so that it may get 3, 6 or 7, in the second form also 2 or 17.
@@ -91,19 +92,30 @@ struct Limits {
     tries: u8,
     depth: u64,
     counter: u8,
+    /// Whether the edition has a split output.
+    restricted: bool,
 }
 
-/// Changes one field of one place; one time in four at a site beyond S, if there is one.
+/// Changes one field of one place; one time in four at a site beyond S, if there is one. In edition 3 one time in
+/// three of the split output or its in-queue.
 pub fn spoil_state(rng: &mut Rng, form: Form, network: &Network, state: &mut State) {
     let room = form.room();
     let sites = (network.sites as usize).clamp(1, room);
     let beyond = sites < room && rng.one_in(4);
     let site = if beyond { rng.within(sites, room - 1) } else { rng.below(sites) };
-    let limits = Limits { sites, tries: network.tries, depth: network.depth, counter: state.counter };
-    let place = PORTS * site + rng.below(PORTS);
+    let &Network { tries, depth, edition, .. } = network;
+    let restricted = edition == EDITION_3;
+    let limits = Limits { sites, tries, depth, counter: state.counter, restricted };
+    if restricted && rng.one_in(3) {
+        return match rng.below(2) {
+            0 => limits.output(rng, &mut state.outputs[OUTPUTS * site + SPLIT]),
+            _ => limits.in_queue(rng, &mut state.split_queues[site]),
+        };
+    }
+    let port = rng.below(PORTS);
     match rng.below(5) {
-        0 | 1 => limits.input(rng, &mut state.inputs[place]),
-        2 => limits.output(rng, &mut state.outputs[place]),
+        0 | 1 => limits.input(rng, &mut state.inputs[PORTS * site + port]),
+        2 => limits.output(rng, &mut state.outputs[OUTPUTS * site + port]),
         3 => {
             let queue = &mut state.out_queues[site];
             let entry = &mut queue.entries[some_place(rng, queue.count)];
@@ -114,16 +126,7 @@ pub fn spoil_state(rng: &mut Rng, form: Form, network: &Network, state: &mut Sta
                 _ => limits.count(rng, queue),
             }
         }
-        _ => {
-            let queue = &mut state.in_queues[site];
-            let entry = &mut queue.entries[some_place(rng, queue.count)];
-            match rng.below(4) {
-                0 => entry.packet = limits.packet(rng),
-                1 => entry.set = limits.set(rng, entry.set),
-                2 => entry.terminator = rng.pick(&TERMINATORS),
-                _ => limits.count(rng, queue),
-            }
-        }
+        _ => limits.in_queue(rng, &mut state.in_queues[site]),
     }
 }
 
@@ -149,15 +152,25 @@ impl Limits {
         queue.count = rng.pick(&[more, self.depth + 1, 8, 9, 255, u64::MAX, queue.count.saturating_sub(1)]);
     }
 
+    fn in_queue(&self, rng: &mut Rng, queue: &mut Queue<InEntry>) {
+        let entry = &mut queue.entries[some_place(rng, queue.count)];
+        match rng.below(4) {
+            0 => entry.packet = self.packet(rng),
+            1 => entry.set = self.set(rng, entry.set),
+            2 => entry.terminator = rng.pick(&TERMINATORS),
+            _ => self.count(rng, queue),
+        }
+    }
+
     fn input(&self, rng: &mut Rng, input: &mut Input) {
         match rng.below(7) {
             0 => input.packet = self.packet(rng),
             1 => input.set = self.set(rng, input.set),
-            2 | 3 => input.outputs ^= 1 << rng.below(PORTS),
+            2 | 3 => input.outputs ^= 1 << rng.below(if self.restricted { OUTPUTS } else { PORTS }),
             4 => input.tries = rng.pick(&[self.tries, self.tries.wrapping_add(1), 255, 1]),
             5 if input.connection != Connection::None => {
-                let all = &crate::state::CONNECTIONS[1..];
-                input.connection = rng.pick(all);
+                let all = CONNECTIONS.len() - usize::from(!self.restricted);
+                input.connection = rng.pick(&CONNECTIONS[1..all]);
             }
             _ => self.phase(rng, input),
         }
@@ -193,13 +206,15 @@ impl Limits {
 }
 
 /// An event whose site, code or set may be at or beyond the limit.
-pub fn stray_event(rng: &mut Rng, form: Form, sites: usize) -> Event {
+pub fn stray_event(rng: &mut Rng, form: Form, network: &Network) -> Event {
+    let sites = network.sites as usize;
     let (limit, room) = (sites as u64, form.room());
     let last = limit.saturating_sub(1);
     let far = rng.pick(&[limit + 1, room as u64, 255]);
     let site = rng.pick(&[0, 0, last, last, limit, far]);
     if rng.one_in(2) {
-        return Event::Run { site, code: rng.pick(&[0, 12, 13, 14, 255]) };
+        let codes = if network.codes() == CODES { [0, 12, 13, 14, 255] } else { [0, 12, 14, 15, 255] };
+        return Event::Run { site, code: rng.pick(&codes) };
     }
     let inside = rng.target_set(sites.clamp(1, room));
     let beyond = 1 << sites.min(63);

@@ -2,9 +2,9 @@
 
 use super::{rng::Rng, runs};
 use crate::archive::Run;
-use crate::network::{Network, PORTS};
+use crate::network::{Network, EDITION_3, OUTPUTS, PORTS, SPLIT};
 use crate::player::Play;
-use crate::state::{Connection, InEntry, Input, OutEntry, Output, Phase, State, Terminator};
+use crate::state::{Connection, InEntry, Input, OutEntry, Output, Phase, State, Terminator, TERMINATORS};
 
 /// What the places of one state are filled with.
 struct Filling<'a> {
@@ -13,6 +13,8 @@ struct Filling<'a> {
     counter: u8,
     /// Of a hundred places, how many are used.
     fullness: usize,
+    /// Whether the edition has a split output, and neither connections 3 and 4 nor abort and fin-abort.
+    restricted: bool,
 }
 
 /// A state in range for the valid network, nearly always one that no run reaches.
@@ -40,11 +42,12 @@ fn filled_state(rng: &mut Rng, network: &Network, sites: &[usize]) -> State {
         return state;
     }
     let fullness = rng.pick(&[10, 30, 50, 50, 70, 90, 100]);
-    let mut filling = Filling { network, counter: state.counter, fullness, rng };
+    let restricted = network.edition == EDITION_3;
+    let mut filling = Filling { network, counter: state.counter, fullness, restricted, rng };
     for &site in sites {
-        filling.outputs(&mut state.outputs[PORTS * site..][..PORTS]);
-        let (inputs, outputs) = (&mut state.inputs[PORTS * site..], &mut state.outputs[PORTS * site..]);
-        filling.inputs(&mut inputs[..PORTS], &mut outputs[..PORTS]);
+        let outputs = &mut state.outputs[OUTPUTS * site..][..OUTPUTS];
+        filling.outputs(&mut outputs[..if restricted { OUTPUTS } else { PORTS }]);
+        filling.inputs(&mut state.inputs[PORTS * site..][..PORTS], outputs);
         filling.queues(&mut state, site);
     }
     state
@@ -119,24 +122,25 @@ impl Filling<'_> {
     fn input(&mut self, port: usize, outputs: &mut [Output], taken: &mut u8) -> Input {
         use Phase::{Abort, Done, FinAbort, Last, Open, Seek, Wait};
         let (packet, set, tries) = (self.packet(), self.set(), self.tries());
-        let phase = self.rng.pick(&[Seek, Seek, Open, Open, Wait, Done, Done, Last, Abort, FinAbort]);
+        let phases = [Seek, Seek, Open, Open, Wait, Done, Done, Last, Abort, FinAbort];
+        let phase = self.rng.pick(&phases[..if self.restricted { 8 } else { 10 }]);
         let seeking = Input { phase: Seek, packet, set, tries, ..Input::default() };
         let aborting = matches!(phase, Abort | FinAbort);
         let split = aborting || self.rng.one_in(3);
         let connection = self.connection(split);
-        let splits = matches!(connection, Connection::AllRemote | Connection::SomeLocal);
+        let sure = 1 << if self.restricted { SPLIT } else { 0 };
         let mut wanted = 0;
-        if splits {
-            wanted = if aborting { 1 } else { 1 | self.rng.below(32) as u8 & self.rng.below(32) as u8 };
+        if split {
+            wanted = if aborting { sure } else { sure | self.rng.below(32) as u8 & self.rng.below(32) as u8 };
         } else if phase != Seek {
             wanted = 1 << self.rng.below(PORTS) | self.rng.below(32) as u8 & self.rng.below(32) as u8;
         }
         let connected = wanted & !*taken;
-        if phase == Seek || connected == 0 || splits && connected & 1 == 0 {
+        if phase == Seek || connected == 0 || split && connected & sure == 0 {
             return seeking;
         }
         *taken |= connected;
-        for p in (0..PORTS).filter(|p| connected >> p & 1 == 1) {
+        for p in (0..OUTPUTS).filter(|p| connected >> p & 1 == 1) {
             if !outputs[p].used {
                 outputs[p] = self.output(Terminator::None);
             }
@@ -151,7 +155,9 @@ impl Filling<'_> {
 
     fn connection(&mut self, splits: bool) -> Connection {
         use Connection::{AllRemote, Handed, Passthru, SomeLocal, Unicast};
-        if splits {
+        if splits && self.restricted {
+            Connection::Split
+        } else if splits {
             self.rng.pick(&[AllRemote, SomeLocal])
         } else {
             self.rng.pick(&[Unicast, Passthru, Handed])
@@ -170,9 +176,17 @@ impl Filling<'_> {
             state.out_queues[site].push(OutEntry { packet, set, started });
         }
         for _ in 0..count(self.rng) {
-            let (packet, set) = (self.packet(), self.set());
-            let terminator = self.rng.pick(&crate::state::TERMINATORS);
-            state.in_queues[site].push(InEntry { packet, set, terminator });
+            state.in_queues[site].push(self.in_entry());
         }
+        if self.restricted {
+            for _ in 0..count(self.rng) {
+                state.split_queues[site].push(self.in_entry());
+            }
+        }
+    }
+
+    fn in_entry(&mut self) -> InEntry {
+        let (packet, set) = (self.packet(), self.set());
+        InEntry { packet, set, terminator: self.rng.pick(&TERMINATORS) }
     }
 }

@@ -1,7 +1,7 @@
 //! The rules of a net-input, codes 0 to 4: seek, open, wait, done, last and fin-abort.
 
 use super::{Answer, Machine};
-use crate::network::PORTS;
+use crate::network::{OUTPUTS, PORTS};
 use crate::router::{Choice, Request, Verdict};
 use crate::state::{Connection, Input, Output, Phase, Terminator};
 use crate::watch::{Rule, Watch};
@@ -20,6 +20,8 @@ fn given(received: Terminator, connection: Connection, port: usize) -> Terminato
 fn giving(received: Terminator, connection: Connection) -> Rule {
     let splits = matches!(connection, Connection::AllRemote | Connection::SomeLocal);
     match (received, connection) {
+        (Terminator::Abort, Connection::Split) => Rule::DoneAbortBranch,
+        (_, Connection::Split) => Rule::DoneBranch,
         (Terminator::Abort, _) if splits => Rule::DoneAbortSplit,
         (Terminator::Abort, _) => Rule::DoneAbort,
         (_, Connection::Passthru) => Rule::DonePassthru,
@@ -69,10 +71,10 @@ impl<W: Watch> Machine<'_, W> {
     /// Done with all outputs ready: every connected output gets its terminator, the input goes free.
     fn finish(&mut self, site: usize, place: usize) -> Answer {
         let input = std::mem::take(&mut self.state.inputs[place]);
-        for port in 0..PORTS {
+        for port in 0..OUTPUTS {
             if input.outputs >> port & 1 == 1 {
                 let terminator = given(input.received, input.connection, port);
-                self.state.outputs[PORTS * site + port].terminator = terminator;
+                self.state.outputs[OUTPUTS * site + port].terminator = terminator;
             }
         }
         self.changed(giving(input.received, input.connection))
@@ -81,7 +83,7 @@ impl<W: Watch> Machine<'_, W> {
     /// Fin-abort with output 0 ready: it gets the received terminator, the input goes free.
     fn finish_abort(&mut self, site: usize, place: usize) -> Answer {
         let Input { received, .. } = std::mem::take(&mut self.state.inputs[place]);
-        self.state.outputs[PORTS * site].terminator = received;
+        self.state.outputs[OUTPUTS * site].terminator = received;
         self.changed(if received == Terminator::End { Rule::FinAbortEnd } else { Rule::FinAbortAbort })
     }
 
@@ -90,7 +92,7 @@ impl<W: Watch> Machine<'_, W> {
         let place = PORTS * site + port;
         let Input { set, tries, .. } = self.state.inputs[place];
         let outputs = self.state.outputs_of(site);
-        let empty = (0..PORTS).filter(|&p| !outputs[p].used).fold(0, |mask, p| mask | 1 << p);
+        let empty = (0..OUTPUTS).filter(|&p| !outputs[p].used).fold(0, |mask, p| mask | 1 << p);
         let request = Request { wiring: self.wiring, site, set, empty, tries };
         match request.decide(self.watch) {
             Verdict::Connect(choice) => self.connect(site, port, choice),
@@ -111,7 +113,7 @@ impl<W: Watch> Machine<'_, W> {
             input.outputs |= 1 << p;
             let fresh =
                 Output { used: true, packet: input.packet, set, input: port as u8, ..Output::default() };
-            self.state.outputs[PORTS * site + p] = fresh;
+            self.state.outputs[OUTPUTS * site + p] = fresh;
         }
         Answer::Changed
     }

@@ -1,45 +1,47 @@
-//! The rules of a net-output, codes 5 to 9: the head first, the terminator at a later step. In edition 2 outputs 1 to 4
-//! are closing after that, and a step later on empties them.
+//! The rules of a net-output, codes 5 to 9 and 13: the head first, the terminator at a later step. In editions 2 and 3
+//! outputs 1 to 4 are closing after that, and a step later on empties them.
 
 use super::{deliver, take_packet, takes_terminator, Answer, Machine};
-use crate::network::{NO_INPUT, PORTS};
+use crate::network::{NO_INPUT, OUTPUTS, PORTS};
 use crate::state::{InEntry, Output, Phase, Terminator};
 use crate::watch::{Rule, Watch};
 
 impl<W: Watch> Machine<'_, W> {
-    /// Output 0, which ends at the in-queue.
-    pub(super) fn local_output(&mut self, site: usize) -> Answer {
-        let Output { used, head, packet, set, terminator, .. } = self.state.outputs[PORTS * site];
-        let queue = &mut self.state.in_queues[site];
+    /// Output 0 or the split output, which end at an in-queue each.
+    pub(super) fn local_output(&mut self, site: usize, port: usize) -> Answer {
+        let place = OUTPUTS * site + port;
+        let Output { used, head, packet, set, terminator, .. } = self.state.outputs[place];
+        let queue = self.state.in_queue_mut(site, port);
         if !used {
-            return self.nothing(Rule::OutputEmpty);
+            return self.nothing(Rule::OutputEmpty.at(port));
         }
         if !head {
             if queue.is_full(self.wiring.depth) {
-                return self.nothing(Rule::HeadQueueFull);
+                return self.nothing(Rule::HeadQueueFull.at(port));
             }
             queue.push(InEntry { packet, set, terminator: Terminator::None });
-            self.state.outputs[PORTS * site].head = true;
-            return self.changed(Rule::HeadQueued);
+            self.state.outputs[place].head = true;
+            return self.changed(Rule::HeadQueued.at(port));
         }
         if terminator == Terminator::None {
-            return self.nothing(Rule::TerminatorNone);
+            return self.nothing(Rule::TerminatorNone.at(port));
         }
         match queue.last_mut() {
             Some(last) if last.terminator == Terminator::None => last.terminator = terminator,
-            _ => return self.nothing(Rule::TerminatorRefused),
+            _ => return self.nothing(Rule::TerminatorRefused.at(port)),
         }
-        self.state.outputs[PORTS * site] = Output::default();
-        self.changed(match terminator {
+        self.state.outputs[place] = Output::default();
+        let rule = match terminator {
             Terminator::End => Rule::EndQueued,
             Terminator::Abort => Rule::AbortQueued,
             _ => Rule::KeepLocalQueued,
-        })
+        };
+        self.changed(rule.at(port))
     }
 
     /// Outputs 1 to 4, which end at an input, of any site, if they have a channel.
     pub(super) fn remote_output(&mut self, site: usize, port: usize) -> Answer {
-        let place = PORTS * site + port;
+        let place = OUTPUTS * site + port;
         let Output { used, head, packet, set, terminator, closing, .. } = self.state.outputs[place];
         if !used {
             return self.nothing(Rule::OutputEmpty);
@@ -78,8 +80,8 @@ impl<W: Watch> Machine<'_, W> {
         })
     }
 
-    /// The terminator of this output, 1 to 4, is delivered: edition 1 empties it, in edition 2 it is closing, holds no
-    /// terminator and keeps all else.
+    /// The terminator of this output, 1 to 4, is delivered: edition 1 empties it, in editions 2 and 3 it is closing,
+    /// holds no terminator and keeps all else.
     fn delivered(&mut self, place: usize) {
         let output = &mut self.state.outputs[place];
         if self.wiring.closes {

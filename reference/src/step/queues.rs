@@ -1,7 +1,8 @@
-//! The rules of a site's queues: the out-queue (code 10), the operator (11) and the timeout (12).
+//! The rules of a site's queues: the out-queue (code 10), the operator (11), the timeout (12) and the operator of the
+//! split in-queue (14).
 
 use super::{deliver, take_packet, takes_terminator, Answer, Machine};
-use crate::network::PORTS;
+use crate::network::{OUTPUTS, PORTS, SPLIT};
 use crate::sets::{has, without};
 use crate::state::{Connection, InEntry, OutEntry, Phase, Terminator};
 use crate::watch::{Rule, Watch};
@@ -31,56 +32,61 @@ impl<W: Watch> Machine<'_, W> {
         self.changed(if open { Rule::FrontEndOpen } else { Rule::FrontEndAbort })
     }
 
-    pub(super) fn operator(&mut self, site: usize) -> Answer {
-        let queue = &mut self.state.in_queues[site];
+    /// The operator of the in-queue of output 0, or of the split output.
+    pub(super) fn operator(&mut self, site: usize, port: usize) -> Answer {
+        let queue = self.state.in_queue_mut(site, port);
         if queue.count == 0 {
-            return self.nothing(Rule::InQueueEmpty);
+            return self.nothing(Rule::InQueueEmpty.at(port));
         }
         let front = queue.entries[0];
         let local = has(front.set, site);
         match front.terminator {
-            Terminator::None => self.nothing(Rule::InQueueWaits),
-            Terminator::End => self.service_and_requeue(site, front),
+            Terminator::None => self.nothing(Rule::InQueueWaits.at(port)),
+            Terminator::End => self.service_and_requeue(site, port, front),
             Terminator::Abort => {
                 queue.pop();
-                self.changed(Rule::OperatorAbort)
+                self.changed(Rule::OperatorAbort.at(port))
             }
             Terminator::KeepLocal => {
                 queue.pop();
                 if local {
-                    self.serviced(Rule::KeepLocalServiced, front.packet, site)
+                    self.serviced(Rule::KeepLocalServiced.at(port), front.packet, site)
                 } else {
-                    self.changed(Rule::KeepLocalDropped)
+                    self.changed(Rule::KeepLocalDropped.at(port))
                 }
             }
         }
     }
 
     /// End: service the own site if in the set; the rest, if any, needs room in the out-queue.
-    fn service_and_requeue(&mut self, site: usize, front: InEntry) -> Answer {
+    fn service_and_requeue(&mut self, site: usize, port: usize, front: InEntry) -> Answer {
         let rest = without(front.set, site);
         let out = &mut self.state.out_queues[site];
         if rest != 0 {
             if out.is_full(self.wiring.depth) {
-                return self.nothing(Rule::EndBlocked);
+                return self.nothing(Rule::EndBlocked.at(port));
             }
             out.push(OutEntry { packet: front.packet, set: rest, started: false });
         }
-        self.state.in_queues[site].pop();
+        self.state.in_queue_mut(site, port).pop();
         match (has(front.set, site), rest != 0) {
-            (true, true) => self.serviced(Rule::EndServicedRest, front.packet, site),
-            (true, false) => self.serviced(Rule::EndServiced, front.packet, site),
-            (false, _) => self.changed(Rule::EndRest),
+            (true, true) => self.serviced(Rule::EndServicedRest.at(port), front.packet, site),
+            (true, false) => self.serviced(Rule::EndServiced.at(port), front.packet, site),
+            (false, _) => self.changed(Rule::EndRest.at(port)),
         }
     }
 
-    /// The last in-queue entry has waited too long: the split that feeds output 0 is aborted.
+    /// The last in-queue entry has waited too long: the split that feeds output 0 is aborted. In edition 3 nothing.
     pub(super) fn timeout(&mut self, site: usize) -> Answer {
+        if self.wiring.restricted {
+            let waits = self.branch_waits(site);
+            return self.nothing(if waits { Rule::TimeoutBranch } else { Rule::TimeoutRestricted });
+        }
         let waits = self.state.in_queues[site].last().is_some_and(|e| e.terminator == Terminator::None);
         if !waits {
             return self.nothing(Rule::TimeoutNoEntry);
         }
-        let local = &self.state.outputs[PORTS * site];
+        let local = &self.state.outputs[OUTPUTS * site];
         if !local.used || !local.head || local.terminator != Terminator::None {
             return self.nothing(Rule::TimeoutNoOutput);
         }
@@ -102,10 +108,20 @@ impl<W: Watch> Machine<'_, W> {
         input.phase = to;
         for port in 1..PORTS {
             if remote >> port & 1 == 1 {
-                self.state.outputs[PORTS * site + port].terminator = Terminator::Abort;
+                self.state.outputs[OUTPUTS * site + port].terminator = Terminator::Abort;
             }
         }
         self.watch.saw(kind);
         self.changed(rule)
+    }
+
+    /// Whether the split output is where output 0 has to be for a timeout in edition 1: its in-queue's last entry lacks
+    /// a terminator, and so does the output, whose head is taken.
+    fn branch_waits(&self, site: usize) -> bool {
+        let output = &self.state.outputs_of(site)[SPLIT];
+        let last = self.state.split_queues[site].last();
+        last.is_some_and(|entry| entry.terminator == Terminator::None)
+            && output.head
+            && output.terminator == Terminator::None
     }
 }

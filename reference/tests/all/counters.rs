@@ -3,11 +3,13 @@
 use reference::archive::read;
 use reference::coverage::{kind, kind_of, Coverage};
 use reference::making::cases::{Maker, KINDS};
-use reference::making::{damage::damaged, edges, held, rng::Rng, runs::either_run};
+use reference::making::{damage::damaged, edges, held, restricted, rng::Rng, runs::either_run};
+use reference::single::Event;
 use reference::text::{Case, Form};
 
-/// In which columns (version 1, version 2, edition 2, neither) a refusal is met: 2 says that the version is neither.
-fn check(coverage: &Coverage, numbers: &[u8], met: impl Fn(u8) -> [bool; 4]) {
+/// In which columns (version 1, version 2, edition 2, edition 3, neither) a refusal is met: 2 says that the version is
+/// neither.
+fn check(coverage: &Coverage, numbers: &[u8], met: impl Fn(u8) -> [bool; 5]) {
     for &number in numbers {
         assert_eq!(coverage.refusals(number).map(|count| count > 0), met(number), "refusal {number}");
     }
@@ -25,10 +27,10 @@ fn archives() {
     }
     // An archive of version 1 has no edition byte; 1 comes before the version is looked at.
     check(&coverage, &[1, 2, 17, 3, 4, 5, 6, 7, 8], |number| match number {
-        1 => [true; 4],
-        2 => [false, false, false, true],
-        17 => [false, true, false, false],
-        _ => [true, true, true, false],
+        1 => [true; 5],
+        2 => [false, false, false, false, true],
+        17 => [false, true, false, false, false],
+        _ => [true, true, true, true, false],
     });
 }
 
@@ -44,9 +46,9 @@ fn met_by<'a>(cases: impl Iterator<Item = &'a Case>) -> Coverage {
 
 const SINGLE: [u8; 11] = [0, 2, 17, 3, 6, 7, 13, 9, 10, 12, 11];
 
-fn in_both(number: u8) -> [bool; 4] {
+fn in_both(number: u8) -> [bool; 5] {
     let neither = number == 2;
-    [!neither, !neither, false, neither]
+    [!neither, !neither, false, false, neither]
 }
 
 #[test]
@@ -68,21 +70,37 @@ fn cases_of_the_second_form() {
 fn cases_of_the_first_form() {
     let mut maker = Maker::new(6, Form::First);
     let cases: Vec<Case> = (0..3_000).map(|turn| maker.any_case(turn % KINDS.len())).collect();
-    check(&met_by(cases.iter()), &[3, 6, 7, 13, 9, 10, 12, 11], |_| [true, false, false, false]);
+    check(&met_by(cases.iter()), &[3, 6, 7, 13, 9, 10, 12, 11], |_| [true, false, false, false, false]);
 }
 
-/// Edition 2 has no 17 of its own: its cases have it in version 1, and in editions that there are not.
-#[test]
-fn cases_of_edition_2() {
-    let mut maker = Maker::held(63);
+/// A later edition has no 17 of its own: its cases have it in version 1, and in editions that there are not.
+fn cases_of_edition(edition: u8, given: &[Case]) -> Vec<Case> {
+    let mut maker = Maker::of_edition(63, edition);
     let cases: Vec<Case> = (0..3_000).map(|turn| maker.any_case(turn % KINDS.len())).collect();
-    let coverage = met_by(cases.iter().chain(&held::cases()));
-    check(&coverage, &[0, 3, 6, 7, 13, 9, 10, 12, 11], |number| {
-        // In edition 1 they come up where a mark is refused, and a spoiled edition is one of the faults.
-        let others = coverage.refusals(number);
-        [others[0] > 0, others[1] > 0, true, false]
-    });
-    check(&coverage, &[2, 17], |number| [number == 17, number == 17, false, number == 2]);
+    let coverage = met_by(cases.iter().chain(given));
+    for number in [0, 3, 6, 7, 13, 9, 10, 12, 11] {
+        // In other editions they come up where a mark is refused, and a spoiled edition is one of the faults.
+        let met = coverage.refusals(number);
+        assert!(met[edition as usize] > 0 && met[4] == 0, "refusal {number}: {met:?}");
+    }
+    check(&coverage, &[2, 17], |number| [number == 17, number == 17, false, false, number == 2]);
     let marked = |case: &&Case| case.state.outputs.iter().any(|output| output.closing);
     assert!(cases.iter().filter(marked).count() > 1_000);
+    cases
+}
+
+#[test]
+fn cases_of_edition_2() {
+    cases_of_edition(2, &held::cases());
+}
+
+#[test]
+fn cases_of_edition_3() {
+    let cases = cases_of_edition(3, &restricted::cases());
+    let splits = |case: &&Case| (0..64).any(|site| !case.state.is_zero_split(site));
+    assert!(cases.iter().filter(splits).count() > 1_000);
+    for code in 0..15 {
+        let of = |case: &Case| matches!(case.event, Event::Run { code: c, .. } if c == code);
+        assert!(cases.iter().any(of), "code {code}");
+    }
 }

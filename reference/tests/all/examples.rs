@@ -16,8 +16,8 @@ fn p1_to_p3_draws() {
     let mut draws = Draws::new(1);
     let values = [draws.next_value(), draws.next_value()];
     assert_eq!(values, [270_369, 67_634_689]);
-    assert_eq!(values.map(|value| event(value, 1)), [(0, 8), (0, 5)]);
-    assert_eq!(event(270_369, 2), (1, 8));
+    assert_eq!(values.map(|value| event(value, 1, 13)), [(0, 8), (0, 5)]);
+    assert_eq!(event(270_369, 2, 13), (1, 8));
 }
 
 #[test]

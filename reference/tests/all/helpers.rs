@@ -1,6 +1,6 @@
 //! Small networks and shorthand for the tests.
 
-use reference::network::{Network, PORTS};
+use reference::network::{Network, OUTPUTS, PORTS};
 use reference::refusal::Refusal;
 use reference::single::{run, send};
 use reference::state::{Input, Output, State};
@@ -75,7 +75,7 @@ impl Bench {
     }
 
     pub fn output(&mut self, site: usize, port: usize) -> &mut Output {
-        &mut self.state.outputs[PORTS * site + port]
+        &mut self.state.outputs[OUTPUTS * site + port]
     }
 
     /// Marks an output as in use by a packet 0 of input 4, head not taken.

@@ -2,10 +2,10 @@
 
 use reference::archive::{read, write, Run, LONGEST};
 use reference::draws::{event, Draws};
-use reference::making::corpus::{UNREACHED, UNREACHED_IN_EDITION_2};
+use reference::making::corpus::{UNREACHED, UNREACHED_IN_EDITION_2, UNREACHED_IN_EDITION_3};
 use reference::making::runs::{any_network, any_run, either_run, wide_network, wide_run};
 use reference::making::{cases::Maker, marks::close_some, rng::Rng, states::any_state};
-use reference::network::{Network, CODES, SITES, SITES_OF_1};
+use reference::network::{Network, EDITIONS, SITES, SITES_OF_1};
 use reference::owing;
 use reference::player::{play_run, Play, Service};
 use reference::range::in_range;
@@ -15,7 +15,7 @@ use reference::single::{run, send};
 use reference::state::State;
 use reference::step::Answer;
 use reference::text::Form;
-use reference::watch::{Tally, OF_EDITION_2, RULES};
+use reference::watch::{is_of, Tally, RULES};
 use std::collections::HashMap;
 
 type Pairs = HashMap<(u8, usize), u32>;
@@ -35,7 +35,8 @@ fn settled(services: &[Service], state: &State) -> Pairs {
 #[test]
 fn every_accepted_pair_is_serviced_or_owed_once() {
     let mut rng = Rng::new(31);
-    for _ in 0..600 {
+    let mut served = [0; 4];
+    for _ in 0..700 {
         let stored = either_run(&mut rng, false);
         let wiring = stored.network.wiring().expect("valid");
         let mut services = Vec::new();
@@ -44,7 +45,9 @@ fn every_accepted_pair_is_serviced_or_owed_once() {
         assert!(pairs.values().all(|&times| times == 1), "{pairs:?}");
         assert_eq!(pairs.len() as u32, counts.pairs);
         assert_eq!(counts.serviced + counts.owed, counts.pairs);
+        served[stored.network.edition as usize] += counts.serviced;
     }
+    assert!(EDITIONS.into_iter().all(|edition| served[edition as usize] > 30), "{served:?}");
 }
 
 #[test]
@@ -65,7 +68,7 @@ fn every_step_of_a_run_keeps_the_count() {
 #[test]
 fn from_any_state_in_range_the_answer_is_0_exactly_if_nothing_changed() {
     let mut rng = Rng::new(33);
-    let mut closed = 0;
+    let (mut closed, mut split) = (0, 0);
     for turn in 0..900 {
         let network = if turn % 2 == 0 { wide_network(&mut rng) } else { any_network(&mut rng) };
         let wiring = network.wiring().expect("valid");
@@ -74,7 +77,7 @@ fn from_any_state_in_range_the_answer_is_0_exactly_if_nothing_changed() {
             close_some(&mut rng, &network, &mut state);
         }
         assert!(in_range(&wiring, &state), "made in range");
-        for code in 0..CODES as u64 {
+        for code in 0..wiring.codes() as u64 {
             let mut next = state.clone();
             let site = rng.below(wiring.sites) as u64;
             let answer = run(&network, &mut next, site, code).expect("not refused");
@@ -82,10 +85,12 @@ fn from_any_state_in_range_the_answer_is_0_exactly_if_nothing_changed() {
             if wiring.closes && state.outputs != next.outputs {
                 closed += next.outputs.iter().filter(|output| output.closing).count();
             }
+            split += usize::from(state.outputs_of(site as usize)[5] != next.outputs_of(site as usize)[5]);
             assert!(in_range(&wiring, &next), "site {site} code {code}");
         }
     }
     assert!(closed > 100, "closing outputs among those that a step changed: {closed}");
+    assert!(split > 15, "split outputs that a step changed: {split}");
 }
 
 #[test]
@@ -103,7 +108,7 @@ fn a_played_run_is_its_single_events_in_order() {
                 accepted += send(&stored.network, &mut state, s.site as u64, s.set).is_ok() as u32;
             }
             if draw < stored.draws {
-                let (site, code) = event(draws.next_value(), wiring.sites);
+                let (site, code) = event(draws.next_value(), wiring.sites, wiring.codes());
                 let answer = run(&stored.network, &mut state, site as u64, code as u64);
                 if let Answer::Serviced { packet, site } = answer.expect("not refused") {
                     services.push(Service { draw, packet, site });
@@ -117,7 +122,7 @@ fn a_played_run_is_its_single_events_in_order() {
 #[test]
 fn round_trips() {
     let mut rng = Rng::new(35);
-    let mut kinds = [[0; 3]; 3];
+    let mut kinds = [[0; 4]; 3];
     for _ in 0..800 {
         let stored = either_run(&mut rng, true);
         kinds[stored.network.version as usize][stored.network.edition as usize] += 1;
@@ -130,7 +135,7 @@ fn round_trips() {
         assert_eq!(again[..length], room[..length]);
         assert_eq!(write(&stored, &mut again[..length - 1]), Err(Refusal::Room));
     }
-    assert!(kinds[1][1] > 300 && kinds[2][1] > 150 && kinds[2][2] > 150);
+    assert!(kinds[1][1] > 300 && kinds[2][1..].iter().all(|&count| count > 100), "{kinds:?}");
 }
 
 #[test]
@@ -168,34 +173,40 @@ fn reached(count: usize, mut made: impl FnMut() -> Run) -> Tally {
 
 #[test]
 fn made_runs_and_cases_reach_every_rule() {
-    let makers = [Maker::new(37, Form::First), Maker::new(37, Form::Second), Maker::held(37)];
-    for (at, (mut maker, turns)) in makers.into_iter().zip([1_000, 800, 800]).enumerate() {
+    let of_editions = [2, 3].map(|edition| (edition, Maker::of_edition(37, edition), 800));
+    let makers =
+        [(1, Maker::new(37, Form::First), 1_000), (1, Maker::new(37, Form::Second), 800)].into_iter();
+    for (edition, mut maker, turns) in makers.chain(of_editions) {
         for _ in 0..turns {
             let kind = maker.any_kind();
             maker.any_case(kind);
         }
         for (rule, words) in RULES {
-            let there = at == 2 || !OF_EDITION_2.contains(rule);
-            assert_eq!(maker.shown.count(*rule) > 0, there, "by cases of maker {at}: {words}");
+            assert_eq!(maker.shown.count(*rule) > 0, is_of(edition, *rule), "edition {edition}: {words}");
         }
+        assert!(maker.broken.iter().all(|&cases| (cases > 0) == (edition == 3)), "{:?}", maker.broken);
     }
     let mut rng = Rng::new(37);
-    check_reached("version 1", false, reached(3_000, || any_run(&mut rng, false)));
-    for edition in [1, 2] {
+    check_reached("version 1", 1, reached(3_000, || any_run(&mut rng, false)));
+    for edition in EDITIONS {
         let mut rng = Rng::new(38);
         let made = || {
             let run = wide_run(&mut rng, false);
             Run { network: run.network.in_edition(edition), ..run }
         };
-        check_reached(&format!("edition {edition}"), edition == 2, reached(2_000, made));
+        check_reached(&format!("edition {edition}"), edition, reached(2_000, made));
     }
 }
 
-/// Every rule but those that no run reaches, and those of edition 2 in it alone.
-fn check_reached(what: &str, held: bool, seen: Tally) {
-    let elsewhere = if held { &UNREACHED_IN_EDITION_2[..] } else { &OF_EDITION_2 };
+/// Every rule of the edition but those that no run reaches.
+fn check_reached(what: &str, edition: u8, seen: Tally) {
+    let unreached = match edition {
+        1 => &[],
+        2 => &UNREACHED_IN_EDITION_2[..],
+        _ => &UNREACHED_IN_EDITION_3,
+    };
     for (rule, words) in RULES {
-        let there = !UNREACHED.contains(rule) && !elsewhere.contains(rule);
+        let there = is_of(edition, *rule) && !UNREACHED.contains(rule) && !unreached.contains(rule);
         assert_eq!(seen.count(*rule) > 0, there, "by runs of {what}: {words}");
     }
 }

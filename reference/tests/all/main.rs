@@ -1,6 +1,7 @@
 //! The second model's own tests. Expected values are typed from document 01 and its readings.
 
 mod bounds;
+mod branches;
 mod counters;
 mod editions;
 mod examples;
@@ -12,9 +13,11 @@ mod moves;
 mod orders;
 mod ranges;
 mod readings;
+mod restricted;
 mod router;
 mod stored;
 mod texts;
+mod thrice;
 mod traces;
 mod typed;
 mod versions;

@@ -90,22 +90,22 @@ fn made_cases_break_every_clause() {
     let faults: [(&str, Fault); 9] = [
         ("version 1", |case, _| case.network.version == 1),
         ("version 2, edition 1", |case, _| case.network.version == 2 && case.network.edition == 1),
-        ("output 0", |_, place| place % 5 == 0),
+        ("output 0", |_, place| place % 6 == 0),
         ("empty", |case, place| case.state.outputs[place] == Output { closing: true, ..Output::default() }),
         ("not in use", |case, place| !case.state.outputs[place].used && case.state.outputs[place].head),
         ("head not taken", |case, place| case.state.outputs[place].used && !case.state.outputs[place].head),
         ("with a terminator", |case, place| case.state.outputs[place].terminator != Terminator::None),
         ("connected", |case, place| {
-            case.state.inputs_of(place / 5).iter().any(|input| input.outputs >> (place % 5) & 1 == 1)
+            case.state.inputs_of(place / 6).iter().any(|input| input.outputs >> (place % 6) & 1 == 1)
         }),
-        ("beyond S", |case, place| place as u64 / 5 >= case.network.sites),
+        ("beyond S", |case, place| place as u64 / 6 >= case.network.sites),
     ];
-    let mut maker = Maker::held(64);
+    let mut maker = Maker::of_edition(64, 2);
     let cases: Vec<Case> = (0..1_500).map(|_| maker.any_case(3)).collect();
     let refused = |case: &&Case| case.outcome(&mut ()).told.err() == Some(Refusal::Range);
     for (words, fault) in faults {
         let shows =
-            |case: &Case| (0..320).any(|place| case.state.outputs[place].closing && fault(case, place));
+            |case: &Case| (0..384).any(|place| case.state.outputs[place].closing && fault(case, place));
         assert!(cases.iter().filter(refused).any(shows), "{words}");
     }
 }

@@ -145,7 +145,7 @@ fn refusals_of_back() {
         (2, 255, 2),
         (3, 0, 17),
         (3, 2, 15),
-        (3, 3, 17),
+        (3, 4, 17),
         (3, 255, 17),
         (4, 0, 3),
         (4, 65, 3),
@@ -204,7 +204,7 @@ fn order_of_over() {
 fn order_of_back() {
     let later = [(3, (5, 0)), (4, (10, 0)), (5, (13, 3)), (6, (28, 0)), (7, (31, 1)), (8, (40, 2))];
     for version in [0, 1, 3] {
-        in_order(back, &TWO_2, &[&[(1, (1, 61)), (2, (2, version)), (17, (3, 3))], &later[..]].concat());
+        in_order(back, &TWO_2, &[&[(1, (1, 61)), (2, (2, version)), (17, (3, 4))], &later[..]].concat());
     }
     // 17 sites: channels from 14 on, routes from 150, the send from 728.
     let far = [(5, (13, 2)), (6, (16, 0)), (7, (151, 1)), (8, (730, 17))];
@@ -215,20 +215,24 @@ fn order_of_back() {
     }
 }
 
-/// Edition 2 is 15, behind 8 and before 14, whatever the sites.
+/// Editions 2 and 3 are 15, behind 8 and before 14, whatever the sites.
 #[test]
-fn edition_2_does_not_go_back() {
-    let two = with(&TWO_2, &[(3, 2)]);
+fn later_editions_do_not_go_back() {
+    [2, 3].into_iter().for_each(does_not_go_back);
+}
+
+fn does_not_go_back(edition: u8) {
+    let two = with(&TWO_2, &[(3, edition)]);
     let faults =
         [(1, (1, 61)), (2, (2, 1)), (3, (5, 0)), (4, (10, 0)), (5, (13, 3)), (6, (28, 0)), (7, (31, 1))];
     in_order(back, &two, &[&faults[..], &[(8, (40, 2))]].concat());
     for room in [0, 38, 39, LONGEST] {
         assert_eq!(with_room(back, &two, room), Err(15), "{room} bytes");
-        assert_eq!(with_room(back, &with(&R_2, &[(3, 2)]), room), Err(15), "run R, {room} bytes");
+        assert_eq!(with_room(back, &with(&R_2, &[(3, edition)]), room), Err(15), "run R, {room} bytes");
     }
     for sites in 1..=64 {
         let mut run = ring(2, sites);
-        run.network.edition = 2;
+        run.network.edition = edition;
         assert_eq!(moved(back, &run.bytes()), Err(15), "{sites} sites");
     }
     assert_eq!(moved(over, &two), Err(2));

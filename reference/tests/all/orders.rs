@@ -1,5 +1,5 @@
-//! The order of the refusals in both versions, edition 2 in version 2: reader, writer, player and single events, each
-//! pair of neighbours.
+//! The order of the refusals in both versions, editions 2 and 3 in version 2: reader, writer, player and single events,
+//! each pair of neighbours.
 
 use crate::helpers::{one_site, two_sites};
 use reference::archive::{read, write, Run, Send};
@@ -9,16 +9,21 @@ use reference::refusal::Refusal::{self, *};
 use reference::single::{run, send};
 use reference::state::{OutEntry, State};
 
+/// A version and an edition.
+type Kind = (u8, u8);
+
+const KINDS: [Kind; 3] = [(1, 1), (2, 2), (2, 3)];
+
 /// An edition that this version has not.
 fn unknown(version: u8) -> u8 {
-    version + 1
+    2 * version
 }
 
-/// A run of this version, and of the edition of the same number, with one fault for each refusal of `faults` that it
-/// can hold (2, 17, 3, 4, 5, 6, 7, 8).
-fn faulty(version: u8, faults: &[Refusal]) -> Run {
+/// A run of this version and edition with one fault for each refusal of `faults` that it can hold (2, 17, 3, 4, 5, 6,
+/// 7, 8).
+fn faulty((version, edition): Kind, faults: &[Refusal]) -> Run {
     let send = Send { draw: 0, site: 0, set: 1 };
-    let network = Network { version, edition: version, ..two_sites() };
+    let network = Network { version, edition, ..two_sites() };
     let mut run = Run { network, seed: 1, draws: 2, sends: vec![send; 3] };
     for fault in faults {
         match fault {
@@ -37,14 +42,14 @@ fn faulty(version: u8, faults: &[Refusal]) -> Run {
 }
 
 /// The bytes of it, with the faults that are made in the bytes (1, 2, 5).
-fn faulty_bytes(version: u8, faults: &[Refusal]) -> Vec<u8> {
+fn faulty_bytes(kind: Kind, faults: &[Refusal]) -> Vec<u8> {
     let others: Vec<Refusal> = faults.iter().copied().filter(|f| !matches!(f, Version | Size)).collect();
-    let mut bytes = faulty(version, &others).bytes();
+    let mut bytes = faulty(kind, &others).bytes();
     for fault in faults {
         match fault {
             Length => bytes[1] += 1,
             Version => bytes[2] = 7,
-            Size => bytes[if version == 1 { 12 } else { 13 }] += 1,
+            Size => bytes[if kind.0 == 1 { 12 } else { 13 }] += 1,
             _ => (),
         }
     }
@@ -52,8 +57,8 @@ fn faulty_bytes(version: u8, faults: &[Refusal]) -> Vec<u8> {
 }
 
 /// The reader's order, then 14; in version 1 there is no edition byte.
-fn reader_and_player(version: u8, order: &[Refusal]) {
-    let bytes = |faults: &[Refusal]| faulty_bytes(version, faults);
+fn reader_and_player(kind: Kind, order: &[Refusal]) {
+    let bytes = |faults: &[Refusal]| faulty_bytes(kind, faults);
     assert!(read(&bytes(&[])).is_ok());
     for (at, first) in order.iter().enumerate() {
         assert_eq!(read(&bytes(&[*first])), Err(*first));
@@ -70,28 +75,33 @@ fn reader_and_player(version: u8, order: &[Refusal]) {
 
 #[test]
 fn reader_and_player_of_version_1() {
-    reader_and_player(1, &[Length, Version, Limits, Seed, Size, Channel, Route, Send]);
+    reader_and_player((1, 1), &[Length, Version, Limits, Seed, Size, Channel, Route, Send]);
 }
 
 #[test]
 fn reader_and_player_of_version_2() {
-    reader_and_player(2, &[Length, Version, Edition, Limits, Seed, Size, Channel, Route, Send]);
+    for edition in [2, 3] {
+        reader_and_player(
+            (2, edition),
+            &[Length, Version, Edition, Limits, Seed, Size, Channel, Route, Send],
+        );
+    }
 }
 
 #[test]
 fn writer_2_17_3_to_8_then_14() {
     let order = [Version, Edition, Limits, Seed, Size, Channel, Route, Send];
-    for version in [1, 2] {
+    for kind in KINDS {
         for (at, first) in order.iter().enumerate() {
             let mut room = [5; 10];
-            assert_eq!(write(&faulty(version, &[*first]), &mut room), Err(*first));
-            assert_eq!(write(&faulty(version, &order[at..]), &mut room), Err(*first));
+            assert_eq!(write(&faulty(kind, &[*first]), &mut room), Err(*first));
+            assert_eq!(write(&faulty(kind, &order[at..]), &mut room), Err(*first));
             for later in &order[at + 1..] {
-                assert_eq!(write(&faulty(version, &[*first, *later]), &mut room), Err(*first));
+                assert_eq!(write(&faulty(kind, &[*first, *later]), &mut room), Err(*first));
             }
             assert_eq!(room, [5; 10]);
         }
-        assert_eq!(write(&faulty(version, &[]), &mut [5; 10]), Err(Room));
+        assert_eq!(write(&faulty(kind, &[]), &mut [5; 10]), Err(Room));
     }
 }
 
@@ -105,18 +115,18 @@ fn rank(fault: Refusal) -> usize {
 
 #[test]
 fn single_send() {
-    for version in [1, 2] {
+    for kind in KINDS {
         for last in SINGLE {
             // All faults that come before `last` in the order are left out.
             let absent = |fault: Refusal| rank(fault) > rank(last);
-            assert_eq!(send_without(version, absent), Err(last));
+            assert_eq!(send_without(kind, absent), Err(last));
         }
-        assert_eq!(send_without(version, |_| true), Ok(1));
+        assert_eq!(send_without(kind, |_| true), Ok(1));
     }
 }
 
-/// SEND in this version, and in the edition of the same number, with every fault but those that are absent.
-fn send_without(version: u8, absent: impl Fn(Refusal) -> bool) -> Result<u8, Refusal> {
+/// SEND in this version and edition with every fault but those that are absent.
+fn send_without((version, edition): Kind, absent: impl Fn(Refusal) -> bool) -> Result<u8, Refusal> {
     let mut network = two_sites().in_version(version);
     let mut state = State { counter: 1, ..State::empty() };
     network.depth = 1;
@@ -124,7 +134,7 @@ fn send_without(version: u8, absent: impl Fn(Refusal) -> bool) -> Result<u8, Ref
     if here(Version) {
         network.version = 0;
     }
-    network.edition = if here(Edition) { unknown(version) } else { version };
+    network.edition = if here(Edition) { unknown(version) } else { edition };
     network.tries = if here(Limits) { 0 } else { 1 };
     network.channels[7] = if here(Channel) { 8 } else { NO_CHANNEL };
     network.routes[0] = here(Route) as u16;

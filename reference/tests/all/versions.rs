@@ -83,8 +83,9 @@ fn thirteen_bytes() {
     for (place, value, refused) in [
         (1, 12, Refusal::Length),
         (2, 3, Refusal::Version),
-        (3, 3, Refusal::Edition),
+        (3, 4, Refusal::Edition),
         (3, 2, Refusal::Size),
+        (3, 3, Refusal::Size),
         (4, 65, Refusal::Limits),
         (5, 0, Refusal::Limits),
         (6, 9, Refusal::Limits),
@@ -103,10 +104,10 @@ fn versions_and_editions() {
     for version in [0, 3, 4, 255] {
         assert_eq!(read(&with(2, version)), Err(Refusal::Version));
     }
-    for edition in (0..=255).filter(|edition| ![1, 2].contains(edition)) {
+    for edition in (0..=255).filter(|edition| ![1, 2, 3].contains(edition)) {
         assert_eq!(read(&with(3, edition)).err(), Some(Refusal::Edition), "edition {edition}");
     }
-    for edition in [1, 2] {
+    for edition in [1, 2, 3] {
         assert_eq!(read(&with(3, edition)).map(|run| run.network.edition), Ok(edition));
     }
     // Run R with the version byte 2: edition 1, S = 3, T = 1, D = 0.
@@ -118,10 +119,10 @@ fn versions_and_editions() {
 #[test]
 fn versions_and_editions_in_memory() {
     for version in 0..=255 {
-        for edition in [0, 1, 2, 3, 255] {
+        for edition in [0, 1, 2, 3, 4, 255] {
             let network = Network { version, edition, ..one_site() };
             let expected = match (version, edition) {
-                (1 | 2, 1) | (2, 2) => None,
+                (1 | 2, 1) | (2, 2 | 3) => None,
                 (1 | 2, _) => Some(Refusal::Edition),
                 _ => Some(Refusal::Version),
             };
@@ -186,7 +187,7 @@ fn channels() {
         network.channels[4 * 62] = 255;
         network.wiring().expect("valid")
     };
-    assert_eq!(wiring.far[5 * 62 + 1], 5 * 63 + 4);
+    assert_eq!(wiring.far[6 * 62 + 1], 5 * 63 + 4);
 }
 
 /// The channel bytes: one byte 255 is none in version 1, two of them in version 2, and 0 255 is input 255.
@@ -273,13 +274,16 @@ fn site_63_services_and_requeues() {
     assert_eq!(bench.answer(64, 11), Err(Refusal::Address));
 }
 
-/// The last event of a draw: 13 x 64 - 1 is code 12 of site 63.
+/// The last event of a draw: 13 x 64 - 1 is code 12 of site 63, with 15 codes 15 x 64 - 1 is code 14.
 #[test]
-fn draws_name_832_events() {
+fn draws_name_832_events_or_960() {
     use reference::draws::event;
-    assert_eq!(event(831, 64), (63, 12));
-    assert_eq!(event(832, 64), (0, 0));
-    assert_eq!(event(270_369, 64), (270_369 % 832 / 13, 270_369 % 832 % 13));
+    assert_eq!(event(831, 64, 13), (63, 12));
+    assert_eq!(event(832, 64, 13), (0, 0));
+    assert_eq!(event(270_369, 64, 13), (270_369 % 832 / 13, 270_369 % 832 % 13));
+    assert_eq!(event(959, 64, 15), (63, 14));
+    assert_eq!(event(960, 64, 15), (0, 0));
+    assert_eq!(event(270_369, 64, 15), (270_369 % 960 / 15, 270_369 % 960 % 15));
 }
 
 #[test]

@@ -26,6 +26,7 @@ fn with(edits: &[(usize, u8)]) -> String {
 fn a_good_one() {
     assert_eq!(with(&[]), "an archive of 60 bytes, version 2, edition 1: 2 sites, 2 sends, 1000 draws");
     assert_eq!(with(&[(3, 2)]), "an archive of 60 bytes, version 2, edition 2: 2 sites, 2 sends, 1000 draws");
+    assert_eq!(with(&[(3, 3)]), "an archive of 60 bytes, version 2, edition 3: 2 sites, 2 sends, 1000 draws");
 }
 
 #[test]
@@ -34,8 +35,8 @@ fn heads() {
         (1, 61, "refused 1: 60 bytes, but bytes 0 and 1 say 61"),
         (2, 9, "refused 2: byte 2, the version, is 9, not 1 or 2"),
         (2, 0, "refused 2: byte 2, the version, is 0, not 1 or 2"),
-        (3, 3, "refused 17: byte 3, the edition, is 3, not 1 or 2"),
-        (3, 0, "refused 17: byte 3, the edition, is 0, not 1 or 2"),
+        (3, 4, "refused 17: byte 3, the edition, is 4, not 1, 2 or 3"),
+        (3, 0, "refused 17: byte 3, the edition, is 0, not 1, 2 or 3"),
         (4, 65, "refused 3: byte 4, the number of sites, is 65, not 1 to 64"),
         (5, 0, "refused 3: byte 5, the limit of tries, is 0, not 1 to 255"),
         (6, 9, "refused 3: byte 6, the depth of the queues, is 9, not 1 to 8"),

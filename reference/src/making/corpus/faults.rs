@@ -1,4 +1,4 @@
-//! Each refusal in several ways, and two or more faults at once so that their order shows, in both versions and
+//! Each refusal in several ways, and two or more faults at once so that their order shows, in both versions and all
 //! editions.
 
 use super::{named, two_sites, Named};
@@ -94,19 +94,24 @@ const WAYS_OF_2: &[(&str, Edits)] = &[
     ("refuse-8-set-bit-63", &[Set(2, 1 << 63 | 2)]),
 ];
 
-/// Ways in edition 2, and in the editions that there are not.
-const WAYS_OF_EDITION_2: &[(&str, Edits)] = &[
-    ("pass-two-sites", &[Edition(2)]),
-    ("refuse-1-field-one-less", &[Edition(2), Length(-1)]),
-    ("refuse-2-version-3", &[Edition(2), Version(3)]),
-    ("refuse-3-depth-9", &[Edition(2), Depth(9)]),
-    ("refuse-4-seed-0", &[Edition(2), Seed(0)]),
-    ("refuse-5-one-send-more", &[Edition(2), Sends(4)]),
-    ("refuse-6-channel-4s", &[Edition(2), Channel(1, 8)]),
-    ("refuse-7-empty-list", &[Edition(2), Route(1, 0)]),
-    ("refuse-8-site-2", &[Edition(2), Site(0, 2)]),
-    ("refuse-17-edition-0", &[Edition(0)]),
-    ("refuse-17-edition-3", &[Edition(3)]),
+/// Ways in editions 2 and 3.
+const WAYS_OF_EDITIONS: &[(&str, Edits)] = &[
+    ("pass-two-sites", &[]),
+    ("refuse-1-field-one-less", &[Length(-1)]),
+    ("refuse-2-version-3", &[Version(3)]),
+    ("refuse-3-depth-9", &[Depth(9)]),
+    ("refuse-4-seed-0", &[Seed(0)]),
+    ("refuse-5-one-send-more", &[Sends(4)]),
+    ("refuse-6-channel-4s", &[Channel(1, 8)]),
+    ("refuse-7-empty-list", &[Route(1, 0)]),
+    ("refuse-8-site-2", &[Site(0, 2)]),
+];
+
+/// The edition beside that of the archives: 0, and those that there were not yet.
+const OTHER_EDITIONS: &[(&str, Edits)] = &[
+    ("e2-refuse-17-edition-0", &[Edition(0)]),
+    ("e2-refuse-17-edition-3", &[Edition(3)]),
+    ("e3-refuse-17-edition-4", &[Edition(4)]),
 ];
 
 /// The two-site archive of this version with these changes.
@@ -159,12 +164,28 @@ fn orders(version: u8, prefix: &str, base: Edits, order: Order) -> Vec<Named> {
     all
 }
 
-/// The orders of edition 2, where 17 is left out, and then 17 of edition 3 in its place.
-fn orders_of_edition_2() -> Vec<Named> {
+/// The orders of this edition, where 17 is left out, and then 17 of the next edition in its place.
+fn orders_of_edition(prefix: &str, edition: Edits, next: Edits) -> Vec<Named> {
     let known = [&[LENGTH, (2, &[Version(3)])], &LATER[..]].concat();
-    let unknown = [&[(2, &[Version(3)] as Edits), (17, &[Edition(3)])], &LATER[..]].concat();
-    let mut all = orders(2, "e2-", &[Edition(2)], &known);
-    all.extend(orders(2, "e2-", &[], &unknown).into_iter().filter(|(name, _)| name.contains("17")));
+    let unknown = [&[(2, &[Version(3)] as Edits), (17, next)], &LATER[..]].concat();
+    let mut all = orders(2, prefix, edition, &known);
+    all.extend(orders(2, prefix, &[], &unknown).into_iter().filter(|(name, _)| name.contains("17")));
+    all
+}
+
+/// What editions 2 and 3 have; of edition 3 neighbours in the order, and for 17 all later ones.
+fn of_editions() -> Vec<Named> {
+    let mut all = Vec::new();
+    for (prefix, edition) in [("e2-", &[Edition(2)] as Edits), ("e3-", &[Edition(3)])] {
+        let way =
+            |(way, edits): &(&str, Edits)| named(&format!("{prefix}{way}"), damaged(2, [edition, *edits]));
+        all.extend(WAYS_OF_EDITIONS.iter().map(way));
+    }
+    all.extend(OTHER_EDITIONS.iter().map(|(name, edits)| named(name, damaged(2, [*edits]))));
+    all.extend(orders_of_edition("e2-", &[Edition(2)], &[Edition(3)]));
+    let of_3 = orders_of_edition("e3-", &[Edition(3)], &[Edition(4)]);
+    let telling = |(name, _): &Named| name.contains("17") || !name.contains("all-later");
+    all.extend(of_3.into_iter().filter(telling));
     all
 }
 
@@ -186,8 +207,7 @@ pub fn all() -> Vec<Named> {
     all.extend(ways(2, "v2-", WAYS));
     all.extend(ways(2, "v2-", WAYS_OF_2));
     all.extend(orders(2, "v2-", &[], &of_2));
-    all.extend(ways(2, "e2-", WAYS_OF_EDITION_2));
-    all.extend(orders_of_edition_2());
+    all.extend(of_editions());
     all
 }
 

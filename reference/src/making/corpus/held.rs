@@ -6,10 +6,10 @@ use super::{in_edition, named, two_sites, Named};
 use crate::archive::{Run, Send};
 use crate::draws::{event, Draws};
 use crate::making::runs;
-use crate::network::{ports, Wiring, NO_INPUT, PORTS};
+use crate::network::{ports, Wiring, NO_INPUT, OUTPUTS, PORTS};
 use crate::player::Play;
 use crate::state::{Phase, State};
-use crate::watch::{Rule, OF_EDITION_2};
+use crate::watch::{Rule, OF_CLOSING};
 
 /// Small runs of edition 2, one after another.
 fn held_runs(seed: u64) -> impl Iterator<Item = Run> {
@@ -55,7 +55,7 @@ impl Seen<'_> {
 
     /// The state of the input at the end of the channel of the output that steps.
     fn far(&self) -> Option<Phase> {
-        let far = self.wiring.far[PORTS * self.site + self.code - 5];
+        let far = self.wiring.far[OUTPUTS * self.site + self.code - 5];
         (far != NO_INPUT).then(|| self.before.inputs[far as usize].phase)
     }
 
@@ -65,7 +65,7 @@ impl Seen<'_> {
 
     /// Whether a closing output with a channel to its own site is emptied.
     fn emptied_at_home(&self) -> bool {
-        let here = || PORTS * self.site + self.code - 5;
+        let here = || OUTPUTS * self.site + self.code - 5;
         self.takes(Rule::ClosingEmptied) && self.wiring.far[here()] as usize / PORTS == self.site
     }
 }
@@ -92,7 +92,7 @@ fn meets(sight: Sight, run: &Run) -> bool {
     let mut draws = Draws::new(run.seed);
     let mut services_before = None;
     for _ in 0..run.draws {
-        let (site, code) = event(draws.next_value(), wiring.sites);
+        let (site, code) = event(draws.next_value(), wiring.sites, wiring.codes());
         play.sends();
         play.watch.clear();
         let before = play.state.clone();
@@ -109,7 +109,7 @@ fn meets(sight: Sight, run: &Run) -> bool {
 fn ending(phase: Phase, seed: u64) -> Run {
     let is_there = |state: &State, wiring: &Wiring| {
         let closing = |place: &usize| state.outputs[*place].closing;
-        (0..PORTS * wiring.sites)
+        (0..OUTPUTS * wiring.sites)
             .filter(closing)
             .any(|place| state.inputs[wiring.far[place] as usize].phase == phase)
     };
@@ -127,7 +127,7 @@ fn ending(phase: Phase, seed: u64) -> Run {
 }
 
 /// Two sites joined on ports 1 both ways with these T and D, and these sends of site 0: draw and set.
-fn from_site_0(limits: (u8, u64), seed: u32, draws: u16, sends: &[(u16, u64)]) -> Run {
+pub(super) fn from_site_0(limits: (u8, u64), seed: u32, draws: u16, sends: &[(u16, u64)]) -> Run {
     let mut run = Run { seed, draws, ..two_sites() };
     (run.network.tries, run.network.depth) = limits;
     run.sends = sends.iter().map(|&(draw, set)| Send { draw, site: 0, set }).collect();
@@ -136,7 +136,7 @@ fn from_site_0(limits: (u8, u64), seed: u32, draws: u16, sends: &[(u16, u64)]) -
 
 /// Runs that end otherwise in edition 2 than in edition 1: worked out by hand in the remarks of corpus/typed; with
 /// other books after the fewest draws and in the fewest bytes that a search over seeds found.
-fn differing() -> Vec<(&'static str, Run)> {
+pub(super) fn differing() -> Vec<(&'static str, Run)> {
     vec![
         ("hand-held", from_site_0((3, 1), 4_278_228_110, 17, &[(0, 2), (10, 2), (17, 2)])),
         ("differs-53-draws", from_site_0((1, 2), 1_154_959_373, 53, &[(0, 2), (0, 3)])),
@@ -146,7 +146,7 @@ fn differing() -> Vec<(&'static str, Run)> {
 
 pub fn all() -> Vec<Named> {
     let mut all = Vec::new();
-    for rule in OF_EDITION_2.into_iter().filter(|rule| !UNREACHED.contains(rule)) {
+    for rule in OF_CLOSING.into_iter().filter(|rule| !UNREACHED.contains(rule)) {
         let run = held_runs(2_000 + rule as u64).find(|run| shows(rule, run)).expect("the rule is reached");
         all.push(named(&format!("e2-rule-{}", kebab(&format!("{rule:?}"))), run.bytes()));
     }

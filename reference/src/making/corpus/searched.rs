@@ -4,9 +4,9 @@
 use super::Named;
 use crate::archive::Run;
 use crate::making::{rng::Rng, runs};
-use crate::owing::DEBTS;
+use crate::owing::{DEBTS, DEBTS_OF_1};
 use crate::player::Play;
-use crate::watch::{Rule, Tally, OF_EDITION_2, RULES};
+use crate::watch::{is_of_edition_3, Rule, Tally, OF_CLOSING, RULES};
 
 /// Rules that no run from the empty state reaches; the single event cases have them.
 pub const UNREACHED: [Rule; 5] = [
@@ -20,6 +20,28 @@ pub const UNREACHED: [Rule; 5] = [
 /// What no run of edition 2 reaches besides: its outputs are emptied while the input is free that they alone feed, so
 /// that no head ever waits.
 pub const UNREACHED_IN_EDITION_2: [Rule; 1] = [Rule::HeadInputBusy];
+
+/// What no run of edition 3 reaches besides: the same; no abort and no keep-local arises, and at a split output and
+/// in its in-queue every set is that of the own site alone.
+pub const UNREACHED_IN_EDITION_3: [Rule; 17] = [
+    Rule::HeadInputBusy,
+    Rule::HeadPassedAborted,
+    Rule::DoneAbort,
+    Rule::AbortToOpen,
+    Rule::AbortQueued,
+    Rule::OperatorAbort,
+    Rule::KeepLocalQueued,
+    Rule::KeepLocalServiced,
+    Rule::DoneAbortBranch,
+    Rule::SplitTerminatorRefused,
+    Rule::SplitAbortQueued,
+    Rule::SplitOperatorAbort,
+    Rule::SplitKeepLocalServiced,
+    Rule::SplitKeepLocalDropped,
+    Rule::SplitEndServicedRest,
+    Rule::SplitEndRest,
+    Rule::SplitEndBlocked,
+];
 
 /// Rules that every run shows, without files of their own.
 const PLAIN: [Rule; 30] = [
@@ -110,11 +132,12 @@ pub(super) fn kebab(name: &str) -> String {
 
 pub fn all() -> Vec<Named> {
     let mut all = Vec::new();
-    let left_out = |rule| UNREACHED.contains(rule) || PLAIN.contains(rule) || OF_EDITION_2.contains(rule);
+    let lists = [&UNREACHED[..], &PLAIN, &OF_CLOSING];
+    let left_out = |rule: &Rule| is_of_edition_3(*rule) || lists.iter().any(|list| list.contains(rule));
     for (rule, _) in RULES.iter().filter(|(rule, _)| !left_out(rule)) {
         all.push((format!("rule-{}.bin", kebab(&format!("{rule:?}"))), showing(*rule).bytes()));
     }
-    for (kind, (debt, _)) in DEBTS.iter().enumerate() {
+    for (kind, (debt, _)) in DEBTS[..DEBTS_OF_1].iter().enumerate() {
         for turn in 1..=2 {
             let name = format!("ends-{}-{turn}.bin", kebab(&format!("{debt:?}")));
             all.push((name, ending(kind, 9_000 * turn + kind as u64).bytes()));

@@ -1,4 +1,4 @@
-//! The bounds of version 2: lengths, editions, sites, channels and sets at their limits; those of edition 2.
+//! The bounds of version 2: lengths, editions, sites, channels and sets at their limits; those of editions 2 and 3.
 
 use super::bounds::{edited, long, one_site, ring};
 use super::{in_version, named, run_r, Named};
@@ -54,25 +54,26 @@ fn longest() -> Vec<u8> {
     Run { network, seed: 7, draws: 9, sends: vec![send; 255] }.bytes()
 }
 
-/// Run R in edition 2, and editions, lengths and sites at their limits there.
-fn of_edition_2() -> Vec<Named> {
-    let in_2 = |bytes: &[u8]| edited(bytes, &[(3, 2)]);
-    let r = in_2(&wide_run_r());
+/// Run R in this edition, and editions, lengths and sites at their limits there.
+fn of_edition(edition: u8) -> Vec<Named> {
+    let within = |bytes: &[u8]| edited(bytes, &[(3, edition)]);
+    let (r, next) = (within(&wide_run_r()), edition + 1);
     let short = long(&r, 13, 13);
+    let named = |name: &str, bytes| named(&format!("e{edition}-{name}"), bytes);
     vec![
-        named("e2-01-run-r-version-byte-1", edited(&r, &[(2, 1)])),
-        named("e2-bound-edition-3", edited(&r, &[(3, 3)])),
-        named("e2-bound-edition-255", edited(&r, &[(3, 255)])),
-        named("e2-bound-12-bytes", long(&r, 12, 12)),
-        named("e2-bound-13-bytes", short.clone()),
-        named("e2-bound-13-bytes-edition-3", edited(&short, &[(3, 3)])),
-        named("e2-bound-34-bytes-field-34", long(&r, 34, 34)),
-        named("e2-bound-11523-bytes", in_2(&longest())),
-        named("e2-bound-sites-16", in_2(&ring(2, 16))),
-        named("e2-bound-sites-17", in_2(&ring(2, 17))),
-        named("e2-bound-sites-64", in_2(&ring(2, 64))),
-        named("e2-bound-sites-65", in_2(&ring(2, 65))),
-        named("e2-01-run-r", r),
+        named("01-run-r-version-byte-1", edited(&r, &[(2, 1)])),
+        named(&format!("bound-edition-{next}"), edited(&r, &[(3, next)])),
+        named("bound-edition-255", edited(&r, &[(3, 255)])),
+        named("bound-12-bytes", long(&r, 12, 12)),
+        named("bound-13-bytes", short.clone()),
+        named(&format!("bound-13-bytes-edition-{next}"), edited(&short, &[(3, next)])),
+        named("bound-34-bytes-field-34", long(&r, 34, 34)),
+        named("bound-11523-bytes", within(&longest())),
+        named("bound-sites-16", within(&ring(2, 16))),
+        named("bound-sites-17", within(&ring(2, 17))),
+        named("bound-sites-64", within(&ring(2, 64))),
+        named("bound-sites-65", within(&ring(2, 65))),
+        named("01-run-r", r),
     ]
 }
 
@@ -142,6 +143,7 @@ pub fn all() -> Vec<Named> {
     all.extend(thirteen_bytes());
     all.extend(lengths());
     all.extend(ends_and_sets());
-    all.extend(of_edition_2());
+    all.extend(of_edition(2));
+    all.extend(of_edition(3).into_iter().filter(|(name, _)| !name.contains("edition-255")));
     all
 }

@@ -1,4 +1,5 @@
-//! Version 2 under load: some runs of version 1 again, and networks of 17 to 64 sites; some of these in edition 2 too.
+//! Version 2 under load: some runs of version 1 again, and networks of 17 to 64 sites; some of these in editions 2
+//! and 3 too.
 
 use super::loads::{self, loaded, nearest, random};
 use super::{in_edition, named, Named};
@@ -39,8 +40,8 @@ const AGAIN: [&str; 9] = [
     "load-routes-loop-ring",
 ];
 
-/// The runs of version 2 that are there in edition 2 too.
-const HELD: [&str; 13] = [
+/// The runs of version 2 that are there in editions 2 and 3 too.
+const IN_ALL: [&str; 13] = [
     "load-one-site",
     "load-two-sites-bundle",
     "load-star-5",
@@ -73,8 +74,9 @@ pub fn all() -> Vec<Named> {
     ]);
     let mut archives = Vec::new();
     for (name, run) in all {
-        if HELD.contains(&name) {
-            archives.push(named(&format!("e2-{name}"), in_edition(2, run.clone()).bytes()));
+        if IN_ALL.contains(&name) {
+            let within = |edition| in_edition(edition, run.clone()).bytes();
+            archives.extend([2, 3].map(|edition| named(&format!("e{edition}-{name}"), within(edition))));
         }
         archives.push(named(&format!("v2-{name}"), in_edition(1, run).bytes()));
     }
