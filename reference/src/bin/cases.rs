@@ -37,6 +37,7 @@ fn main() -> std::io::Result<()> {
     let Ok([seed, counts @ ..]) = numbers.as_deref() else { usage() };
     let [count, wide, held, restricted] = *counts else { usage() };
     let mut last = Maker::of_edition(*seed, EDITION_3);
+    last.show(&restricted::cases());
     let parts = [
         made(&mut Maker::new(*seed, Form::First), Vec::new(), count as usize),
         made(&mut Maker::new(*seed, Form::Second), edges::cases(), wide as usize),

@@ -8,7 +8,7 @@ use crate::single::Event;
 use crate::state::State;
 use crate::step::Machine;
 use crate::text::{Case, Form};
-use crate::watch::{is_of_edition_3, Rule, Tally, OF_CLOSING};
+use crate::watch::{Rule, Tally, OF_CLOSING};
 
 /// The kinds of case, with the share of each in a hundred.
 pub const KINDS: [(&str, usize); 6] = [
@@ -23,8 +23,8 @@ pub const KINDS: [(&str, usize); 6] = [
 /// States looked at for one case.
 const TURNS: usize = 14;
 
-/// How much oftener than others the rules that edition 2 brings are shown in its cases, and those of edition 3 in its.
-const OFTENER: [u64; 2] = [5, 2];
+/// How much oftener than others the rules that edition 2 brings are shown in its cases.
+const OFTENER: u64 = 5;
 
 pub struct Maker {
     rng: Rng,
@@ -46,6 +46,15 @@ impl Maker {
     /// Cases of edition 2 or 3, in the second form, from numbers of their own.
     pub fn of_edition(seed: u64, edition: u8) -> Maker {
         Maker { edition, ..Maker::new(seed ^ u64::from(edition) << 32, Form::Second) }
+    }
+
+    /// Counts the rules that these cases take as shown.
+    pub fn show(&mut self, cases: &[Case]) {
+        for case in cases {
+            if self.counts(&case.network) {
+                case.outcome(&mut self.shown);
+            }
+        }
     }
 
     /// Draws a kind of case, its place in `KINDS`, by its share.
@@ -212,12 +221,9 @@ impl Maker {
     }
 
     fn least(&self, rules: &[Rule]) -> u64 {
-        let oftener = |rule: &Rule| match self.edition {
-            EDITION_2 if OF_CLOSING.contains(rule) => OFTENER[0],
-            EDITION_3 if is_of_edition_3(*rule) => OFTENER[1],
-            _ => 1,
-        };
-        rules.iter().map(|rule| self.shown.count(*rule) / oftener(rule)).min().unwrap_or(u64::MAX)
+        let oftener = |rule: &Rule| self.edition == EDITION_2 && OF_CLOSING.contains(rule);
+        let shown = |rule: &Rule| self.shown.count(*rule) / if oftener(rule) { OFTENER } else { 1 };
+        rules.iter().map(shown).min().unwrap_or(u64::MAX)
     }
 }
 
