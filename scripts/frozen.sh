@@ -121,24 +121,30 @@ unfrozen() {
     ' part=1 "$1" part=2 "$2"
 }
 
-# The awk function was(path, line): a line of a text as it was before the exceptions in $temp/instead, newest first. What
-# is met goes to $temp/met: `is` of an exception, or `was` where the line that it replaces still stands.
+# The awk function was(path, place, line): a line of a text as it was before the exceptions in $temp/instead, newest
+# first, with its newline; nothing where there was none. The place is the line's number, for `batch` the archive's name.
+# What is met goes to $temp/met: `is` of an exception, or `was` where the line that it replaces still stands.
 was='
     BEGIN { while ((getline exception <(temp "/instead")) > 0) EXCEPTION[++exceptions] = exception }
-    function was(path, line,    i, field) {
+    function was(path, place, line,    i, field) {
         for (i = 1; i <= exceptions; i++) {
             split(EXCEPTION[i], field, "\t")
-            if (path != field[2] || (line "") != (field[3] "") && (line "") != (field[4] "")) continue
+            if (path != field[2] && path ":" place != field[2]) continue
+            if ((line "") != (field[3] "") && (line "") != (field[4] "")) continue
             print field[1] "\t" ((line "") == (field[4] "") ? "is" : "was") >>(temp "/met")
+            if (field[3] == "") return ""
             line = field[3]
         }
-        return line
+        return line "\n"
     }'
 
-# put_back PATH: standard input, lines of that text, as they were. (`end` shows a last line that lacks its newline.)
+# put_back PATH FROM: standard input, lines of that text from the line FROM on, as they were. (`end` shows a last line that
+# lacks its newline.)
 put_back() {
     { cat && echo end; } |
-        awk -v temp="$temp" -v path="$1" "$was"' NR > 1 { print was(path, line) } { line = $0 }'
+        awk -v temp="$temp" -v path="$1" -v from="$2" "$was"'
+            NR > 1 { printf "%s", was(path, from + NR - 2, line) }
+            { line = $0 }'
 }
 
 # parts FILE: the lines that batch printed for each archive of the file, as $temp/parts/NAME: services, then the line
@@ -153,7 +159,7 @@ parts() {
             name = substr($0, 1, at - 1)
             if (!at || !(name in named)) next
             if (name in archive) {
-                for (i = 1; i <= lines; i++) print was(outputs, text[i]) >>(folder name)
+                for (i = 1; i <= lines; i++) printf "%s", was(outputs, name, text[i]) >>(folder name)
                 close(folder name)
             }
             lines = 0
@@ -166,7 +172,7 @@ whole() {
     printf '%s\n' "$1"
     case $1 in corpus/typed/*) ;; *) return 0 ;; esac
     [ -f "$1" ] && cut -f 2 "$temp/instead" | grep -qxF -e "$1" || return 0
-    put_back "$1" <"$1" >"$temp/typed/${1##*/}"
+    put_back "$1" 1 <"$1" >"$temp/typed/${1##*/}"
     printf '%s\n' "$temp/typed/${1##*/}"
 }
 
@@ -187,7 +193,7 @@ spelled() {
                 to=${path%% *}
                 path=${path#* }
                 [ -f "$path" ] || continue
-                tail -n "+$from" "$path" | head -n $((to - from + 1)) | put_back "$path" >"$temp/cuts/$cuts"
+                tail -n "+$from" "$path" | head -n $((to - from + 1)) | put_back "$path" "$from" >"$temp/cuts/$cuts"
                 printf '%s\n' "$temp/cuts/$cuts"
                 ;;
         esac
@@ -283,10 +289,12 @@ done
 awk -F '\t' '
     part == 1 { met[$1, $2]++; next }
     function answers(path) {
+        sub(/:[0-9]+$/, "", path)
+        sub(/^crates\/batch\/stdout:[a-z0-9-]+[.]bin$/, "crates/batch/stdout", path)
         return path ~ /^(crates\/[a-z_]+\/stdout|tests\/clauses\/[a-z]+[.]txt|corpus\/typed\/[a-z0-9-]+[.]out)$/
     }
     function remarks(path) { return path ~ /^corpus\/typed\/[a-z0-9-]+[.]hex$/ && $3 ~ /^#/ && $4 ~ /^#/ }
-    NF != 4 || !answers($2) && !remarks($2) || ($3 "") == ($4 "") {
+    NF != 4 || !answers($2) && !remarks($2) || ($3 "") == ($4 "") || $4 == "" || $3 == "" && $2 !~ /:.*[.]bin$/ {
         print "frozen: " $1 " is not a text of answers, its line as it was and the line now, a tab between them"
         next
     }
