@@ -1,7 +1,7 @@
 #!/bin/sh
 # batch.sh: plays the whole corpus by the product's two players and compares with crates/batch/stdout, book for book: by
 # `batch` (the run in lent words) with the names as arguments, and by `play` (the run by the book) file by file: archives with
-# at most 9,000 draws, and four tori with 65,535, since by the book a draw copies the state. (`rt ci` runs `batch` with the
+# at most 9,000 draws, and six tori with 65,535, since by the book a draw copies the state. (`rt ci` runs `batch` with the
 # same names on standard input.) Prints one line. The programs are target/bin/batch and
 # target/bin/play (run as scripts/program.sh says), or those that FENNQUALO_BATCH and FENNQUALO_PLAY name, as seen from the
 # root. Exit: 0 no difference, 1 a difference (the lines stay in target/batch.txt and target/by-book.txt), 2 no program.
@@ -37,7 +37,7 @@ names=$root/target/by-book.names
 while IFS= read -r name || [ -n "$name" ]; do
     [ -f "$name" ] || continue
     case $name in
-        load-torus-4x4.bin | v2-load-torus-8x8.bin | e2-load-torus-4x4.bin | e2-load-torus-8x8.bin) echo "$name" ;;
+        load-torus-4x4.bin | v2-load-torus-8x8.bin | e[23]-load-torus-4x4.bin | e[23]-load-torus-8x8.bin) echo "$name" ;;
         *) [ "$(draws "$name")" -gt 9000 ] || echo "$name" ;;
     esac
 done <"$root/crates/batch/stdin" >"$names"

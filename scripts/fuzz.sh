@@ -1,6 +1,7 @@
 #!/bin/sh
-# fuzz.sh [SECONDS] [SEED]: plays fresh archives, a third of them damaged, through the product and the second
-# model, and stops at the first difference. Not part of the gate.
+# fuzz.sh [SECONDS] [SEED]: plays fresh archives of both versions and all editions, a third of them damaged, one in three
+# of version 2 in every edition, through the product and the second model, and stops at the first difference. Not part
+# of the gate.
 # The archive that differs stays under target/fuzz/. The product's programs are target/bin/play and
 # target/bin/batch (run as scripts/program.sh says), or those that FENNQUALO_PLAY and FENNQUALO_BATCH name, as seen
 # from the root; with batch it is much faster.

@@ -61,7 +61,7 @@ refused N: N bytes, fewer than the N of a head of version N
 refused N: N bytes, but bytes N and N say N
 refused N: more than N bytes, but bytes N and N say N
 refused N: byte N, the version, is N, not N or N
-refused N: byte N, the edition, is N, not N or N
+refused N: byte N, the edition, is N, not N, N or N
 refused N: byte N, the number of sites, is N, not N to N
 refused N: byte N, the limit of tries, is N, not N to N
 refused N: byte N, the depth of the queues, is N, not N to N

@@ -1,17 +1,21 @@
 //! Tests of the C and Rust library against the second model: `library CORPUS COUNT SEED`.
 //!
-//! Every archive of the folder CORPUS and COUNT fresh ones of SEED, of both versions and editions, a third of them
+//! Every archive of the folder CORPUS and COUNT fresh ones of SEED, of both versions and all editions, a third of them
 //! damaged, go through each function of include/fennqualo.h, with lent slices of many lengths between guards, and
-//! through the Rust wrapper. Prints one line; panics at the first difference, naming the archive and the call.
+//! through the Rust wrapper. One in three of the fresh ones of version 2 comes in every edition. Prints one line; panics
+//! at the first difference, naming the archive and the call.
 
 mod calls;
 mod guarded;
 mod judged;
 mod wrapper;
 
+use reference::archive::Run;
+use reference::coverage::kind_of;
 use reference::making::damage::damaged;
 use reference::making::rng::Rng;
-use reference::making::runs::{any_run, either_run, wide_run};
+use reference::making::runs::{any_run, either_run, twins, wide_run};
+use reference::network::EDITIONS;
 use std::path::Path;
 
 /// What was compared, and the wrapper's player, which plays them all.
@@ -22,6 +26,8 @@ pub struct Tally {
     over: [usize; 18],
     back: [usize; 18],
     calls: usize,
+    /// Archives of version 2 that were played with services, by edition.
+    served: [usize; 4],
     services: u64,
     longest: usize,
     player: fennqualo::Player,
@@ -34,7 +40,11 @@ impl Tally {
         self.refused[judged.refusal as usize] += 1;
         self.over[refusal(&judged.over)] += 1;
         self.back[refusal(&judged.back)] += 1;
-        self.services += judged.counts.map_or(0, |counts| counts[2]);
+        let services = judged.counts.map_or(0, |counts| counts[2]);
+        if let (Some(2), Some(edition), 1..) = (kind_of(bytes).0, kind_of(bytes).1, services) {
+            self.served[edition as usize] += 1;
+        }
+        self.services += services;
         self.longest = self.longest.max(bytes.len());
         self.calls += calls::compare(name, bytes, &judged, rng);
         self.calls += wrapper::compare(name, bytes, &judged, &mut self.player);
@@ -49,6 +59,8 @@ impl Tally {
         }
         let others = self.refused[17] > 0 && back[17] > 0 && back[15] > 0;
         assert!(others, "no archive is refused with 15 or 17: the comparison has a gap");
+        let served = EDITIONS.into_iter().all(|edition| self.served[edition as usize] > 0);
+        assert!(served, "an edition without services: the comparison has a gap");
         let played = self.refused[0];
         let refused = archives - played;
         print!("library: {archives} archives of up to {longest} bytes, {played} played with {services} services, ");
@@ -74,6 +86,18 @@ fn corpus(folder: &Path) -> Vec<(String, Vec<u8>)> {
     found
 }
 
+/// The next run: the one that waits, or a fresh one, of which one in three of version 2 lets the other editions wait.
+fn fresh(rng: &mut Rng, waiting: &mut Vec<Run>) -> Run {
+    if let Some(run) = waiting.pop() {
+        return run;
+    }
+    let run = either_run(rng, true);
+    if run.network.version == 2 && rng.one_in(3) {
+        waiting.extend(twins(&run));
+    }
+    run
+}
+
 fn main() {
     let args: Vec<String> = std::env::args().collect();
     let [_, folder, count, seed] = &args[..] else {
@@ -86,15 +110,21 @@ fn main() {
     for (name, bytes) in corpus(Path::new(folder)) {
         tally.archive(&name, &bytes, &mut rng);
     }
+    let mut waiting = Vec::new();
     for at in 0..count {
-        let mut bytes = either_run(&mut rng, true).bytes();
+        let mut bytes = fresh(&mut rng, &mut waiting).bytes();
         if rng.one_in(3) {
             bytes = damaged(&mut rng, &bytes);
         }
         tally.archive(&format!("archive {at} of seed {seed}"), &bytes, &mut rng);
     }
-    // Every length of one short archive of each version, from 0 on.
-    for whole in [any_run(&mut rng, false).bytes(), wide_run(&mut rng, false).bytes()] {
+    // Every length of one short archive of version 1, and of one of version 2 in each edition, from 0 on.
+    let mut short = vec![any_run(&mut rng, false)];
+    for edition in EDITIONS {
+        let run = wide_run(&mut rng, false);
+        short.push(Run { network: run.network.in_edition(edition), ..run });
+    }
+    for whole in short.iter().map(Run::bytes) {
         for length in 0..whole.len() {
             tally.archive(
                 &format!("{length} bytes of an archive of {}", whole.len()),

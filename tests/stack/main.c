@@ -26,6 +26,7 @@
 
 #define ROOM 65600 /* more than the longest file has */
 #define ROUNDS 40  /* of random damage to each archive */
+#define EDITIONS 3 /* that there are, 1 to 3 */
 
 static const char *file = "no file";
 static char how[64];                      /* how the file was damaged, or nothing */
@@ -175,7 +176,26 @@ static void damage(const uint8_t *whole, size_t length)
     }
 }
 
-/* The file as it is, by both moves too; every place of its run by the reader; without room enough; the file damaged. */
+/* The file of version 2 in every edition that there is, and in the next one, which is refused with 17. */
+static void judge_editions(uint8_t *bytes, size_t length)
+{
+    uint8_t edition = bytes[3];
+    unsigned number;
+
+    for (number = 1; number <= EDITIONS + 1; number++) {
+        bytes[3] = (uint8_t)number;
+        snprintf(how, sizeof how, ", in edition %u", number);
+        damaged++;
+        if (judge(bytes, length, number) != (number <= EDITIONS ? 0 : 17)) {
+            fail("not 0 in an edition that there is, or not 17 in one that there is not");
+        }
+    }
+    bytes[3] = edition;
+    how[0] = '\0';
+}
+
+/* The file as it is, by both moves too; every place of its run by the reader; without room enough; in every edition; the
+ * file damaged. */
 static void judge_file(const char *folder, const char *name)
 {
     static uint8_t bytes[ROOM];
@@ -207,6 +227,9 @@ static void judge_file(const char *folder, const char *name)
     judge_move(way(), moved_length() - 1, 0);
     for (k = 1; k < 4096; k += k < 256 ? 1 : 61) {
         judge_read(k, 0);
+    }
+    if (way() == BACK) {
+        judge_editions(bytes, length);
     }
     damage(bytes, length);
 }
