@@ -1,5 +1,7 @@
 //! Draws: Marsaglia's 32 bit xorshift with shifts 13, 17, 5, and the event that a draw names.
 
+use crate::network::{CODES, CODES_OF_3};
+
 pub struct Draws(u32);
 
 impl Draws {
@@ -17,9 +19,18 @@ impl Draws {
     }
 }
 
-/// The site and code that a value names in a network of `sites` sites with `codes` event codes each.
+/// The site and code that a value names in a network of `sites` sites with `codes` event codes each, 13 or 15.
 #[inline]
 pub fn event(value: u32, sites: usize, codes: usize) -> (usize, usize) {
-    let m = value % (codes * sites) as u32;
-    ((m / codes as u32) as usize, (m % codes as u32) as usize)
+    // The codes as constants, by which a division is fast.
+    match codes {
+        CODES => of::<{ CODES as u32 }>(value, sites as u32),
+        _ => of::<{ CODES_OF_3 as u32 }>(value, sites as u32),
+    }
+}
+
+#[inline]
+fn of<const CODES: u32>(value: u32, sites: u32) -> (usize, usize) {
+    let m = value % (CODES * sites);
+    ((m / CODES) as usize, (m % CODES) as usize)
 }

@@ -7,7 +7,8 @@ use crate::state::{InEntry, Output, Phase, Terminator};
 use crate::watch::{Rule, Watch};
 
 impl<W: Watch> Machine<'_, W> {
-    /// Output 0 or the split output, which end at an in-queue each.
+    /// Output 0 or the split output, which end at an in-queue each. (Inlined, it is as fast as with one of them.)
+    #[inline(always)]
     pub(super) fn local_output(&mut self, site: usize, port: usize) -> Answer {
         let place = OUTPUTS * site + port;
         let Output { used, head, packet, set, terminator, .. } = self.state.outputs[place];

@@ -33,6 +33,7 @@ impl<W: Watch> Machine<'_, W> {
     }
 
     /// The operator of the in-queue of output 0, or of the split output.
+    #[inline(always)]
     pub(super) fn operator(&mut self, site: usize, port: usize) -> Answer {
         let queue = self.state.in_queue_mut(site, port);
         if queue.count == 0 {
