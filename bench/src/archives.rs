@@ -31,7 +31,7 @@ pub fn wide() -> Vec<u8> {
     loaded(torus(8, 8).in_version(2), (3, 4))
 }
 
-/// The runs that the player is timed on, of version 1 and of version 2, there in both editions.
+/// The runs that the player is timed on, of version 1 and of version 2, there in every edition.
 pub fn runs() -> Vec<(&'static str, Vec<u8>)> {
     vec![
         ("4x4 torus, T = 3, D = 4", big()),
@@ -42,6 +42,8 @@ pub fn runs() -> Vec<(&'static str, Vec<u8>)> {
         ("8x8 torus, version 2, T = D = 1", loaded(torus(8, 8).in_version(2), (1, 1))),
         ("4x4 torus, edition 2, T = 3, D = 4", loaded(torus(4, 4).in_edition(2), (3, 4))),
         ("8x8 torus, edition 2, T = 3, D = 4", loaded(torus(8, 8).in_edition(2), (3, 4))),
+        ("4x4 torus, edition 3, T = 3, D = 4", loaded(torus(4, 4).in_edition(3), (3, 4))),
+        ("8x8 torus, edition 3, T = 3, D = 4", loaded(torus(8, 8).in_edition(3), (3, 4))),
     ]
 }
 

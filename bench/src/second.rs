@@ -71,7 +71,7 @@ pub fn runs(bytes: &[u8], draws: usize, site: usize, code: usize, times: usize) 
     }
     let mut values = Draws::new(run.seed);
     for _ in 0..draws {
-        let (site, code) = event(values.next_value(), run.network.sites as usize);
+        let (site, code) = event(values.next_value(), run.network.sites as usize, run.network.codes());
         one_run(&run.network, &mut state, site, code);
     }
     for _ in 0..times {
