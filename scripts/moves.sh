@@ -128,6 +128,7 @@ called '1 2' over "$two"
 called '1 2' back "$one"
 called '1 15' back examples/torus-8x8.bin
 called '1 15' back examples/held-e2.bin
+called '1 15' back examples/branch-e3.bin
 called '1 0' over examples/none.bin
 called '1 0' over examples
 called '1 0' over /dev/null

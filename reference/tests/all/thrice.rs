@@ -84,6 +84,33 @@ fn triples_of_the_corpus() {
     }
 }
 
+fn at_root(name: &str) -> Vec<u8> {
+    std::fs::read(format!("{}/../{name}", env!("CARGO_MANIFEST_DIR"))).expect("a file")
+}
+
+/// What examples/README.md shows of its three: every book, and every line of a trace.
+#[test]
+fn the_example() {
+    let readme = String::from_utf8(at_root("examples/README.md")).expect("text");
+    let mut files = [1, 2, 3].map(|edition| at_root(&format!("examples/branch-e{edition}.bin")));
+    let mut parts = readme.split("\n**Edition ").skip(1);
+    for (edition, file) in (1..).zip(&mut files) {
+        let report = report(file);
+        let book: String =
+            (report.services + &report.line).lines().map(|line| format!("    {line}\n")).collect();
+        assert!(readme.contains(&format!("\n\n{book}\n")), "the book of edition {edition}");
+        let trace = trace(file, false).expect("valid");
+        let part = parts.next().expect("a part for each edition").split("\n## ").next().expect("a part");
+        let shown: Vec<&str> = part.lines().filter_map(|line| line.strip_prefix("    ")).collect();
+        assert!(shown.len() >= 2, "edition {edition}: lines of its trace");
+        for line in shown {
+            assert!(trace.lines().any(|traced| traced == line), "edition {edition}: {line}");
+        }
+        assert_eq!(std::mem::replace(&mut file[3], 0), edition);
+    }
+    assert!(files[0] == files[1] && files[1] == files[2]);
+}
+
 /// Two sites, T = D = 1, 15 draws, one send of {0,1}; corpus/typed/e3-hand-split.hex works it out.
 #[test]
 fn lines_of_the_trace() {
