@@ -7,7 +7,7 @@ use native.Mathlib.Omega.{arith}
 use borrow.Author.Tests.{eqb-true, ne-eqb}
 use lib.Dec.{eqb, ltb}
 use lib.ListN.{length}
-use Rattle.base.specs.Sizes.{codeCount}
+use Rattle.draws.specs.Draws.{codesIn}
 use Rattle.base.specs.Bools.{both, clash, cond-ok}
 use Rattle.types.specs.declared.Site.{Site}
 use Rattle.types.specs.declared.State.{State}
@@ -84,14 +84,14 @@ module _ (n : Network) (c : List ℕ) where
         go true h = of-refused k h (shared-state _ k h e ne) ne
         go false h = ap (λ (f : ℕ). record { answer = RunRefused f; words = c }) (shared-other k h e)
 
-    pub run-none : sharedRefusal n c ≡ 0 → (ltb s (n .sites) && ltb code codeCount) ≡ false
+    pub run-none : sharedRefusal n c ≡ 0 → (ltb s (n .sites) && ltb code (codesIn (n .edition))) ≡ false
         → record { answer = RunRefused 9; words = c } ≡ ranWords n c s code
     unfolding ranWords runRefusal
     run-none z e =
         let f = fit n c z in
         rw (f .state) (of-refused 9 (f .state) (rw (f .network, f .range, e) refl) (λ k. omega arith))
 
-    pub run-done : (d : List ℕ) (r : Ran) → sharedRefusal n c ≡ 0 → (ltb s (n .sites) && ltb code codeCount) ≡ true
+    pub run-done : (d : List ℕ) (r : Ran) → sharedRefusal n c ≡ 0 → (ltb s (n .sites) && ltb code (codesIn (n .edition))) ≡ true
         → Did n c d s r (act n s (siteIn c s) (ends n (sitesOf c) s) code) → record { answer = r; words = d } ≡ ranWords n c s code
     unfolding ranWords ran runRefusal run
     run-done d r z e p =

@@ -19,7 +19,7 @@ use Rattle.model.specs.Places.{outQueue}
 use Rattle.model.specs.Steps.{act, run, enqueue}
 use Rattle.model.specs.Events.{sends, runs}
 use Rattle.layout.specs.Packed.{inputFrom, inputWord, outputFrom, outputWord, outEntryFrom, outEntryWord, inEntryFrom, inEntryWord}
-use Rattle.layout.specs.Words.{inputAt, outputAt, leavingAt, arrivedAt, siteOf, sitesOf, setOf, fieldsOf, wordOf, stateOf, canonical, noWords}
+use Rattle.layout.specs.Words.{inputAt, outputAt, leavingAt, arrivedAt, inQueueAt, siteOf, sitesOf, setOf, fieldsOf, wordOf, stateOf, canonical, noWords}
 use Rattle.layout.specs.Public.{ranWords, sentWords}
 use Rattle.model.proofs.Made.{net}
 
@@ -33,9 +33,9 @@ shown st = over (wordOf st) (2 * sitePlaces) (replicate (2 * sitePlaces) 0) ++ (
 abbrev none : List ℕ
 none = replicate (2 * sitePlaces) 0
 
--- the first entry of the out-queue (place 10) has the set {0} and packet 0, not started; its count is 1 (place 26), the counter too
+-- the first entry of the out-queue (place 11) has the set {0} and packet 0, not started; its count is 1 (place 35), the counter too
 abbrev waiting : List ℕ
-waiting = set (set (set noWords 20 1) 52 1) counterAt 1
+waiting = set (set (set noWords 22 1) 70 1) counterAt 1
 
 abbrev sending : AfterSend
 sending = sends (stateOf noWords) 0 1
@@ -44,8 +44,8 @@ sent-answer : sending .answer ≡ Accepted 0
 unfolding noWords
 sent-answer = refl
 
-sent-words : shown (sending .state) ≡ set (set none 20 1) 52 1 ++ (1 ∷ [])
-unfolding noWords over sitesOf siteOf inputAt outputAt leavingAt arrivedAt inputFrom outputFrom outEntryFrom inEntryFrom
+sent-words : shown (sending .state) ≡ set (set none 22 1) 70 1 ++ (1 ∷ [])
+unfolding noWords over sitesOf siteOf inputAt outputAt leavingAt arrivedAt inQueueAt inputFrom outputFrom outEntryFrom inEntryFrom
     inputWord outputWord outEntryWord inEntryWord setOf fieldsOf wordOf enqueue has plus minus
 sent-words = refl
 
@@ -57,8 +57,8 @@ ran-answer : running .answer ≡ Changed
 unfolding noWords over sitesOf siteOf inputAt leavingAt inputFrom outEntryFrom setOf fieldsOf run act outQueue
 ran-answer = refl
 
-ran-words : shown (running .state) ≡ set (set (set (set (set none 0 1) 1 1) 20 1) 21 1) 52 1 ++ (1 ∷ [])
-unfolding noWords over sitesOf siteOf inputAt outputAt leavingAt arrivedAt inputFrom outputFrom outEntryFrom inEntryFrom
+ran-words : shown (running .state) ≡ set (set (set (set (set none 0 1) 1 1) 22 1) 23 1) 70 1 ++ (1 ∷ [])
+unfolding noWords over sitesOf siteOf inputAt outputAt leavingAt arrivedAt inQueueAt inputFrom outputFrom outEntryFrom inEntryFrom
     inputWord outputWord outEntryWord inEntryWord setOf fieldsOf wordOf run act outQueue
 ran-words = refl
 
@@ -72,6 +72,6 @@ unfolding sentWords networkRefusal all
 wrong-length = refl
 
 stray-word : sentWords (oneSite 1) (set waiting 1 8) 0 1 ≡ record { answer = SendRefused 13; words = set waiting 1 8 }
-unfolding sentWords canonical noWords all sitesOf siteOf inputAt outputAt leavingAt arrivedAt inputFrom outputFrom outEntryFrom inEntryFrom
+unfolding sentWords canonical noWords all sitesOf siteOf inputAt outputAt leavingAt arrivedAt inQueueAt inputFrom outputFrom outEntryFrom inEntryFrom
     inputWord outputWord outEntryWord inEntryWord setOf fieldsOf networkRefusal
 stray-word = refl

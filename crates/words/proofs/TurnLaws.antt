@@ -101,11 +101,12 @@ module _ (S D : ℕ) (c d : List ℕ) (o : StoredSend) (t : Tally) (w : Sent) (s
 -- ---- a draw
 
 -- the site that a value names is one of the network's
-pub named-site : (S v : ℕ) (e : DrawnEvent) → e ≡ eventOf S v → 1 ≤ S → S ≤ sitesMost → e .site < S
-named-site S v e he some few = rw (he ∙ event-named S v some few) (site-below S v some)
+pub named-site : (E S v : ℕ) (e : DrawnEvent) → e ≡ eventOf E S v → 1 ≤ S → S ≤ sitesMost → e .site < S
+named-site E S v e he some few = rw (he ∙ event-named E S v some few) (site-below E S v some)
 
 pub drew-on : (n : Network) (c d b q : List ℕ) (t : Tally) (k : Clock) (e : DrawnEvent) (w : Ran) (j : ℕ) → k ≡ advanced (t .clock)
-    → e ≡ eventOf (n .sites) (k .value) → Did n c d (e .site) w (act n (e .site) (siteIn c (e .site)) (ends n (sitesOf c) (e .site)) (e .code))
+    → e ≡ eventOf (n .edition) (n .sites) (k .value)
+    → Did n c d (e .site) w (act n (e .site) (siteIn c (e .site)) (ends n (sitesOf c) (e .site)) (e .code))
     → (j ≡ entriesBy w b (t .serviced)) × (q ≡ bookBy w b (t .serviced) (t .clock .draw))
     → Drew n c d b q t (record { accepted = t .accepted; pairs = t .pairs; serviced = j; next = t .next; clock = k })
 drew-on n c d b q t k e w j hk he did hb =
@@ -167,7 +168,7 @@ module _ (n : Network) (count : ℕ) (c d b q : List ℕ) (o : StoredSend) (t r 
   abbrev drawnBy : Network → Progress
   drawnBy m =
       let v = drawn (t .clock .value) in
-      let a = runs m (stateOf c) (drawnSite (m .sites) v) (drawnCode (m .sites) v) in
+      let a = runs m (stateOf c) (drawnSite (m .edition) (m .sites) v) (drawnCode (m .edition) (m .sites) v) in
       drew p v (a .state) (a .answer)
 
   drawn-same : t .clock .draw < 65535 → 1 ≤ n .sites → n .sites ≤ sitesMost → Drew n c d b q t r → standing r d q ≡ drawnBy n
@@ -175,8 +176,10 @@ module _ (n : Network) (count : ℕ) (c d b q : List ℕ) (o : StoredSend) (t r 
       let v = drawn (t .clock .value) in
       let value : r .clock .value ≡ v = ap (λ (z : Clock). z .value) (k .clock) in
       let draw : r .clock .draw ≡ t .clock .draw + 1 = ap (λ (z : Clock). z .draw) (k .clock) ∙ omega (arith, low) in
-      let ran : ranBy n c r ≡ runs n (stateOf c) (drawnSite (n .sites) v) (drawnCode (n .sites) v) =
-      ap (λ (w : DrawnEvent). runs n (stateOf c) (w .site) (w .code)) (ap (eventOf (n .sites)) value ∙ event-named (n .sites) v some few) in
+      let E = n .edition in
+      let S = n .sites in
+      let ran : ranBy n c r ≡ runs n (stateOf c) (drawnSite E S v) (drawnCode E S v) =
+      ap (λ (w : DrawnEvent). runs n (stateOf c) (w .site) (w .code)) (ap (eventOf E S) value ∙ event-named E S v some few) in
       eight _ _ _ _ _ _ _ _ _ _ _ _ _ _ _ _ (k .state ∙ ap (λ (w : AfterRun). w .state) ran) value (k .next) draw (k .accepted) (k .pairs)
       (k .serviced ∙ ap (λ (w : AfterRun). entriesBy (w .answer) b (t .serviced)) ran)
       (k .book ∙ ap (λ (w : AfterRun). bookBy (w .answer) b (t .serviced) (t .clock .draw)) ran)

@@ -56,7 +56,9 @@ pub record Tried (S D : ℕ) (c d : List ℕ) (o : StoredSend) (t r : Tally) : T
 
 -- a draw was made: the words d, the bytes q in the place of b, the counts r
 abbrev pub ranBy : Network → List ℕ → Tally → AfterRun
-ranBy n c r = runs n (stateOf c) (eventOf (n .sites) (r .clock .value) .site) (eventOf (n .sites) (r .clock .value) .code)
+ranBy n c r =
+    let e = eventOf (n .edition) (n .sites) (r .clock .value) in
+    runs n (stateOf c) (e .site) (e .code)
 
 pub record Drew (n : Network) (c d b q : List ℕ) (t r : Tally) : Type 0 where
   pub size : length d ≡ wordCount

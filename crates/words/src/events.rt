@@ -50,7 +50,8 @@ pub fn run(network: Network, words: &mut [u64], site: usize, code: usize) -> Ran
     if refusal != 0 {
         return Ran::Refused(refusal);
     }
-    if (site < sites) & (code < base::CODES) {
+    let codes = draws::codes_in(network.edition);
+    if (site < sites) & (code < codes) {
         return run_checked(network, words, site, code);
     }
     Ran::Refused(9)

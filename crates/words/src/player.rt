@@ -87,7 +87,7 @@ fn draw_turn(
 {
     let before = t.clock;
     let clock = ticked(before);
-    let named = draws::event_of(clock.value, sites);
+    let named = draws::event_of(clock.value, sites, edition);
     let answer = run_in_place(
         channels,
         routes,

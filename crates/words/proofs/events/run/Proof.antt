@@ -23,10 +23,14 @@ returns : tie.Need-returns
 returns c = run-shared _ _ _ _ _ (c .before .shared-refusal .ensures) (c .if1 .taken)
 
 -- src/events.rt:38:9
+codes-in-requires : tie.Need-codes-in-requires
+codes-in-requires c κs = search needs
+
 run-checked-requires : tie.Need-run-checked-requires
 run-checked-requires c κs =
     let t = c .before in
-    (sym (t .before .before .shared-refusal .ensures) ∙ t .before .if1 .left, ltb-true _ _ (both _ _ (t .if2 .taken) .0))
+    let k = t .before in
+    (sym (k .before .before .shared-refusal .ensures) ∙ k .before .if1 .left, ltb-true _ _ (both _ _ (t .if2 .taken) .0))
 
 -- src/events.rt:38:9
 same-length-2 : tie.Need-same-length-2
@@ -36,8 +40,9 @@ same-length-2 c = search needs
 returns-2 : tie.Need-returns-2
 returns-2 c =
     let t = c .before .before .before .before in
-    let none = sym (t .before .before .shared-refusal .ensures) ∙ t .before .if1 .left in
-    run-done _ _ _ _ _ _ none (t .if2 .taken) (c .before .before .run-checked .ensures)
+    let k = t .before in
+    let none = sym (k .before .before .shared-refusal .ensures) ∙ k .before .if1 .left in
+    run-done _ _ _ _ _ _ none (rw (k .codes-in .ensures) at (t .if2 .taken)) (c .before .before .run-checked .ensures)
 
 -- src/events.rt:29:1
 same-length-3 : tie.Need-same-length-3
@@ -45,7 +50,10 @@ same-length-3 c = search needs
 
 -- src/events.rt:29:1
 returns-3 : tie.Need-returns-3
-returns-3 c = run-none _ _ _ _ (sym (c .before .before .shared-refusal .ensures) ∙ c .before .if1 .left) (c .if2 .left)
+returns-3 c =
+    let k = c .before in
+    let none = sym (k .before .before .shared-refusal .ensures) ∙ k .before .if1 .left in
+    run-none _ _ _ _ none (rw (k .codes-in .ensures) at (c .if2 .left))
 
 pub run-spec : {M : Type 1} → statement M
 run-spec =
@@ -54,6 +62,7 @@ run-spec =
     shared-refusal-requires
     same-length
     returns
+    codes-in-requires
     run-checked-requires
     same-length-2
     returns-2

@@ -20,7 +20,7 @@ use Rattle.machine.proofs.site_pairs.Reads as site-pairs-reads
 use Rattle.words.proofs.load.load_site.Reads as load-site-reads
 
 abbrev Inv-loop : tie.InvT-loop
-Inv-loop words n₀ s₀ n s = (s ≤ sitesMost) × (n ≤ 1664 * s) × (n ≡ isum pairsSite 0 (take s (sitesOf words)))
+Inv-loop words n₀ s₀ n s = (s ≤ sitesMost) × (n ≤ 2240 * s) × (n ≡ isum pairsSite 0 (take s (sitesOf words)))
 
 abbrev μ-loop : tie.MeasureT-loop
 μ-loop words n₀ s₀ n s = sitesMost - s

@@ -23,7 +23,7 @@ run-in-place-requires : tie.Need-run-in-place-requires
 run-in-place-requires c κs =
     let past = c .before .before .before .before .before .before in
     let pre = past .before .before .pre in
-    let p = pre in p .runs-at _ (named-site _ _ _ (c .before .event-of .ensures) (p .some) (p .few))
+    let p = pre in p .runs-at _ (named-site _ _ _ _ (c .before .event-of .ensures) (p .some) (p .few))
 
 -- src/player.rt:87:9
 enter-answer-requires : tie.Need-enter-answer-requires
