@@ -104,7 +104,7 @@ fn runs(rounds: usize, bytes: &[u8], code: usize, pairs: [(usize, usize); 2]) ->
 fn copies(rounds: usize) {
     println!("\n| a copy of | bytes | ns |");
     println!("|---|---:|---:|");
-    for (name, size) in [("a Site", 472), ("a Network", 8_728), ("a Run", 12_824), ("a State", 30_216)] {
+    for (name, size) in [("a Site", 624), ("a Network", 8_728), ("a Run", 12_824), ("a State", 39_944)] {
         let (from, mut to) = (vec![1u8; size], vec![0u8; size]);
         let mut copy = || {
             for _ in 0..TIMES {
