@@ -1,5 +1,5 @@
 // Lines of decimal numbers to standard output, one space between two numbers. A line is put together in a buffer that
-// the caller lends; what does not fit is left out (the longest line has 136 numbers of 20 digits at most).
+// the caller lends; what does not fit is left out (the longest line has 172 numbers of 20 digits at most).
 
 pub(crate) const ROOM: usize = 4096;
 

@@ -10,6 +10,8 @@ mod text;
 ghost use mathlib.Core.Path.{_≡_};
 ghost use Prim.Native.Nat.{_%_, _≤_};
 ghost use Rattle.base.specs.Sizes.{sitesMost};
+ghost use Rattle.singles.specs.Sizes.{siteNumbers};
+use site::FIRST;
 use site::NUMBERS;
 use text::Cursor;
 use text::PIECE;
@@ -124,6 +126,17 @@ fn read_network(piece: &mut [u8; PIECE], from: Cursor, wide: bool) -> ReadNetwor
     ReadNetwork { network, cursor }
 }
 
+// How many numbers a site has behind its mark.
+fn count_of(mark: u64) -> usize
+    ensures { λ r. ⌜ r ≤ siteNumbers ⌝ }
+{
+    match mark {
+        1 => FIRST,
+        2 => NUMBERS,
+        _ => 0,
+    }
+}
+
 fn read_state(piece: &mut [u8; PIECE], from: Cursor, wide: bool) -> ReadState {
     let end = sites_of(wide);
     let counter = text::number(piece, from);
@@ -134,9 +147,10 @@ fn read_state(piece: &mut [u8; PIECE], from: Cursor, wide: bool) -> ReadState {
     while s < end {
         let mark = text::number(piece, cursor);
         cursor = mark.cursor;
-        if mark.value == 1 {
+        let count = count_of(mark.value);
+        if 0 < count {
             let mut room = [0u64; NUMBERS];
-            cursor = text::site_numbers(piece, cursor, &mut room);
+            cursor = text::site_numbers(piece, cursor, &mut room, count);
             state.sites[s] = site::site_of(&room);
         }
         s += 1;
@@ -169,9 +183,12 @@ fn put_ran(answer: Ran) {
     }
 }
 
-fn is_zero(n: &[u64; NUMBERS]) -> bool {
-    let mut i: usize = 0;
-    while i < NUMBERS {
+// Whether the numbers from one place up to another are zero.
+fn is_zero(n: &[u64; NUMBERS], from: usize, to: usize) -> bool
+    requires { ⌜ (from ≤ to) × (to ≤ siteNumbers) ⌝ }
+{
+    let mut i = from;
+    while i < to {
         if n[i] != 0 {
             return false;
         }
@@ -180,16 +197,24 @@ fn is_zero(n: &[u64; NUMBERS]) -> bool {
     true
 }
 
+// The mark of a site: 2 where something stands behind the first 135 numbers, 1 where something stands among them alone.
+fn mark_of(n: &[u64; NUMBERS]) -> u64 {
+    if is_zero(n, FIRST, NUMBERS) {
+        if is_zero(n, 0, FIRST) {
+            return 0;
+        }
+        return 1;
+    }
+    2
+}
+
 fn put_site(n: &[u64; NUMBERS]) {
     let mut text = [0u8; line::ROOM];
-    if is_zero(n) {
-        let end = line::put(&mut text, 0, 0);
-        line::write(text, end);
-        return;
-    }
-    let mut end = line::put(&mut text, 0, 1);
+    let mark = mark_of(n);
+    let count = count_of(mark);
+    let mut end = line::put(&mut text, 0, mark);
     let mut i: usize = 0;
-    while i < NUMBERS {
+    while i < count {
         end = line::put(&mut text, end, n[i]);
         i += 1;
     }

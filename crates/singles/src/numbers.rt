@@ -1,8 +1,14 @@
-// The 135 numbers of a site, in the order of docs/TESTING.md (see site.rt).
-ghost use Prim.Native.Nat.{_≤_};
+// The 171 numbers of a site, in the order of docs/TESTING.md (see site.rt).
+ghost use Prim.Native.Nat.{_+_, _<_, _≤_};
+ghost use Rattle.base.specs.Sizes.{inputCount};
+ghost use Rattle.singles.specs.Sizes.{siteNumbers, outputNumbers, entryNumbers, queueNumbers};
 use crate::site::IN_QUEUE;
 use crate::site::NUMBERS;
 use crate::site::OUT_QUEUE;
+use crate::site::OUTPUTS_FROM;
+use crate::site::SPLIT_IN_QUEUE;
+use crate::site::SPLIT_MARKS;
+use crate::site::SPLIT_OUTPUT;
 use types::Connection;
 use types::InEntry;
 use types::InQueue;
@@ -58,34 +64,39 @@ fn phase_received(phase: Phase) -> u64 {
     }
 }
 
-fn put_input(n: &mut [u64; NUMBERS], at: usize, x: Input)
-    requires { ⌜ at ≤ 124 ⌝ }
+// Net-input i.
+fn put_input(n: &mut [u64; NUMBERS], i: usize, x: Input)
+    requires { ⌜ i < inputCount ⌝ }
 {
     let phase = x.phase;
     let marks = x.outputs;
+    let at = 11 * i;
     put_phase(n, at, phase);
     n[at + 3] = wide(x.packet);
     n[at + 4] = x.set;
-    put_marks(n, at + 5, marks);
+    put_marks(n, i, marks);
     n[at + 10] = wide(x.tries);
 }
 
 fn put_phase(n: &mut [u64; NUMBERS], at: usize, phase: Phase)
-    requires { ⌜ at ≤ 132 ⌝ }
+    requires { ⌜ at + 3 ≤ siteNumbers ⌝ }
 {
     n[at] = wide(types::state_number(phase));
     n[at + 1] = phase_connection(phase);
     n[at + 2] = phase_received(phase);
 }
 
-fn put_marks(n: &mut [u64; NUMBERS], at: usize, marks: [bool; base::OUTPUTS])
-    requires { ⌜ at ≤ 130 ⌝ }
+// The outputs that net-input i is connected to.
+fn put_marks(n: &mut [u64; NUMBERS], i: usize, marks: [bool; base::OUTPUTS])
+    requires { ⌜ i < inputCount ⌝ }
 {
+    let at = 11 * i + 5;
     n[at] = mark(marks[0]);
     n[at + 1] = mark(marks[1]);
     n[at + 2] = mark(marks[2]);
     n[at + 3] = mark(marks[3]);
     n[at + 4] = mark(marks[4]);
+    n[SPLIT_MARKS + i] = mark(marks[5]);
 }
 
 // In use, and 2 more for the mark closing.
@@ -100,7 +111,7 @@ fn marks_of(x: Output) -> u64 {
 }
 
 fn put_output(n: &mut [u64; NUMBERS], at: usize, x: Output)
-    requires { ⌜ at ≤ 129 ⌝ }
+    requires { ⌜ at + outputNumbers ≤ siteNumbers ⌝ }
 {
     let terminator = x.terminator;
     n[at] = marks_of(x);
@@ -112,7 +123,7 @@ fn put_output(n: &mut [u64; NUMBERS], at: usize, x: Output)
 }
 
 fn put_out_entry(n: &mut [u64; NUMBERS], at: usize, x: OutEntry)
-    requires { ⌜ at ≤ 132 ⌝ }
+    requires { ⌜ at + entryNumbers ≤ siteNumbers ⌝ }
 {
     n[at] = wide(x.packet);
     n[at + 1] = x.set;
@@ -120,7 +131,7 @@ fn put_out_entry(n: &mut [u64; NUMBERS], at: usize, x: OutEntry)
 }
 
 fn put_in_entry(n: &mut [u64; NUMBERS], at: usize, x: InEntry)
-    requires { ⌜ at ≤ 132 ⌝ }
+    requires { ⌜ at + entryNumbers ≤ siteNumbers ⌝ }
 {
     let terminator = x.terminator;
     n[at] = wide(x.packet);
@@ -128,16 +139,41 @@ fn put_in_entry(n: &mut [u64; NUMBERS], at: usize, x: InEntry)
     n[at + 2] = wide(types::terminator_number(terminator));
 }
 
-fn put_queues(n: &mut [u64; NUMBERS], outgoing: OutQueue, incoming: InQueue) {
-    let leaving = outgoing.entries;
-    let arrived = incoming.entries;
-    n[OUT_QUEUE] = outgoing.count as u64;
-    n[IN_QUEUE] = incoming.count as u64;
+fn put_out_queue(n: &mut [u64; NUMBERS], at: usize, queue: OutQueue)
+    requires { ⌜ at + queueNumbers ≤ siteNumbers ⌝ }
+{
+    let entries = queue.entries;
+    n[at] = queue.count as u64;
     let mut m: usize = 0;
     while m < base::QUEUE {
-        put_out_entry(n, OUT_QUEUE + 1 + 3 * m, leaving[m]);
-        put_in_entry(n, IN_QUEUE + 1 + 3 * m, arrived[m]);
+        put_out_entry(n, at + 1 + 3 * m, entries[m]);
         m += 1;
+    }
+}
+
+fn put_in_queue(n: &mut [u64; NUMBERS], at: usize, queue: InQueue)
+    requires { ⌜ at + queueNumbers ≤ siteNumbers ⌝ }
+{
+    let entries = queue.entries;
+    n[at] = queue.count as u64;
+    let mut m: usize = 0;
+    while m < base::QUEUE {
+        put_in_entry(n, at + 1 + 3 * m, entries[m]);
+        m += 1;
+    }
+}
+
+// The inputs, and the outputs 0 to 4.
+fn put_ports(
+    n: &mut [u64; NUMBERS],
+    inputs: [Input; base::INPUTS],
+    outputs: [Output; base::OUTPUTS],
+) {
+    let mut i: usize = 0;
+    while i < base::INPUTS {
+        put_input(n, i, inputs[i]);
+        put_output(n, OUTPUTS_FROM + 6 * i, outputs[i]);
+        i += 1;
     }
 }
 
@@ -145,12 +181,11 @@ pub(crate) fn of_site(site: Site) -> [u64; NUMBERS] {
     let mut n = [0u64; NUMBERS];
     let inputs = site.inputs;
     let outputs = site.outputs;
-    let mut i: usize = 0;
-    while i < base::INPUTS {
-        put_input(&mut n, 11 * i, inputs[i]);
-        put_output(&mut n, 55 + 6 * i, outputs[i]);
-        i += 1;
-    }
-    put_queues(&mut n, site.outgoing, site.incoming);
+    let incoming = site.incoming;
+    put_ports(&mut n, inputs, outputs);
+    put_output(&mut n, SPLIT_OUTPUT, outputs[base::SPLIT_PORT]);
+    put_out_queue(&mut n, OUT_QUEUE, site.outgoing);
+    put_in_queue(&mut n, IN_QUEUE, incoming[0]);
+    put_in_queue(&mut n, SPLIT_IN_QUEUE, incoming[1]);
     n
 }

@@ -1,6 +1,7 @@
 // Numbers out of standard input, which is read piece by piece. A number is its decimal digits and the one byte after
 // them; where digits are missing it is 0, so that a short or damaged text is read too.
 ghost use Prim.Native.Nat.{_≤_};
+ghost use Rattle.singles.specs.Sizes.{siteNumbers};
 use crate::site::NUMBERS;
 
 // The piece of the text that is being read: it lies in a buffer that the caller lends.
@@ -138,15 +139,18 @@ pub(crate) fn filled(piece: &mut [u8; PIECE], from: Cursor, room: &mut [u64; LON
     cursor
 }
 
-// The numbers of a site.
+// So many numbers of a site, into the room's first places.
 pub(crate) fn site_numbers(
     piece: &mut [u8; PIECE],
     from: Cursor,
     room: &mut [u64; NUMBERS],
-) -> Cursor {
+    count: usize,
+) -> Cursor
+    requires { ⌜ count ≤ siteNumbers ⌝ }
+{
     let mut cursor = from;
     let mut i: usize = 0;
-    while i < NUMBERS {
+    while i < count {
         let next = number(piece, cursor);
         cursor = next.cursor;
         room[i] = next.value;

@@ -1,14 +1,16 @@
--- `is_zero` is safe and ends: the index stays within the 135 numbers, and what is left of them falls. Assumes nothing.
+-- `is_zero` is safe and ends: the index stays within the numbers, and what is left of them falls. Assumes nothing.
 use Prim.Native.Nat.{_≤_, _-_}
 use borrow.Author.Needs.{needs}
 use Rattle.singles.proofs.is_zero.Statement.{statement}
 use Rattle.singles.proofs.is_zero.Tie as tie
+use Rattle.singles.proofs.is_zero.Reads as reads
+use Rattle.singles.proofs.is_zero.Lts as lts
 
 abbrev Inv-loop : tie.InvT-loop
-Inv-loop n i₀ i = i ≤ 135
+Inv-loop n from to i₀ i = i ≤ to
 
 abbrev μ-loop : tie.MeasureT-loop
-μ-loop n i₀ i = 135 - i
+μ-loop n from to i₀ i = to - i
 
 loop-holds : tie.Need-loop-holds Inv-loop μ-loop
 loop-holds c = search needs

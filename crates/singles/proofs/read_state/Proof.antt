@@ -7,6 +7,7 @@ use Rattle.singles.proofs.read_state.Tie as tie
 use Rattle.singles.proofs.read_state.Reads as reads
 use Rattle.singles.proofs.read_state.Lts as lts
 use Rattle.machine.proofs.empty_state.Reads as empty-state-reads
+use Rattle.singles.proofs.count_of.Reads as count-of-reads
 use Rattle.singles.proofs.site.byte_of.Reads as byte-of-reads
 use Rattle.singles.proofs.site.site_of.Reads as site-of-reads
 use Rattle.singles.proofs.sites_of.Reads as sites-of-reads
@@ -37,14 +38,17 @@ loop-holds c = search needs
 number-requires-2 : tie.Need-number-requires-2 Inv-loop μ-loop
 number-requires-2 c κs = search needs
 
+count-of-requires : tie.Need-count-of-requires Inv-loop μ-loop
+count-of-requires c κs = search needs
+
 site-numbers-requires : tie.Need-site-numbers-requires Inv-loop μ-loop
 site-numbers-requires c κs = search needs
 
 site-of-requires : tie.Need-site-of-requires Inv-loop μ-loop
 site-of-requires c κs = search needs
 
-mul-t20 : tie.Need-mul-t20 Inv-loop μ-loop
-mul-t20 c = search needs
+mul-t21 : tie.Need-mul-t21 Inv-loop μ-loop
+mul-t21 c = search needs
 
 element-set-from-state : tie.Need-element-set-from-state Inv-loop μ-loop
 element-set-from-state c = search needs
@@ -73,9 +77,10 @@ read-state-spec =
     byte-of-requires
     loop-holds
     number-requires-2
+    count-of-requires
     site-numbers-requires
     site-of-requires
-    mul-t20
+    mul-t21
     element-set-from-state
     add-s
     loop-less

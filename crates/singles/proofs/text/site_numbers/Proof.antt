@@ -1,14 +1,17 @@
--- `text::site_numbers` is safe and ends: the index stays within the 135 numbers, and what is left of them falls. Assumes nothing.
+-- `text::site_numbers` is safe and ends: the index stays within the numbers, and what is left of them falls. Assumes nothing.
 use Prim.Native.Nat.{_≤_, _-_}
 use borrow.Author.Needs.{needs}
 use Rattle.singles.proofs.text.site_numbers.Statement.{statement}
 use Rattle.singles.proofs.text.site_numbers.Tie as tie
+use Rattle.singles.proofs.text.site_numbers.Reads as reads
+use Rattle.singles.proofs.text.site_numbers.Lts as lts
+use Rattle.singles.proofs.text.number.Reads as number-reads
 
 abbrev Inv-loop : tie.InvT-loop
-Inv-loop piece₀ room₀ cursor₀ i₀ piece room cursor i = i ≤ 135
+Inv-loop piece₀ room₀ count cursor₀ i₀ piece room cursor i = i ≤ count
 
 abbrev μ-loop : tie.MeasureT-loop
-μ-loop piece₀ room₀ cursor₀ i₀ piece room cursor i = 135 - i
+μ-loop piece₀ room₀ count cursor₀ i₀ piece room cursor i = count - i
 
 loop-holds : tie.Need-loop-holds Inv-loop μ-loop
 loop-holds c = search needs

@@ -1,23 +1,25 @@
--- `numbers::of_site` is safe and ends: each of the five inputs and outputs has its places. Assumes nothing.
+-- `numbers::put_ports` is safe and ends: each of the five inputs and outputs has its places. Assumes nothing.
 use Prim.Native.Nat.{_≤_, _-_}
 use borrow.Author.Needs.{needs}
-use Rattle.singles.proofs.numbers.of_site.Statement.{statement}
-use Rattle.singles.proofs.numbers.of_site.Tie as tie
+use Rattle.base.specs.Sizes.{inputCount}
+use Rattle.singles.proofs.numbers.put_ports.Statement.{statement}
+use Rattle.singles.proofs.numbers.put_ports.Tie as tie
+use Rattle.singles.proofs.numbers.put_ports.Reads as reads
+use Rattle.singles.proofs.numbers.put_ports.Lts as lts
+use Rattle.singles.proofs.numbers.put_input.Reads as put-input-reads
+use Rattle.singles.proofs.numbers.put_output.Reads as put-output-reads
 
 abbrev Inv-loop : tie.InvT-loop
-Inv-loop site n₀ inputs outputs i₀ n i = i ≤ 5
+Inv-loop n₀ inputs outputs i₀ n i = i ≤ inputCount
 
 abbrev μ-loop : tie.MeasureT-loop
-μ-loop site n₀ inputs outputs i₀ n i = 5 - i
+μ-loop n₀ inputs outputs i₀ n i = inputCount - i
 
 loop-holds : tie.Need-loop-holds Inv-loop μ-loop
 loop-holds c = search needs
 
 mul-put-input : tie.Need-mul-put-input Inv-loop μ-loop
 mul-put-input c = search needs
-
-mul-put-input-2 : tie.Need-mul-put-input-2 Inv-loop μ-loop
-mul-put-input-2 c = search needs
 
 array-copy-out-put-input : tie.Need-array-copy-out-put-input Inv-loop μ-loop
 array-copy-out-put-input c = search needs
@@ -49,21 +51,17 @@ loop-less c = search needs
 loop-again : tie.Need-loop-again Inv-loop μ-loop
 loop-again c = search needs
 
-put-queues-requires : tie.Need-put-queues-requires Inv-loop μ-loop
-put-queues-requires c κs = search needs
-
 returns : tie.Need-returns Inv-loop μ-loop
 returns c = search needs
 
-pub of-site-spec : {M : Type 1} → statement M
-of-site-spec =
+pub put-ports-spec : {M : Type 1} → statement M
+put-ports-spec =
     tie.close
     (tie.spec
     Inv-loop
     μ-loop
     loop-holds
     mul-put-input
-    mul-put-input-2
     array-copy-out-put-input
     put-input-requires
     mul-put-output
@@ -74,5 +72,4 @@ of-site-spec =
     add-i
     loop-less
     loop-again
-    put-queues-requires
     returns)

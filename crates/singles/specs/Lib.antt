@@ -1,0 +1,2 @@
+-- The sizes of the text form.
+pub mod Sizes
