@@ -5,18 +5,17 @@ use Prim.Native.Nat.{ℕ, _+_, _<_}
 use native.Mathlib.Omega.{arith}
 use lib.ListN.{length, getD, set}
 use lib.Seq.{getD-set-same, set-getD, set-set, ext-getD}
-use Rattle.base.specs.Sizes.{sitesMost, outputCount, inQueueCount, queueRoom}
+use Rattle.base.specs.Sizes.{sitesMost, inQueueCount, queueRoom}
 use Rattle.base.specs.Over.{over, over-none, over-more, over-below, length-over}
-use Rattle.types.specs.declared.Output.{Output}
 use Rattle.types.specs.declared.OutEntry.{OutEntry}
 use Rattle.types.specs.declared.InEntry.{InEntry}
 use Rattle.types.specs.declared.InQueue.{InQueue}
 use Rattle.types.specs.declared.Site.{Site}
-use Rattle.model.specs.Types.{siteD, inQueueD, siteAt, queueAt, setSite, withOutputs, withInQueues, setQueue, noOutput, noOutEntry, noInEntry}
+use Rattle.model.specs.Types.{siteD, inQueueD, siteAt, queueAt, setSite, withInQueues, setQueue, noOutEntry, noInEntry}
 use Rattle.layout.specs.Layout.{wordCount}
 use Rattle.layout.specs.Words.{sitesOf}
 use Rattle.layout.specs.Stored.{Stored, leavingAll, arrivedAll, arrivedCount}
-use Rattle.layout.proofs.Decoded.{all-sites, site-at, six-outputs, eight-leaving, two-queues, eight-arrived}
+use Rattle.layout.proofs.Decoded.{all-sites, site-at, eight-leaving, two-queues, eight-arrived}
 
 -- ---- one after the other
 
@@ -63,17 +62,6 @@ pub record Kept {A : Type 0} (P : Part A) : Type 0 where
   pub got : (x : Site) → length (x .incoming) ≡ inQueueCount → (l : List A) → P .get (P .put x l) ≡ l
   pub last : (x : Site) → length (x .incoming) ≡ inQueueCount → (k l : List A) → P .put (P .put x k) l ≡ P .put x l
   pub room : (c : List ℕ) (s : ℕ) → s < sitesMost → length (P .get (siteAt (sitesOf c) s)) ≡ P .n
-
-abbrev pub outputsPart : Part Output
-outputsPart = record { d = noOutput; n = outputCount; get = λ x. x .outputs; put = withOutputs; same = λ x. refl }
-
-pub outputs-kept : Kept outputsPart
-outputs-kept =
-    record {
-      got = λ x h l. refl;
-      last = λ x h k l. refl;
-      room = λ c s h. ap (λ (x : Site). length (x .outputs)) (site-at c s h) ∙ six-outputs c s;
-    }
 
 abbrev pub leavingPart : Part OutEntry
 leavingPart = record { d = noOutEntry; n = queueRoom; get = λ x. x .outgoing .entries; put = leavingAll; same = λ x. refl }

@@ -6,7 +6,7 @@ use Prim.Native.Nat.{ℕ, zero, suc, _+_, _*_, _/_, _%_, _<_}
 use native.Mathlib.Omega.{arith}
 use borrow.Author.Tests.{ne-eqb}
 use lib.Dec.{eqb}
-use Rattle.base.specs.Sizes.{sitesMost, inputCount, outputCount, splitPort, inQueueCount, queueRoom}
+use Rattle.base.specs.Sizes.{sitesMost, inputCount, outputCount, inQueueCount, queueRoom}
 use Rattle.types.specs.Numbers.{stateNumber}
 use Rattle.types.specs.Phases.{isNone}
 use Rattle.types.specs.declared.Connection.the-variants.{the-data as Connection}
@@ -16,7 +16,7 @@ use Rattle.types.specs.declared.Input.{Input}
 use Rattle.types.specs.declared.Output.{Output}
 use Rattle.types.specs.declared.InEntry.{InEntry}
 use Rattle.types.specs.declared.Site.{Site}
-use Rattle.model.specs.Types.{siteAt, inAt, outAt, mark, queueAt, inEntry, carries}
+use Rattle.model.specs.Types.{siteAt, inAt, outAt, queueAt, inEntry, carries}
 use Rattle.model.specs.Places.{stalled}
 use Rattle.layout.specs.Layout.{outputsFrom, arrivedPlace}
 use Rattle.layout.specs.Packed.{phaseAt, terminatorAt, flag, inputFrom, outputFrom, inEntryFrom}
@@ -112,10 +112,6 @@ module _ (c : List ℕ) (s : ℕ) (hs : s < sitesMost) where
   unfolding inputAt inputFrom
   state-peeked i w h e =
       ap (λ (m : ℕ). m % 8) e ∙ sym (ap (λ (y : Input). stateNumber (y .phase)) (input-at c s hs i h) ∙ state-number (fieldsAt c s i % 8) _ _ (omega arith))
-
-  pub split-peeked : (i w : ℕ) → i < inputCount → w ≡ fieldsAt c s i → eqb (w / 8192 % 2) 1 ≡ mark (inAt (siteAt (sitesOf c) s) i .outputs) splitPort
-  unfolding inputAt inputFrom
-  split-peeked i w h e = ap (λ (m : ℕ). flag m 8192) e ∙ sym (ap (λ (y : Input). mark (y .outputs) splitPort) (input-at c s hs i h))
 
   module _ (j w : ℕ) (h : j < outputCount) (e : w ≡ fieldsAt c s (outputsFrom + j)) where
     pub used-peeked : eqb (w % 2) 1 ≡ outAt (siteAt (sitesOf c) s) j .used

@@ -2,11 +2,12 @@
 use mathlib.Core.Path.{_≡_, refl, sym, ap, ap₂, subst, _∙_}
 use mathlib.Core.List.{List}
 use mathlib.Core.Bool.{Bool, true, false, not, _||_, or-true}
-use Prim.Native.Nat.{ℕ, suc, _+_}
+use Prim.Native.Nat.{ℕ, suc, _+_, _<_}
 use native.Mathlib.Numerals.{add-one}
 use borrow.Author.Tests.{eq-eqb}
 use lib.Dec.{eqb}
 use lib.ListN.{length}
+use Rattle.base.specs.Sizes.{sitesMost, inputCount}
 use Rattle.types.specs.declared.Input.{Input}
 use Rattle.types.specs.declared.Output.{Output}
 use Rattle.types.specs.declared.OutQueue.{OutQueue}
@@ -34,9 +35,12 @@ use Rattle.words.specs.Events.{Did, DidOwn, DidPass, siteIn, endOf}
 use Rattle.rules.specs.Acts.{localAct, queueAct, operatorAct, timeoutAct}
 use Rattle.layout.specs.Idle.{atRest}
 use Rattle.words.specs.Events.{localBack, channelBack, queueBack, inputBack, workBack}
+use Rattle.words.specs.Marked.{masked, mergedTurn, cutting}
 use Rattle.layout.proofs.Chained.{stays}
 use Rattle.layout.proofs.Rests.{local-rests, queue-rests, operator-rests, timeout-rests, channel-rests}
 use Rattle.theorems.proofs.Editions.{unjoined}
+use Rattle.words.proofs.MarkedLaws.{timeout-merged}
+use Rattle.words.proofs.MarkedStores.{outputs-of, marks-of}
 
 -- ---- the arms that have nothing to do
 
@@ -139,20 +143,22 @@ module _ (c d : List ℕ) (s : ℕ) (r : Ran) where
       subst (λ (t : Work). Did n c d s r (workDone x q t))
       (ap workBack e ∙ work-back (queueAt x q) (x .outgoing) (operator D s (queueAt x q) (x .outgoing))) (p n)
 
-  -- a net-input and the outputs, whatever the rule
-  pub input-done : (i : ℕ) (t : Turn Input (List Output)) (w : InputTurn) → w ≡ ofInputTurn (inAt x i) (x .outputs) t
-      → DidOwn c d s r (ownTurn (setBoth x i) (inputBack w)) → DidOwn c d s r (ownTurn (setBoth x i) t)
-  input-done i t w e p n =
-      subst (λ (t : Turn Input (List Output)). Did n c d s r (ownTurn (setBoth x i) t))
-      (ap inputBack e ∙ input-back (inAt x i) (x .outputs) t) (p n)
-
   -- the timeout, i being the input that feeds output 0
-  pub timeout-done : (edition i : ℕ) → i ≡ outAt x 0 .input → (w : InputTurn)
-      → w ≡ ofInputTurn (inAt x i) (x .outputs) (timeout edition (queueAt x 0) (x .outputs) (inAt x i))
-      → DidOwn c d s r (ownTurn (setBoth x i) (inputBack w)) → DidOwn c d s r (timeoutAct edition x)
-  timeout-done edition i e w f p n =
-      subst (λ (k : ℕ). Did n c d s r (ownTurn (setBoth x k) (timeout edition (queueAt x 0) (x .outputs) (inAt x k)))) e
-      (input-done i (timeout edition (queueAt x 0) (x .outputs) (inAt x i)) w f p n)
+  pub timeout-done : (edition i : ℕ) (z : Input) (bs : List Bool) → s < sitesMost → i < inputCount → i ≡ outAt x 0 .input → z ≡ inAt x i
+      → bs ≡ cutting (z .outputs) → (w : InputTurn)
+      → w ≡ ofInputTurn z (masked bs (x .outputs)) (timeout edition (queueAt x 0) (masked bs (x .outputs)) z)
+      → DidOwn c d s r (ownTurn (setBoth x i) (mergedTurn bs (x .outputs) (inputBack w))) → DidOwn c d s r (timeoutAct edition x)
+  timeout-done edition i z bs hs hi e ez eb w f p n =
+      let os = x .outputs in
+      let iq = queueAt x 0 in
+      let own : bs ≡ cutting (inAt x i .outputs) = eb ∙ ap (λ (u : Input). cutting (u .outputs)) ez in
+      let back = ap inputBack f ∙ input-back z (masked bs os) (timeout edition iq (masked bs os) z) in
+      let rule =
+      ap (mergedTurn bs os) back
+      ∙ ap₂ (λ (m : List Bool) (u : Input). mergedTurn m os (timeout edition iq (masked m os) u)) own ez
+      ∙ timeout-merged edition iq os (inAt x i) (outputs-of c s hs) (marks-of c s hs i hi) in
+      subst (λ (k : ℕ). Did n c d s r (ownTurn (setBoth x k) (timeout edition iq os (inAt x k)))) e
+      (subst (λ (t : Turn Input (List Output)). Did n c d s r (ownTurn (setBoth x i) t)) rule (p n))
 
 -- ---- an arm that ends at its place's packed word
 

@@ -1,5 +1,5 @@
 -- Codes 0 to 4 in place: readiness by the packed words, and what each way of the code makes of the definition. Assumes what each law names.
-use mathlib.Core.Path.{_≡_, refl, sym, ap, subst, _∙_}
+use mathlib.Core.Path.{_≡_, refl, sym, ap, ap₂, subst, _∙_}
 use mathlib.Core.List.{List}
 use mathlib.Core.Bool.{Bool, true, false, _&&_, _||_, and-true}
 use Prim.Native.Nat.{ℕ, zero, suc, _+_, _*_, _/_, _%_, _<_, _≤_}
@@ -8,7 +8,7 @@ use native.Mathlib.Omega.{arith}
 use borrow.Author.Tests.{lt-ltb, le-leb, eq-eqb}
 use lib.Dec.{eqb}
 use lib.ListN.{length}
-use Rattle.base.specs.Sizes.{sitesMost, outputCount, splitPort}
+use Rattle.base.specs.Sizes.{sitesMost, outputCount}
 use Rattle.base.specs.Bools.{implies}
 use Rattle.base.specs.All.{all-same}
 use Rattle.sets.specs.Sets.{targets}
@@ -20,7 +20,7 @@ use Rattle.types.specs.declared.Output.{Output}
 use Rattle.types.specs.declared.Site.{Site}
 use Rattle.types.specs.declared.Network.{Network}
 use Rattle.types.specs.declared.Ran.the-variants.{the-data as Ran, Nothing}
-use Rattle.model.specs.Types.{siteAt, inAt, outAt, mark, carries}
+use Rattle.model.specs.Types.{siteAt, inAt, mark}
 use Rattle.model.specs.Network.{isChannel, joined}
 use Rattle.model.specs.Router.{Choice as ModelChoice, route}
 use Rattle.model.specs.NetInput.{Turn, hears, ready, allReady, inState, netInput, seek}
@@ -35,9 +35,13 @@ use Rattle.layout.specs.Layout.{wordCount}
 use Rattle.layout.specs.Words.{sitesOf}
 use Rattle.words.specs.Events.{Did, DidOwn, DidReady, DidInput, DidSought, networkBy, siteIn, endOf}
 use Rattle.layout.specs.Idle.{waits}
-use Rattle.words.specs.Events.{inputBack, readyFlags, sought, Seekable}
+use Rattle.words.specs.Events.{inputBack, splitReady, readyFlags, sought, Seekable}
+use Rattle.words.specs.Marked.{masked, mergedTurn, touched, opening, seen}
 use Rattle.rules.specs.Acts.{inputAct}
-use Rattle.words.proofs.Acts.{did-nothing, input-done}
+use Rattle.words.proofs.Acts.{did-nothing, input-back}
+use Rattle.words.proofs.MarkedLaws.{other-merged, opening-turn, sought-merged}
+use Rattle.words.proofs.MarkedStores.{outputs-of}
+use Rattle.words.proofs.SeenLaws.{length-seen, own-seen, asked-seen}
 use Rattle.layout.proofs.Rests.{quiet-stays, stands-stays}
 
 -- the router asked by the parts of a network
@@ -71,25 +75,22 @@ heard-by xs b byte k e there f =
 abbrev readyIn : Network → List Site → ℕ → ℕ → Bool
 readyIn n xs s = ready (joined n s) (ends n xs s) (siteAt xs s .outputs)
 
--- a connected output is ready or not by its flag: that of the split output counts where it is connected
+-- a connected output is ready or not by its flag
 connected-by : (m f : Bool) → implies m (m && f) ≡ implies m f
 connected-by true f = refl
 connected-by false f = refl
 
-flag-by : (n : Network) (xs : List Site) (s i j : ℕ) → j < outputCount
-    → let bs = inAt (siteAt xs s) i .outputs in
-    implies (mark bs j) (mark (readyFlags (n .channels) xs s i) j) ≡ implies (mark bs j) (readyIn n xs s j)
+flag-by : (n : Network) (xs : List Site) (s : ℕ) (bs : List Bool) (j : ℕ) → j < outputCount
+    → implies (mark bs j) (mark (readyFlags (n .channels) xs s bs) j) ≡ implies (mark bs j) (readyIn n xs s j)
 unfolding hears
-flag-by n xs s i zero h = refl
-flag-by n xs s i (suc zero) h = refl
-flag-by n xs s i (suc (suc zero)) h = refl
-flag-by n xs s i (suc (suc (suc zero))) h = refl
-flag-by n xs s i (suc (suc (suc (suc zero)))) h = refl
-flag-by n xs s i (suc (suc (suc (suc (suc zero))))) h =
-    let o = outAt (siteAt xs s) splitPort in
-    connected-by (mark (inAt (siteAt xs s) i .outputs) splitPort) (carries o && o .head)
-    ∙ ap (implies (mark (inAt (siteAt xs s) i .outputs) splitPort)) (sym (and-true (carries o && o .head)))
-flag-by n xs s i (suc (suc (suc (suc (suc (suc j)))))) h = absurd (omega arith)
+flag-by n xs s bs zero h = refl
+flag-by n xs s bs (suc zero) h = connected-by (mark bs 1) (readyIn n xs s 1)
+flag-by n xs s bs (suc (suc zero)) h = connected-by (mark bs 2) (readyIn n xs s 2)
+flag-by n xs s bs (suc (suc (suc zero))) h = connected-by (mark bs 3) (readyIn n xs s 3)
+flag-by n xs s bs (suc (suc (suc (suc zero)))) h = connected-by (mark bs 4) (readyIn n xs s 4)
+flag-by n xs s bs (suc (suc (suc (suc (suc zero))))) h =
+    connected-by (mark bs 5) (splitReady xs s) ∙ ap (implies (mark bs 5)) (sym (and-true (splitReady xs s)))
+flag-by n xs s bs (suc (suc (suc (suc (suc (suc j)))))) h = absurd (omega arith)
 
 -- a net-input's rule asks of the outputs whether all that are connected are ready, and whether output 0 is
 same-ready : (n : Network) (s i : ℕ) (y : Input) (os : List Output) (f g : ℕ → Bool) (ph : Phase)
@@ -104,14 +105,13 @@ same-ready n s i y os f g (Last c r) e z = rw e refl
 same-ready n s i y os f g (Aborted c) e z = refl
 same-ready n s i y os f g (FinAbort c r) e z = rw z refl
 
-by-flags : (n : Network) (xs : List Site) (s i : ℕ) (os : List Output) (ph : Phase)
-    → let y = inAt (siteAt xs s) i in
-    inState n s i y os (mark (readyFlags (n .channels) xs s i)) ph ≡ inState n s i y os (readyIn n xs s) ph
+by-flags : (n : Network) (xs : List Site) (s i : ℕ) (y : Input) (os : List Output) (ph : Phase)
+    → inState n s i y os (mark (readyFlags (n .channels) xs s (y .outputs))) ph ≡ inState n s i y os (readyIn n xs s) ph
 unfolding hears
-by-flags n xs s i os ph =
-    let y = inAt (siteAt xs s) i in
-    same-ready n s i y os _ _ ph (all-same (λ j. implies (mark (y .outputs) j) (mark (readyFlags (n .channels) xs s i) j))
-    (λ j. implies (mark (y .outputs) j) (readyIn n xs s j)) outputCount (λ j h. flag-by n xs s i j h)) refl
+by-flags n xs s i y os ph =
+    let bs = y .outputs in
+    same-ready n s i y os _ _ ph (all-same (λ j. implies (mark bs j) (mark (readyFlags (n .channels) xs s bs) j))
+    (λ j. implies (mark bs j) (readyIn n xs s j)) outputCount (λ j h. flag-by n xs s bs j h)) refl
 
 -- ---- the ways of the code
 
@@ -131,46 +131,67 @@ module _ (c : List ℕ) (s i : ℕ) where
       (quiet-stays n s i y (x .outputs) (readyIn n (sitesOf c) s) (y .phase) (sym (ap (λ (m : ℕ). eqb m 0 || eqb m 6) e) ∙ f)))
 
   -- it waits
-  pub waits-none : (isReady : ℕ → Bool) (w : Bool) → length c ≡ wordCount → w ≡ waits y isReady → w ≡ true → DidReady c c s Nothing i isReady
-  waits-none isReady w h e f n =
+  pub waits-none : (isReady : ℕ → Bool) (z : Input) (w : Bool) → length c ≡ wordCount → z ≡ y → w ≡ waits z isReady → w ≡ true
+      → DidReady c c s Nothing i isReady
+  waits-none isReady z w h ez e f n =
       did-nothing n c s (ownTurn (setBoth x i) (netInput n s i y (x .outputs) isReady)) h
-      (ap (ownTurn (setBoth x i)) (stands-stays n s i y (x .outputs) isReady (y .phase) (sym e ∙ f)))
+      (ap (ownTurn (setBoth x i))
+      (stands-stays n s i y (x .outputs) isReady (y .phase) (sym (e ∙ ap (λ (u : Input). waits u isReady) ez) ∙ f)))
 
   module _ (d : List ℕ) (r : Ran) where
+    -- what the rule made of the marked outputs is stored, and the rule is t
+    merged-done : (bs : List Bool) (w : InputTurn) (t : Turn Input (List Output)) → mergedTurn bs (x .outputs) (inputBack w) ≡ t
+        → DidOwn c d s r (ownTurn (setBoth x i) (mergedTurn bs (x .outputs) (inputBack w))) → DidOwn c d s r (ownTurn (setBoth x i) t)
+    merged-done bs w t e p n = subst (λ (t : Turn Input (List Output)). Did n c d s r (ownTurn (setBoth x i) t)) e (p n)
+
     -- a rule moves it
-    pub ready-done : (isReady : ℕ → Bool) (w : InputTurn) → (stateNumber (y .phase) ≡ 1 → ⊥)
-        → w ≡ ofInputTurn y (x .outputs) (otherTurn y (x .outputs) isReady) → DidOwn c d s r (ownTurn (setBoth x i) (inputBack w))
-        → DidReady c d s r i isReady
-    ready-done isReady w ne e p n =
-        subst (λ (t : Turn Input (List Output)). Did n c d s r (ownTurn (setBoth x i) t)) (other-is y (x .outputs) isReady n s i ne)
-        (input-done c d s r i (otherTurn y (x .outputs) isReady) w e p n)
+    pub ready-done : (isReady : ℕ → Bool) (z : Input) (bs : List Bool) (w : InputTurn) → s < sitesMost → z ≡ y → (stateNumber (y .phase) ≡ 1 → ⊥)
+        → bs ≡ touched (z .phase) (z .outputs) → w ≡ ofInputTurn z (masked bs (x .outputs)) (otherTurn z (masked bs (x .outputs)) isReady)
+        → DidOwn c d s r (ownTurn (setBoth x i) (mergedTurn bs (x .outputs) (inputBack w))) → DidReady c d s r i isReady
+    ready-done isReady z bs w hs ez ne eb e p n =
+        let os = x .outputs in
+        let own = eb ∙ ap (λ (u : Input). touched (u .phase) (u .outputs)) ez in
+        let rule = ap inputBack e ∙ input-back z (masked bs os) (otherTurn z (masked bs os) isReady)
+        ∙ ap (λ (u : Input). otherTurn u (masked bs os) isReady) ez ∙ other-is y (masked bs os) isReady n s i ne in
+        merged-done bs w (netInput n s i y os isReady)
+        (ap (mergedTurn bs os) rule
+        ∙ ap (λ (m : List Bool). mergedTurn m os (netInput n s i y (masked m os) isReady)) own
+        ∙ other-merged n s i y os isReady (outputs-of c s hs) (y .phase) ne) p n
 
     -- the flags are those of the network
-    pub flags-done : (l : List ℕ) (bs : List Bool) → bs ≡ readyFlags l (sitesOf c) s i → DidReady c d s r i (mark bs) → DidInput l c d s r i
-    flags-done l bs e p n f =
+    pub flags-done : (l : List ℕ) (z : Input) (bs : List Bool) → z ≡ y → bs ≡ readyFlags l (sitesOf c) s (z .outputs)
+        → DidReady c d s r i (mark bs) → DidInput l c d s r i
+    flags-done l z bs ez e p n f =
         subst (λ (t : Turn Input (List Output)). Did n c d s r (ownTurn (setBoth x i) t))
         (ap (λ (b : List Bool). netInput n s i y (x .outputs) (mark b))
-        (e ∙ ap (λ (k : List ℕ). readyFlags k (sitesOf c) s i) (sym f))
-        ∙ by-flags n (sitesOf c) s i (x .outputs) (y .phase))
+        (e ∙ ap₂ (λ (k : List ℕ) (u : Input). readyFlags k (sitesOf c) s (u .outputs)) (sym f) ez)
+        ∙ by-flags n (sitesOf c) s i y (x .outputs) (y .phase))
         (p n)
 
     -- the router was asked
-    pub sought-done : (edition : ℕ) (m : List ℕ) (S T : ℕ) (w : InputTurn) → Seekable m S c s i → stateNumber (y .phase) ≡ 1
-        → w ≡ ofInputTurn y (x .outputs) (sought edition m S T x s i) → DidOwn c d s r (ownTurn (setBoth x i) (inputBack w))
-        → DidSought edition m S T c d s r i
-    sought-done edition m S T w ok e f p version D l =
+    pub sought-done : (edition : ℕ) (m : List ℕ) (S T : ℕ) (bs : List Bool) (w : InputTurn) → Seekable m S c s i → stateNumber (y .phase) ≡ 1
+        → let ws = seen edition (x .outputs) in
+        w ≡ ofInputTurn y ws (sought edition m S T y ws s i) → bs ≡ opening (w .input)
+        → DidOwn c d s r (ownTurn (setBoth x i) (mergedTurn bs (x .outputs) (inputBack w))) → DidSought edition m S T c d s r i
+    sought-done edition m S T bs w ok e f eb p version D l =
         let n = networkBy version edition S D T l m in
-        subst (λ (t : Turn Input (List Output)). Did n c d s r (ownTurn (setBoth x i) t))
-        (ap (seek T i y (x .outputs))
-        (asked-is m version edition S D T l s (x .outputs) (y .set) (ok .site) (ok .few) (ok .routes) (ok .set e))
-        ∙ sym (seek-is y (x .outputs) (readyIn n (sitesOf c) s) n s i e))
-        (input-done c d s r i (sought edition m S T x s i) w f p n)
+        let os = x .outputs in
+        let ws = seen edition os in
+        let t = sought edition m S T y ws s i in
+        merged-done bs w (netInput n s i y os (readyIn n (sitesOf c) s))
+        (ap₂ (λ (b : List Bool) (u : InputTurn). mergedTurn b os (inputBack u)) (eb ∙ ap (λ (u : InputTurn). opening (u .input)) f) f
+        ∙ opening-turn y ws os t
+        ∙ sought-merged T i y ws os (length-seen edition os) (outputs-of c s (omega (arith, ok .site, ok .few))) (own-seen edition os) e
+        (askedBy edition m S s ws (y .set))
+        ∙ ap (seek T i y os)
+        (asked-seen edition m S s os (y .set)
+        ∙ asked-is m version edition S D T l s os (y .set) (ok .site) (ok .few) (ok .routes) (ok .set e))
+        ∙ sym (seek-is y os (readyIn n (sitesOf c) s) n s i e)) p n
 
 -- what the loads and the router gave
-pub sought-by : (edition : ℕ) (m : List ℕ) (S T : ℕ) (x : Site) (s i : ℕ) (y : Input) (os : List Output) (ch : Choice) (w : InputTurn) → y ≡ inAt x i
-    → os ≡ x .outputs → ch ≡ ofChoice (askedBy edition m S s os (y .set)) → w ≡ seekTurn T i y os ch
-    → w ≡ ofInputTurn (inAt x i) (x .outputs) (sought edition m S T x s i)
-sought-by edition m S T x s i y os ch w ey eo ec ew =
+pub sought-by : (edition : ℕ) (m : List ℕ) (S T s i : ℕ) (z y : Input) (os ws : List Output) (ch : Choice) (w : InputTurn) → y ≡ z → os ≡ ws
+    → ch ≡ ofChoice (askedBy edition m S s os (y .set)) → w ≡ seekTurn T i y os ch → w ≡ ofInputTurn z ws (sought edition m S T z ws s i)
+sought-by edition m S T s i z y os ws ch w ey eo ec ew =
     ew
     ∙ ap (λ (h : Choice). ofInputTurn y os (seek T i y os (toChoice (h .served) (h .connection) (h .sets)))) ec
     ∙ ap (λ (h : ModelChoice). ofInputTurn y os (seek T i y os h)) (choice-back (askedBy edition m S s os (y .set)))

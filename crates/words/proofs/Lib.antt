@@ -3,8 +3,11 @@ pub mod Answered
 pub mod Codes
 pub mod EventExamples
 pub mod InputArm
+pub mod MarkedLaws
+pub mod MarkedStores
 pub mod PlayLaws
 pub mod Publics
 pub mod RunLaws
+pub mod SeenLaws
 pub mod Taken
 pub mod TurnLaws

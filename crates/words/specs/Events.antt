@@ -115,29 +115,28 @@ readyAt l xs s j =
     let b = getD l (portCount * s + j) 0 in
     carries (outAt (siteAt xs s) (j + 1)) && outAt (siteAt xs s) (j + 1) .head && (isChannel b && listening (endOf xs b .phase))
 
--- whether the split output of site s is connected to net-input i and ready
-abbrev pub splitReady : List Site → ℕ → ℕ → Bool
-splitReady xs s i =
-    mark (inAt (siteAt xs s) i .outputs) splitPort && (carries (outAt (siteAt xs s) splitPort) && outAt (siteAt xs s) splitPort .head)
+-- whether the split output is
+abbrev pub splitReady : List Site → ℕ → Bool
+splitReady xs s = carries (outAt (siteAt xs s) splitPort) && outAt (siteAt xs s) splitPort .head
 
--- which outputs of site s are ready, the split output if it is connected to net-input i
-abbrev pub readyFlags : List ℕ → List Site → ℕ → ℕ → List Bool
-readyFlags l xs s i =
+-- which outputs of site s are ready: output 0, and those with a mark in bs
+abbrev pub readyFlags : List ℕ → List Site → ℕ → List Bool → List Bool
+readyFlags l xs s bs =
     (carries (outAt (siteAt xs s) 0) && outAt (siteAt xs s) 0 .head && true)
-    ∷ readyAt l xs s 0
-    ∷ readyAt l xs s 1
-    ∷ readyAt l xs s 2
-    ∷ readyAt l xs s 3
-    ∷ splitReady xs s i
+    ∷ (mark bs 1 && readyAt l xs s 0)
+    ∷ (mark bs 2 && readyAt l xs s 1)
+    ∷ (mark bs 3 && readyAt l xs s 2)
+    ∷ (mark bs 4 && readyAt l xs s 3)
+    ∷ (mark bs 5 && splitReady xs s)
     ∷ []
 
 -- the channels of site s end within the sites
 abbrev pub ChannelsWithin : List ℕ → ℕ → Type 0
 ChannelsWithin l s = (j : ℕ) → j < portCount → isChannel (getD l (portCount * s + j) 0) ≡ true → getD l (portCount * s + j) 0 < endCount
 
--- what the router's answer in an edition makes of net-input i of site x
-abbrev pub sought : ℕ → List ℕ → ℕ → ℕ → Site → ℕ → ℕ → Turn Input (List Output)
-sought edition m S T x s i = seek T i (inAt x i) (x .outputs) (askedBy edition m S s (x .outputs) (inAt x i .set))
+-- what the router's answer in an edition makes of a net-input y, which is net-input i of site s, the outputs being os
+abbrev pub sought : ℕ → List ℕ → ℕ → ℕ → Input → List Output → ℕ → ℕ → Turn Input (List Output)
+sought edition m S T y os s i = seek T i y os (askedBy edition m S s os (y .set))
 
 -- what net-input i in seek asks of the routes m
 pub record Seekable (m : List ℕ) (S : ℕ) (c : List ℕ) (s i : ℕ) : Type 0 where

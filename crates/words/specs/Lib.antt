@@ -1,3 +1,4 @@
 pub mod Events
+pub mod Marked
 pub mod Owing
 pub mod Turned

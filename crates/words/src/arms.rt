@@ -19,7 +19,9 @@ use crate::load::front_lacks;
 use crate::load::in_count;
 use crate::load::is_stalled;
 use crate::load::is_used;
+use crate::load::load_input;
 use crate::load::out_count;
+use crate::marked::cutting;
 use crate::puts::put_channel;
 use crate::puts::put_input;
 use crate::puts::put_local;
@@ -115,8 +117,11 @@ pub(crate) fn timeout_in_place(edition: u8, words: &mut [u64], s: usize) -> Ran
     }
     if is_stalled(words, s, 0) {
         let i = feeder_of(words, s);
-        let turn = timeout_turn(edition, words, s, i);
-        return put_input(words, s, i, turn);
+        let input = load_input(words, s, i);
+        let connected = input.outputs;
+        let marks = cutting(connected);
+        let turn = timeout_turn(edition, words, s, marks, input);
+        return put_input(words, s, i, marks, turn);
     }
     Ran::Nothing
 }

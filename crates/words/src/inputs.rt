@@ -14,17 +14,21 @@ ghost use Rattle.layout.specs.Words.{sitesOf};
 ghost use Rattle.layout.specs.Idle.{stands, waits};
 ghost use Rattle.words.specs.Events as spec;
 ghost use Rattle.words.specs.Events.{siteIn, endOf};
-use crate::load::feeds_split;
+ghost use Rattle.words.specs.Marked.{masked, seen};
 use crate::load::is_taken;
 use crate::load::load_input;
-use crate::load::load_outputs;
 use crate::load::state_of;
+use crate::marked::load_marked;
+use crate::marked::load_seen;
+use crate::marked::opening;
+use crate::marked::touched;
 use crate::puts::put_input;
 use rules::InputTurn;
 use rules::all_ready;
 use rules::other_input;
 use rules::route_in;
 use rules::seek_turn;
+use types::Input;
 use types::Phase;
 use types::Ran;
 
@@ -41,47 +45,52 @@ fn is_heard(words: &[u64], channel: u16) -> bool
     (number == 2) | (number == 6)
 }
 
-// Whether output j + 1 is ready.
-fn is_ready(channels: &[u16], words: &[u64], s: usize, j: usize) -> bool
+// Whether output j + 1 is marked and ready; it is looked at only where it is marked.
+fn is_ready(channels: &[u16], words: &[u64], s: usize, j: usize, marked: bool) -> bool
     requires { ⌜
         (s < sitesMost) × (j < portCount) × (length (now channels) ≡ endCount) × (length (now words) ≡ wordCount) ×
         spec.ChannelsWithin (now channels) s
         ⌝ }
-    ensures { λ r. ⌜ r ≡ spec.readyAt (now (channels .entry)) (sitesOf (now (words .entry))) s j ⌝ }
+    ensures { λ r. ⌜ r ≡ (marked && spec.readyAt (now (channels .entry)) (sitesOf (now (words .entry))) s j) ⌝ }
 {
-    let channel = channels[base::PORTS * s + j];
-    let taken = is_taken(words, s, j + 1);
-    let heard = is_heard(words, channel);
-    taken & heard
+    if marked {
+        let channel = channels[base::PORTS * s + j];
+        let taken = is_taken(words, s, j + 1);
+        let heard = is_heard(words, channel);
+        return taken & heard;
+    }
+    false
 }
 
-// Whether the split output is connected to net-input i and ready; it is looked at only where it is connected.
-fn is_split_ready(words: &[u64], s: usize, i: usize) -> bool
-    requires { ⌜ (s < sitesMost) × (i < inputCount) × (length (now words) ≡ wordCount) ⌝ }
-    ensures { λ r. ⌜ r ≡ spec.splitReady (sitesOf (now (words .entry))) s i ⌝ }
+// Whether the split output is marked and ready.
+fn is_split_ready(words: &[u64], s: usize, marked: bool) -> bool
+    requires { ⌜ (s < sitesMost) × (length (now words) ≡ wordCount) ⌝ }
+    ensures { λ r. ⌜ r ≡ (marked && spec.splitReady (sitesOf (now (words .entry))) s) ⌝ }
 {
-    if feeds_split(words, s, i) {
+    if marked {
         return is_taken(words, s, base::SPLIT_PORT);
     }
     false
 }
 
-// Which outputs of site s are ready, the split output as net-input i is connected to it.
-fn readies(channels: &[u16], words: &[u64], s: usize, i: usize) -> [bool; base::OUTPUTS]
-    requires { ⌜
-        (s < sitesMost) × (i < inputCount) × (length (now channels) ≡ endCount) × (length (now words) ≡ wordCount) ×
-        spec.ChannelsWithin (now channels) s
-        ⌝ }
-    ensures { λ r. ⌜ r ≡ spec.readyFlags (now (channels .entry)) (sitesOf (now (words .entry))) s i ⌝ }
+// Which outputs of site s are ready: output 0, and those that are marked.
+fn readies(
+    channels: &[u16],
+    words: &[u64],
+    s: usize,
+    marks: [bool; base::OUTPUTS],
+) -> [bool; base::OUTPUTS]
+    requires { ⌜ (s < sitesMost) × (length (now channels) ≡ endCount) × (length (now words) ≡ wordCount) × spec.ChannelsWithin (now channels) s ⌝ }
+    ensures { λ r. ⌜ r ≡ spec.readyFlags (now (channels .entry)) (sitesOf (now (words .entry))) s marks ⌝ }
 {
     let own = is_taken(words, s, 0);
     [
         own & true,
-        is_ready(channels, words, s, 0),
-        is_ready(channels, words, s, 1),
-        is_ready(channels, words, s, 2),
-        is_ready(channels, words, s, 3),
-        is_split_ready(words, s, i),
+        is_ready(channels, words, s, 0, marks[1]),
+        is_ready(channels, words, s, 1, marks[2]),
+        is_ready(channels, words, s, 2, marks[3]),
+        is_ready(channels, words, s, 3, marks[4]),
+        is_split_ready(words, s, marks[5]),
     ]
 }
 
@@ -101,42 +110,57 @@ fn is_standing(phase: Phase, every: bool, own: bool) -> bool
     }
 }
 
-// Whether no rule moves net-input i.
-fn has_to_wait(words: &[u64], s: usize, i: usize, ready: [bool; base::OUTPUTS]) -> bool
-    requires { ⌜ (s < sitesMost) × (i < inputCount) × (length (now words) ≡ wordCount) ⌝ }
-    ensures { λ r. ⌜ r ≡ waits (inAt (siteIn (now (words .entry)) s) i) (mark ready) ⌝ }
+// Whether no rule moves this net-input.
+fn has_to_wait(input: Input, ready: [bool; base::OUTPUTS]) -> bool
+    ensures { λ r. ⌜ r ≡ waits input (mark ready) ⌝ }
 {
-    let input = load_input(words, s, i);
     let phase = input.phase;
-    let marked = input.outputs;
+    let connected = input.outputs;
     let own = ready[0];
-    let every = all_ready(ready, marked);
+    let every = all_ready(ready, connected);
     is_standing(phase, every, own)
 }
 
-// What becomes of net-input i in another state than seek.
-fn other_turn(words: &[u64], s: usize, i: usize, ready: [bool; base::OUTPUTS]) -> InputTurn
-    requires { ⌜ (s < sitesMost) × (i < inputCount) × (length (now words) ≡ wordCount) ⌝ }
+// What becomes of a net-input in another state than seek, and of the marked outputs.
+fn other_turn(
+    words: &[u64],
+    s: usize,
+    marks: [bool; base::OUTPUTS],
+    input: Input,
+    ready: [bool; base::OUTPUTS],
+) -> InputTurn
+    requires { ⌜ (s < sitesMost) × (length (now words) ≡ wordCount) ⌝ }
     ensures { λ r. ⌜
-        r ≡ ofInputTurn (inAt (siteIn (now (words .entry)) s) i) (siteIn (now (words .entry)) s .outputs)
-        (otherTurn (inAt (siteIn (now (words .entry)) s) i) (siteIn (now (words .entry)) s .outputs) (mark ready))
+        r ≡ ofInputTurn input (masked marks (siteIn (now (words .entry)) s .outputs))
+        (otherTurn input (masked marks (siteIn (now (words .entry)) s .outputs)) (mark ready))
         ⌝ }
 {
-    let input = load_input(words, s, i);
-    let outputs = load_outputs(words, s);
+    let outputs = load_marked(words, s, marks);
     other_input(input, outputs, ready)
 }
 
-// Net-input i in another state than seek; which outputs are ready is known.
-fn ready_in_place(words: &mut [u64], s: usize, i: usize, ready: [bool; base::OUTPUTS]) -> Ran
-    requires { ⌜ (s < sitesMost) × (i < inputCount) × (length (now words) ≡ wordCount) × (stateNumber (inAt (siteIn (now words) s) i .phase) ≡ 1 → ⊥) ⌝ }
+// Net-input i, this one, in another state than seek; which outputs are ready is known.
+fn ready_in_place(
+    words: &mut [u64],
+    s: usize,
+    i: usize,
+    input: Input,
+    ready: [bool; base::OUTPUTS],
+) -> Ran
+    requires { ⌜
+        (s < sitesMost) × (i < inputCount) × (length (now words) ≡ wordCount) × (input ≡ inAt (siteIn (now words) s) i) ×
+        (stateNumber (inAt (siteIn (now words) s) i .phase) ≡ 1 → ⊥)
+        ⌝ }
     ensures { λ r. ⌜ spec.DidReady (now (words .entry)) (now (words .exit)) s r i (mark ready) ⌝ }
 {
-    if has_to_wait(words, s, i, ready) {
+    let phase = input.phase;
+    let connected = input.outputs;
+    if has_to_wait(input, ready) {
         return Ran::Nothing;
     }
-    let turn = other_turn(words, s, i, ready);
-    put_input(words, s, i, turn)
+    let marks = touched(phase, connected);
+    let turn = other_turn(words, s, marks, input, ready);
+    put_input(words, s, i, marks, turn)
 }
 
 // Net-input i in another state than seek.
@@ -147,11 +171,13 @@ fn other_in_place(channels: &[u16], words: &mut [u64], s: usize, i: usize) -> Ra
         ⌝ }
     ensures { λ r. ⌜ spec.DidInput (now (channels .entry)) (now (words .entry)) (now (words .exit)) s r i ⌝ }
 {
-    let ready = readies(channels, words, s, i);
-    ready_in_place(words, s, i, ready)
+    let input = load_input(words, s, i);
+    let connected = input.outputs;
+    let ready = readies(channels, words, s, connected);
+    ready_in_place(words, s, i, input, ready)
 }
 
-// What the router's answer makes of net-input i in seek.
+// What the router's answer makes of net-input i in seek, from the outputs as the router sees them.
 fn seeking(
     edition: u8,
     routes: &[u16],
@@ -163,12 +189,13 @@ fn seeking(
 ) -> InputTurn
     requires { ⌜ (s < sitesMost) × (i < inputCount) × (length (now words) ≡ wordCount) ⌝ }
     ensures { λ r. ⌜
-        r ≡ ofInputTurn (inAt (siteIn (now (words .entry)) s) i) (siteIn (now (words .entry)) s .outputs)
-        (spec.sought edition (now (routes .entry)) sites tries (siteIn (now (words .entry)) s) s i)
+        r ≡ ofInputTurn (inAt (siteIn (now (words .entry)) s) i) (seen edition (siteIn (now (words .entry)) s .outputs))
+        (spec.sought edition (now (routes .entry)) sites tries (inAt (siteIn (now (words .entry)) s) i)
+        (seen edition (siteIn (now (words .entry)) s .outputs)) s i)
         ⌝ }
 {
     let input = load_input(words, s, i);
-    let outputs = load_outputs(words, s);
+    let outputs = load_seen(edition, words, s);
     let choice = route_in(edition, routes, sites, s, outputs, input.set);
     seek_turn(tries, i as u8, input, outputs, choice)
 }
@@ -187,7 +214,9 @@ fn seek_in_place(
     ensures { λ r. ⌜ spec.DidSought edition (now (routes .entry)) sites tries (now (words .entry)) (now (words .exit)) s r i ⌝ }
 {
     let turn = seeking(edition, routes, sites, tries, words, s, i);
-    put_input(words, s, i, turn)
+    let next = turn.input;
+    let marks = opening(next);
+    put_input(words, s, i, marks, turn)
 }
 
 // Codes 0 to 4: net-input i, by its state number.

@@ -3,10 +3,10 @@ ghost use mathlib.Core.Path.{_≡_};
 ghost use mathlib.Core.Bool.{_&&_};
 ghost use Prim.Native.Nat.{_<_};
 ghost use lib.ListN.{length};
-ghost use Rattle.base.specs.Sizes.{sitesMost, inputCount, outputCount, splitPort, inQueueCount, queueRoom};
+ghost use Rattle.base.specs.Sizes.{sitesMost, inputCount, outputCount, inQueueCount, queueRoom};
 ghost use Rattle.types.specs.Numbers.{stateNumber};
 ghost use Rattle.types.specs.Phases.{isNone};
-ghost use Rattle.model.specs.Types.{siteAt, inAt, outAt, mark, queueAt, inEntry, carries};
+ghost use Rattle.model.specs.Types.{siteAt, inAt, outAt, queueAt, inEntry, carries};
 ghost use Rattle.model.specs.Places.{stalled};
 ghost use Rattle.layout.specs.Layout.{wordCount, sitePlaces};
 ghost use Rattle.layout.specs.Words as spec;
@@ -202,14 +202,6 @@ pub(crate) fn state_of(words: &[u64], s: usize, i: usize) -> u64
     ensures { λ r. ⌜ r ≡ stateNumber (inAt (siteAt (spec.sitesOf (now (words .entry))) s) i .phase) ⌝ }
 {
     fields_at(words, s, i) % 8
-}
-
-// Whether the split output is one of the connected outputs of net-input i.
-pub(crate) fn feeds_split(words: &[u64], s: usize, i: usize) -> bool
-    requires { ⌜ (s < sitesMost) × (i < inputCount) × (length (now words) ≡ wordCount) ⌝ }
-    ensures { λ r. ⌜ r ≡ mark (inAt (siteAt (spec.sitesOf (now (words .entry))) s) i .outputs) splitPort ⌝ }
-{
-    fields_at(words, s, i) / 8192 % 2 == 1
 }
 
 // Whether net-output j is in use, not closing, with its head taken.

@@ -9,11 +9,12 @@ ghost use Rattle.layout.specs.Layout.{wordCount, endCount};
 ghost use Rattle.layout.specs.Words.{sitesOf};
 ghost use Rattle.layout.specs.Stored.{Stored};
 ghost use Rattle.words.specs.Events.{siteIn};
+ghost use Rattle.words.specs.Marked.{merged};
+use crate::marked::store_marked;
 use crate::store::store_in_queue;
 use crate::store::store_input;
 use crate::store::store_out_queue;
 use crate::store::store_output;
-use crate::store::store_outputs;
 use types::InQueue;
 use types::Input;
 use types::OutQueue;
@@ -85,20 +86,22 @@ pub(crate) fn store_queues(
     store_out_queue(words, s, outgoing);
 }
 
-// The outputs and net-input i.
+// The marked outputs and net-input i.
 pub(crate) fn store_both(
     words: &mut [u64],
     s: usize,
     i: usize,
+    marks: [bool; base::OUTPUTS],
     outputs: [Output; base::OUTPUTS],
     input: Input,
 )
     requires { ⌜ (s < sitesMost) × (i < inputCount) × (length (now words) ≡ wordCount) ⌝ }
     ensures { λ _. ⌜
         Stored (now (words .entry)) (now (words .exit))
-        (setSite (sitesOf (now (words .entry))) s (setBoth (siteIn (now (words .entry)) s) i input outputs))
+        (setSite (sitesOf (now (words .entry))) s
+        (setBoth (siteIn (now (words .entry)) s) i input (merged marks outputs (siteIn (now (words .entry)) s .outputs))))
         ⌝ }
 {
-    store_outputs(words, s, outputs);
+    store_marked(words, s, marks, outputs);
     store_input(words, s, i, input);
 }

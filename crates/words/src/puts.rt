@@ -9,6 +9,7 @@ ghost use Rattle.model.specs.Network.{channel};
 ghost use Rattle.layout.specs.Layout.{wordCount, endCount};
 ghost use Rattle.words.specs.Events as spec;
 ghost use Rattle.words.specs.Events.{Did, DidOwn, siteIn};
+ghost use Rattle.words.specs.Marked.{mergedTurn};
 use crate::pairs::store_both;
 use crate::pairs::store_leaving;
 use crate::pairs::store_local;
@@ -89,18 +90,25 @@ pub(crate) fn put_work(words: &mut [u64], s: usize, q: usize, turn: OperatorTurn
     Ran::Nothing
 }
 
-// The outputs and net-input i.
-pub(crate) fn put_input(words: &mut [u64], s: usize, i: usize, turn: InputTurn) -> Ran
+// The marked outputs and net-input i.
+pub(crate) fn put_input(
+    words: &mut [u64],
+    s: usize,
+    i: usize,
+    marks: [bool; base::OUTPUTS],
+    turn: InputTurn,
+) -> Ran
     requires { ⌜ (s < sitesMost) × (i < inputCount) × (length (now words) ≡ wordCount) ⌝ }
     ensures { λ r. ⌜
         DidOwn (now (words .entry)) (now (words .exit)) s r
-        (ownTurn (setBoth (siteIn (now (words .entry)) s) i) (spec.inputBack turn))
+        (ownTurn (setBoth (siteIn (now (words .entry)) s) i)
+        (mergedTurn marks (siteIn (now (words .entry)) s .outputs) (spec.inputBack turn)))
         ⌝ }
 {
     let outputs = turn.outputs;
     let input = turn.input;
     if turn.changed {
-        store_both(words, s, i, outputs, input);
+        store_both(words, s, i, marks, outputs, input);
         return Ran::Changed;
     }
     Ran::Nothing

@@ -3,7 +3,7 @@ ghost use mathlib.Core.Path.{_≡_};
 ghost use Prim.Native.Nat.{_<_};
 ghost use lib.ListN.{length};
 ghost use Rattle.base.specs.Sizes.{sitesMost, inputCount, outputCount, inQueueCount, queueRoom};
-ghost use Rattle.model.specs.Types.{siteAt, setSite, setIn, withOutputs, setOut, setQueue, withOutQueue};
+ghost use Rattle.model.specs.Types.{siteAt, setSite, setIn, setOut, setQueue, withOutQueue};
 ghost use Rattle.layout.specs.Layout.{wordCount, sitePlaces};
 ghost use Rattle.layout.specs.Words.{sitesOf};
 ghost use Rattle.layout.specs.Stored.{placed, Stored, Counted, leavingSet, leavingAll, leavingCount, arrivedSet, arrivedAll, arrivedCount};
@@ -55,22 +55,6 @@ pub(crate) fn store_output(words: &mut [u64], s: usize, j: usize, output: Output
     let set = output.set;
     let w = output_word(output);
     store_place(words, s, OUTPUTS_FROM + j, set, w);
-}
-
-// The outputs of site s.
-pub(crate) fn store_outputs(words: &mut [u64], s: usize, outputs: [Output; base::OUTPUTS])
-    requires { ⌜ (s < sitesMost) × (length (now words) ≡ wordCount) ⌝ }
-    ensures { λ _. ⌜
-        Stored (now (words .entry)) (now (words .exit))
-        (setSite (sitesOf (now (words .entry))) s (withOutputs (siteAt (sitesOf (now (words .entry))) s) outputs))
-        ⌝ }
-{
-    let mut j: usize = 0;
-    while j < base::OUTPUTS {
-        let output = outputs[j];
-        store_output(words, s, j, output);
-        j += 1;
-    }
 }
 
 // Entry m of site s's out-queue, the count as it was.

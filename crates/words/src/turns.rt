@@ -3,7 +3,7 @@ ghost use mathlib.Core.Path.{_≡_};
 ghost use mathlib.Core.Bool.{true};
 ghost use Prim.Native.Nat.{suc, _<_};
 ghost use lib.ListN.{length};
-ghost use Rattle.base.specs.Sizes.{sitesMost, inputCount, portCount, inQueueCount};
+ghost use Rattle.base.specs.Sizes.{sitesMost, portCount, inQueueCount};
 ghost use Rattle.model.specs.Types.{inAt, outAt, queueAt, queuePort};
 ghost use Rattle.model.specs.Places as places;
 ghost use Rattle.model.specs.Steps.{farEnd};
@@ -11,11 +11,12 @@ ghost use Rattle.rules.specs.Turns.{ofLocalTurn, ofChannelTurn, ofQueueTurn, of
 ghost use Rattle.layout.specs.Layout.{wordCount, endCount};
 ghost use Rattle.layout.specs.Words.{sitesOf};
 ghost use Rattle.words.specs.Events.{siteIn};
+ghost use Rattle.words.specs.Marked.{masked};
 use crate::load::load_in_queue;
 use crate::load::load_input;
 use crate::load::load_out_queue;
 use crate::load::load_output;
-use crate::load::load_outputs;
+use crate::marked::load_marked;
 use rules::ChannelTurn;
 use rules::InputTurn;
 use rules::LocalTurn;
@@ -26,6 +27,7 @@ use rules::local_output;
 use rules::operator;
 use rules::out_queue;
 use rules::time_out;
+use types::Input;
 
 // The output that fills in-queue q.
 pub(crate) fn local_turn(depth: usize, words: &[u64], s: usize, q: usize) -> LocalTurn
@@ -87,17 +89,22 @@ pub(crate) fn operator_turn(depth: usize, words: &[u64], s: usize, q: usize) -> 
     operator(depth, s, incoming, outgoing)
 }
 
-// The timeout, where net-input i feeds output 0.
-pub(crate) fn timeout_turn(edition: u8, words: &[u64], s: usize, i: usize) -> InputTurn
-    requires { ⌜ (s < sitesMost) × (i < inputCount) × (length (now words) ≡ wordCount) ⌝ }
+// The timeout, on the net-input that feeds output 0 and the marked outputs.
+pub(crate) fn timeout_turn(
+    edition: u8,
+    words: &[u64],
+    s: usize,
+    marks: [bool; base::OUTPUTS],
+    input: Input,
+) -> InputTurn
+    requires { ⌜ (s < sitesMost) × (length (now words) ≡ wordCount) ⌝ }
     ensures { λ r. ⌜
-        r ≡ ofInputTurn (inAt (siteIn (now (words .entry)) s) i) (siteIn (now (words .entry)) s .outputs)
-        (places.timeout edition (queueAt (siteIn (now (words .entry)) s) 0) (siteIn (now (words .entry)) s .outputs)
-        (inAt (siteIn (now (words .entry)) s) i))
+        r ≡ ofInputTurn input (masked marks (siteIn (now (words .entry)) s .outputs))
+        (places.timeout edition (queueAt (siteIn (now (words .entry)) s) 0)
+        (masked marks (siteIn (now (words .entry)) s .outputs)) input)
         ⌝ }
 {
     let queue = load_in_queue(words, s, 0);
-    let outputs = load_outputs(words, s);
-    let input = load_input(words, s, i);
+    let outputs = load_marked(words, s, marks);
     time_out(edition, queue, outputs, input)
 }

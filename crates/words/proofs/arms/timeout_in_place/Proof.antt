@@ -8,52 +8,62 @@ use Rattle.words.proofs.arms.timeout_in_place.Lts as lts
 use Rattle.draws.proofs.is_restricted.Reads as is-restricted-reads
 use Rattle.words.proofs.load.feeder_of.Reads as feeder-of-reads
 use Rattle.words.proofs.load.is_stalled.Reads as is-stalled-reads
+use Rattle.words.proofs.load.load_input.Reads as load-input-reads
+use Rattle.words.proofs.marked.cutting.Reads as cutting-reads
 use Rattle.words.proofs.puts.put_input.Reads as put-input-reads
 use Rattle.words.proofs.turns.timeout_turn.Reads as timeout-turn-reads
 
--- src/arms.rt:113:8
+-- src/arms.rt:115:8
 is-restricted-requires : tie.Need-is-restricted-requires
 is-restricted-requires c κs = search needs
 
--- src/arms.rt:114:9
+-- src/arms.rt:116:9
 returns : tie.Need-returns
 returns c = timeout-never _ _ (search needs) (c .before .before .before .args .edition) (sym (c .before .is-restricted .ensures) ∙ c .if1 .taken)
 
--- src/arms.rt:116:8
+-- src/arms.rt:118:8
 is-stalled-requires : tie.Need-is-stalled-requires
 is-stalled-requires c κs = search needs
 
--- src/arms.rt:117:13
+-- src/arms.rt:119:13
 feeder-of-requires : tie.Need-feeder-of-requires
 feeder-of-requires c κs = search needs
 
--- src/arms.rt:118:13
+-- src/arms.rt:120:13
+load-input-requires : tie.Need-load-input-requires
+load-input-requires c κs = search needs
+
+-- src/arms.rt:122:13
+cutting-requires : tie.Need-cutting-requires
+cutting-requires c κs = search needs
+
+-- src/arms.rt:123:13
 timeout-turn-requires : tie.Need-timeout-turn-requires
 timeout-turn-requires c κs = search needs
 
--- src/arms.rt:119:9
+-- src/arms.rt:124:9
 put-input-requires : tie.Need-put-input-requires
 put-input-requires c κs = search needs
 
--- src/arms.rt:119:9
+-- src/arms.rt:124:9
 same-length : tie.Need-same-length
 same-length c = search needs
 
--- src/arms.rt:119:9
+-- src/arms.rt:124:9
 returns-2 : tie.Need-returns-2
 returns-2 c =
-    let timeout-turn = c .before .before .before .before .timeout-turn in
-    let feeder-of = c .before .before .before .before .before .before .feeder-of in
-    let past = c .before .before .before .before .before .before in
-    let tested = past .before .before .before .before .before .before in
-    let start = tested .before .before in
-    timeout-done _ _ _ _ (start .args .edition) _ (feeder-of .ensures) _ (timeout-turn .ensures) (c .before .before .put-input .ensures)
+    let fed = c .before .before .before .before .before .before in
+    let tested = fed .before .before .before .before .before .before in
+    let start = tested .before .before .before .before .before .before in
+    let feeder-of = fed .before .before .before .before .feeder-of in
+    timeout-done _ _ _ _ (start .args .edition) _ _ _ (start .pre .0) (search needs) (feeder-of .ensures) (fed .before .before .load-input .ensures)
+    (fed .cutting .ensures) _ (c .before .before .before .before .timeout-turn .ensures) (c .before .before .put-input .ensures)
 
--- src/arms.rt:109:1
+-- src/arms.rt:111:1
 same-length-2 : tie.Need-same-length-2
 same-length-2 c = search needs
 
--- src/arms.rt:109:1
+-- src/arms.rt:111:1
 returns-3 : tie.Need-returns-3
 returns-3 c =
     let args = c .before .before .before .before .before .before .args in
@@ -67,6 +77,8 @@ timeout-in-place-spec =
     returns
     is-stalled-requires
     feeder-of-requires
+    load-input-requires
+    cutting-requires
     timeout-turn-requires
     put-input-requires
     same-length

@@ -6,36 +6,41 @@ use Rattle.words.proofs.inputs.is_ready.Lts as lts
 use Rattle.words.proofs.inputs.is_heard.Reads as is-heard-reads
 use Rattle.words.proofs.load.is_taken.Reads as is-taken-reads
 
--- src/inputs.rt:46:25
+-- src/inputs.rt:57:32
 mul-channel : tie.Need-mul-channel
 mul-channel c = search needs
 
--- src/inputs.rt:46:25
+-- src/inputs.rt:57:32
 add-channel : tie.Need-add-channel
 add-channel c = search needs
 
--- src/inputs.rt:46:16
+-- src/inputs.rt:57:23
 mul-channel-2 : tie.Need-mul-channel-2
 mul-channel-2 c = search needs
 
+-- src/inputs.rt:57:23
 shared-slice-read-channel : tie.Need-shared-slice-read-channel
 shared-slice-read-channel c = search needs
 
--- src/inputs.rt:47:36
+-- src/inputs.rt:58:40
 add-is-taken : tie.Need-add-is-taken
 add-is-taken c = search needs
 
--- src/inputs.rt:47:9
+-- src/inputs.rt:58:13
 is-taken-requires : tie.Need-is-taken-requires
 is-taken-requires c κs = search needs
 
--- src/inputs.rt:48:9
+-- src/inputs.rt:59:13
 is-heard-requires : tie.Need-is-heard-requires
-is-heard-requires c κs = (search needs, λ e. c .before .before .before .before .pre .4 _ (search needs) e)
+is-heard-requires c κs = (search needs, λ e. c .before .before .before .before .before .pre .4 _ (search needs) e)
 
--- src/inputs.rt:42:1
+-- src/inputs.rt:60:9
 returns : tie.Need-returns
-returns c = rw (c .is-heard .ensures, c .before .is-taken .ensures)
+returns c = rw (c .before .before .before .if1 .taken, c .is-heard .ensures, c .before .is-taken .ensures)
+
+-- src/inputs.rt:49:1
+returns-2 : tie.Need-returns-2
+returns-2 c = search needs
 
 pub is-ready-spec : {M : Type 1} → statement M
 is-ready-spec =
@@ -48,4 +53,5 @@ is-ready-spec =
     add-is-taken
     is-taken-requires
     is-heard-requires
-    returns)
+    returns
+    returns-2)

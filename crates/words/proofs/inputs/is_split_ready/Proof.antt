@@ -1,27 +1,21 @@
-use mathlib.Core.Path.{sym, _∙_}
 use borrow.Author.Needs.{needs}
 use Rattle.words.proofs.inputs.is_split_ready.Statement.{statement}
 use Rattle.words.proofs.inputs.is_split_ready.Tie as tie
 use Rattle.words.proofs.inputs.is_split_ready.Reads as reads
 use Rattle.words.proofs.inputs.is_split_ready.Lts as lts
-use Rattle.words.proofs.load.feeds_split.Reads as feeds-split-reads
 use Rattle.words.proofs.load.is_taken.Reads as is-taken-reads
 
--- src/inputs.rt:63:8
-feeds-split-requires : tie.Need-feeds-split-requires
-feeds-split-requires c κs = search needs
-
--- src/inputs.rt:64:9
+-- src/inputs.rt:71:9
 is-taken-requires : tie.Need-is-taken-requires
 is-taken-requires c κs = search needs
 
--- src/inputs.rt:64:9
+-- src/inputs.rt:71:9
 returns : tie.Need-returns
-returns c = rw (sym (c .before .before .feeds-split .ensures) ∙ c .before .if1 .taken) (c .is-taken .ensures)
+returns c = rw (c .before .if1 .taken) (c .is-taken .ensures)
 
--- src/inputs.rt:59:1
+-- src/inputs.rt:66:1
 returns-2 : tie.Need-returns-2
-returns-2 c = rw (sym (c .before .feeds-split .ensures) ∙ c .if1 .left)
+returns-2 c = search needs
 
 pub is-split-ready-spec : {M : Type 1} → statement M
-is-split-ready-spec = tie.close (tie.spec feeds-split-requires is-taken-requires returns returns-2)
+is-split-ready-spec = tie.close (tie.spec is-taken-requires returns returns-2)
