@@ -58,26 +58,16 @@ function compare(e, size,    i, line, first) {
     }
 }
 
-# Of a site the places that differ. A site of zeros is the number 0, any other 1 and 135 numbers.
-function compare_site(site, typed, text,    n, m, k, i, at, size, a, b, left, right, unit) {
-    n = split(typed, left, " ")
-    m = split(text, right, " ")
-    if ((typed "") != "0" && n != 136 || (text "") != "0" && m != 136) {
+# Of a site the places that differ; the whole of it where it is not of the form, or only the mark before it differs.
+function compare_site(site, typed, text,    k, some, left, right) {
+    if (read_site(typed, left) && read_site(text, right))
+        for (k = 0; k < PLACES; k++)
+            if ((held(left, k) "") != (held(right, k) "")) {
+                differ(place_name(site, k), held(left, k), held(right, k))
+                some = 1
+            }
+    if (!some)
         differ("site " site, typed, text)
-        return
-    }
-    at = 1
-    for (k = 0; k < 28; k++) {
-        size = split(ZERO[k], unit, " ")
-        a = b = ""
-        for (i = at + 1; i <= at + size; i++) {
-            a = a " " (n == 1 ? "0" : left[i])
-            b = b " " (m == 1 ? "0" : right[i])
-        }
-        if (a != b)
-            differ(place_name(site, k), substr(a, 2), substr(b, 2))
-        at += size
-    }
 }
 
 function differ(what, typed, text) {

@@ -218,7 +218,7 @@ function new_base(words,    head, k) {
     form = FORM[network]
     start_from(base)
     for (k in now)
-        if (k + 0 < COUNTER && k + 0 >= 28 * (LAST[form] + 1))
+        if (k + 0 < COUNTER && k + 0 >= PLACES * (LAST[form] + 1))
             fail("a state with more sites than the network's form has: " base)
 }
 
@@ -300,7 +300,7 @@ function end_event(    still) {
 }
 
 # PLACE = NUMBERS, of the state, or before a case's first event of its network.
-function change(words,    n, side, word, k) {
+function change(words,    n, side, word, k, value) {
     if (split(words, side, / = /) != 2)
         fail("neither an event nor `PLACE = NUMBERS`: " words)
     if (side[1] in changed)
@@ -315,10 +315,10 @@ function change(words,    n, side, word, k) {
     k = place(form, n, word)
     if (k < 0)
         fail("no such place: " side[1])
-    check_place(k, side[2])
-    if ((held(now, k) "") == (side[2] ""))
+    value = checked(k, side[2])
+    if ((held(now, k) "") == (value ""))
         fail("is so already: " words)
-    put(now, k, side[2])
+    put(now, k, value)
 }
 
 # S, T, D, in the second form version and edition; channel SITE PORT, route FROM TO, of a case's network
