@@ -4,7 +4,7 @@
 use super::held::{differing, from_site_0};
 use super::searched::{kebab, shows, small_runs, UNREACHED, UNREACHED_IN_EDITION_3};
 use super::{in_edition, named, Named};
-use crate::archive::Run;
+use crate::archive::{Run, Send};
 use crate::making::runs;
 use crate::owing::{DEBTS, DEBTS_OF_1};
 use crate::watch::{is_of_edition_3, Rule, RULES};
@@ -44,8 +44,19 @@ fn in_all_editions() -> Vec<(&'static str, Run)> {
     ]
 }
 
+/// Worked out by hand in the remarks of corpus/typed: a packet splits, the next one goes on whole and is handed. Two
+/// ways from site 0 to site 1, one back.
+fn hand_branches() -> Run {
+    let mut run = from_site_0((1, 2), HAND_BRANCHES.0, HAND_BRANCHES.1, &[(0, 3), (0, 3)]);
+    run.network.channels[1] = 5;
+    run.network.routes[1] = 0x1200;
+    run.sends.push(Send { draw: 0, site: 1, set: 1 });
+    in_edition(3, run)
+}
+
 /// Seeds and numbers of draws.
 const HAND_SPLIT: (u32, u16) = (319_091_970, 15);
+const HAND_BRANCHES: (u32, u16) = (145_004_844, 69);
 const THRICE: (u32, u16) = (11_339, 133);
 
 pub fn all() -> Vec<Named> {
@@ -66,6 +77,7 @@ pub fn all() -> Vec<Named> {
     for (name, run) in differing() {
         all.push(named(&format!("e3-{name}"), in_edition(3, run).bytes()));
     }
+    all.push(named("e3-hand-branches", hand_branches().bytes()));
     for (name, run) in in_all_editions() {
         for (prefix, edition) in [("v2", 1), ("e2", 2), ("e3", 3)] {
             all.push(named(&format!("{prefix}-{name}"), in_edition(edition, run.clone()).bytes()));
