@@ -78,7 +78,7 @@ fn triples_of_the_corpus() {
             differ.push(name.to_string());
         }
     }
-    assert_eq!(triples, 18);
+    assert_eq!(triples, 19);
     for name in ["differs-thrice", "load-torus-4x4", "load-torus-8x8", "load-ring-one-way-3", "load-star-5"] {
         assert!(differ.contains(&name.to_string()), "{name}: {differ:?}");
     }

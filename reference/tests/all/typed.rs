@@ -31,5 +31,5 @@ fn typed_archives_play_as_typed() {
         assert!(stored == archive, "{name}: the corpus holds other bytes");
         seen += 1;
     }
-    assert_eq!(seen, 43, "typed archives");
+    assert_eq!(seen, 45, "typed archives");
 }

@@ -35,23 +35,23 @@ fn ending(kind: usize, seed: u64) -> Run {
     restricted_runs(seed).find_map(cut).expect("such an end")
 }
 
-/// Two sites: a run worked out by hand in the remarks of corpus/typed, and one whose books differ in all editions, of
+/// Two sites: two runs worked out by hand in the remarks of corpus/typed, and one whose books differ in all editions, of
 /// the fewest draws that a search over seeds found.
 fn in_all_editions() -> Vec<(&'static str, Run)> {
     vec![
         ("hand-split", from_site_0((1, 1), HAND_SPLIT.0, HAND_SPLIT.1, &[(0, 3)])),
+        ("hand-branches", hand_branches()),
         ("differs-thrice", from_site_0((1, 2), THRICE.0, THRICE.1, &[(0, 3), (0, 3)])),
     ]
 }
 
-/// Worked out by hand in the remarks of corpus/typed: a packet splits, the next one goes on whole and is handed. Two
-/// ways from site 0 to site 1, one back.
+/// In edition 3 a packet splits, and the next one goes on whole and is handed. Two ways from site 0 to site 1, one back.
 fn hand_branches() -> Run {
     let mut run = from_site_0((1, 2), HAND_BRANCHES.0, HAND_BRANCHES.1, &[(0, 3), (0, 3)]);
     run.network.channels[1] = 5;
     run.network.routes[1] = 0x1200;
     run.sends.push(Send { draw: 0, site: 1, set: 1 });
-    in_edition(3, run)
+    run
 }
 
 /// Seeds and numbers of draws.
@@ -77,7 +77,6 @@ pub fn all() -> Vec<Named> {
     for (name, run) in differing() {
         all.push(named(&format!("e3-{name}"), in_edition(3, run).bytes()));
     }
-    all.push(named("e3-hand-branches", hand_branches().bytes()));
     for (name, run) in in_all_editions() {
         for (prefix, edition) in [("v2", 1), ("e2", 2), ("e3", 3)] {
             all.push(named(&format!("{prefix}-{name}"), in_edition(edition, run.clone()).bytes()));
