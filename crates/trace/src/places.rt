@@ -3,7 +3,7 @@
 // range stands for its remainder.
 
 use layout::ARRIVED_FROM;
-use layout::COUNTS_PLACE;
+use layout::COUNTS_FROM;
 use layout::LEAVING_FROM;
 use layout::OUTPUTS_FROM;
 use layout::SITE_PLACES;
@@ -64,7 +64,7 @@ pub fn input_at(words: &[u64], s: usize, i: usize) -> Input {
     Input {
         state: fields % 8,
         connection: fields / 8 % 8,
-        marks: fields / 256 % 32,
+        marks: fields / 256 % 64,
         packet: fields / 65536 % 256,
         tries: fields / 16777216 % 256,
     }
@@ -86,7 +86,7 @@ pub fn output_at(words: &[u64], s: usize, j: usize) -> Output {
 
 // The out-queue of site s.
 pub fn leaving_at(words: &[u64], s: usize) -> Leaving {
-    let count = set_at(words, s, COUNTS_PLACE);
+    let count = set_at(words, s, COUNTS_FROM);
     let fields = fields_at(words, s, LEAVING_FROM);
     Leaving {
         count,
@@ -96,7 +96,7 @@ pub fn leaving_at(words: &[u64], s: usize) -> Leaving {
     }
 }
 
-// The packet of the in-queue's front at site s.
-pub fn arrived_at(words: &[u64], s: usize) -> usize {
-    fields_at(words, s, ARRIVED_FROM) / 256 % 256
+// The packet of the front of in-queue m of site s.
+pub fn arrived_at(words: &[u64], s: usize, m: usize) -> usize {
+    fields_at(words, s, ARRIVED_FROM + base::QUEUE * (m % base::IN_QUEUES)) / 256 % 256
 }

@@ -119,11 +119,15 @@ fn add_draw(text: &mut [u8], d: u16, site: usize, code: usize) -> usize {
         return fill(text, begun, b"net-input %: ", [code, 0, 0, 0, 0, 0]);
     }
     let j = code - base::INPUTS;
-    if j < base::OUTPUTS {
+    if j <= base::PORTS {
         return fill(text, begun, b"net-output %: ", [j, 0, 0, 0, 0, 0]);
     }
-    let k = j - base::OUTPUTS;
-    front::add_word(text, begun, b"out-queue: ,operator: ,timeout: ", k)
+    front::add_word(
+        text,
+        begun,
+        b"out-queue: ,operator: ,timeout: ,split output: ,split operator: ",
+        j - base::PORTS - 1,
+    )
 }
 
 // Prints the line of draw d, which changed nothing. Answers whether that was done.
@@ -222,7 +226,7 @@ fn draw_turn(
 ) -> Traced {
     let clock = t.clock;
     let ticked = machine::ticked(clock);
-    let named = draws::event_of(ticked.value, network.sites);
+    let named = draws::event_of(ticked.value, network.sites, network.edition);
     let site = named.site;
     let code = named.code;
     let answer = words::run(network, state, site, code);

@@ -28,14 +28,17 @@ pub fn add_change(
         return add_input(text, at, tries, before, after, s, code);
     }
     let j = code - base::INPUTS;
-    if j < base::OUTPUTS {
+    if j == 0 {
+        return add_arrival(text, at, before, s, 0);
+    }
+    if j <= base::PORTS {
         return add_output(text, at, channel, before, after, s, j);
     }
-    add_queues(text, at, before, after, s, code, answer)
+    add_later(text, at, before, after, s, code, answer)
 }
 
 // The same for the codes from 10 on.
-fn add_queues(
+fn add_later(
     text: &mut [u8],
     at: usize,
     before: &[u64],
@@ -44,13 +47,13 @@ fn add_queues(
     code: usize,
     answer: Ran,
 ) -> usize {
-    if code == 10 {
-        return add_out_queue(text, at, before, after, s);
+    match code {
+        10 => add_out_queue(text, at, before, after, s),
+        11 => add_operator(text, at, before, after, s, 0, answer),
+        12 => add_timeout(text, at, before, after, s),
+        13 => add_arrival(text, at, before, s, base::SPLIT_PORT),
+        _ => add_operator(text, at, before, after, s, 1, answer),
     }
-    if code == 11 {
-        return add_operator(text, at, before, after, s, answer);
-    }
-    add_timeout(text, at, before, after, s)
 }
 
 // ---- codes 0 to 4
@@ -119,19 +122,33 @@ fn add_marked(
     if !sets::member(marks as u64, j) {
         return at;
     }
+    let named = add_output_name(text, at, j);
     let output = places::output_at(after, s, j);
     if are_sets {
-        let values = [j, output.set, 0, 0, 0, 0];
-        return fill(text, at, b", output % gets {", values);
+        return fill(text, named, b" gets {", [output.set, 0, 0, 0, 0, 0]);
     }
-    let values = [j, output.terminator, 0, 0, 0, 0];
-    fill(text, at, b", output % gets &", values)
+    fill(text, named, b" gets &", [output.terminator, 0, 0, 0, 0, 0])
 }
 
-// ---- codes 5 to 9
+fn add_output_name(text: &mut [u8], at: usize, j: usize) -> usize {
+    if j == base::SPLIT_PORT {
+        return report::add_bytes(text, at, b", split output");
+    }
+    fill(text, at, b", output %", [j, 0, 0, 0, 0, 0])
+}
 
-// The packet, or its terminator if the head was taken before, and where it goes: into the in-queue, or through a channel;
-// of an output that was closing, the channel that it gives up.
+// ---- codes 5 to 9, and 13
+
+// What output 0 or the split output delivers into its in-queue.
+fn add_arrival(text: &mut [u8], at: usize, before: &[u64], s: usize, j: usize) -> usize {
+    let carried = add_carried(text, at, before, s, j);
+    if j == base::SPLIT_PORT {
+        return report::add_bytes(text, carried, b" enters the split in-queue");
+    }
+    report::add_bytes(text, carried, b" enters the in-queue")
+}
+
+// What goes through the channel of output j and where; of an output that was closing, the channel that it gives up.
 fn add_output(
     text: &mut [u8],
     at: usize,
@@ -146,9 +163,6 @@ fn add_output(
         return add_given_up(text, at, channel, output.packet);
     }
     let carried = add_carried(text, at, before, s, j);
-    if j == 0 {
-        return report::add_bytes(text, carried, b" enters the in-queue");
-    }
     let passed = add_passed(text, carried, channel, before, after);
     let left = places::output_at(after, s, j);
     if left.closing {
@@ -179,6 +193,7 @@ fn add_given_up(text: &mut [u8], at: usize, channel: usize, packet: usize) -> us
     )
 }
 
+// The packet, or its terminator if the head was taken before.
 fn add_carried(text: &mut [u8], at: usize, before: &[u64], s: usize, j: usize) -> usize {
     let output = places::output_at(before, s, j);
     if output.head {
@@ -188,7 +203,7 @@ fn add_carried(text: &mut [u8], at: usize, before: &[u64], s: usize, j: usize) -
     fill(text, at, b"packet %", [output.packet, 0, 0, 0, 0, 0])
 }
 
-// ---- codes 10 to 12
+// ---- codes 10 to 12, and 14
 
 fn add_out_queue(text: &mut [u8], at: usize, before: &[u64], after: &[u64], s: usize) -> usize {
     let queue = places::leaving_at(before, s);
@@ -201,12 +216,14 @@ fn add_out_queue(text: &mut [u8], at: usize, before: &[u64], after: &[u64], s: u
     fill(text, at, b"packet % starts, net-input 0 $ to $", values)
 }
 
+// The operator of in-queue m.
 fn add_operator(
     text: &mut [u8],
     at: usize,
     before: &[u64],
     after: &[u64],
     s: usize,
+    m: usize,
     answer: Ran,
 ) -> usize {
     let was = places::leaving_at(before, s);
@@ -220,7 +237,7 @@ fn add_operator(
         text,
         at,
         is_requeued,
-        places::arrived_at(before, s),
+        places::arrived_at(before, s, m),
         now.last,
     )
 }

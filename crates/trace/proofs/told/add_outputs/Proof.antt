@@ -3,6 +3,7 @@ use borrow.Author.Needs.{needs}
 use Prim.Native.Nat.{_-_, _≤_}
 use mathlib.Core.Path.{_≡_}
 use lib.ListN.{length}
+use Rattle.base.specs.Sizes.{outputCount}
 use Rattle.trace.proofs.told.add_outputs.Statement.{statement}
 use Rattle.trace.proofs.told.add_outputs.Tie as tie
 use Rattle.trace.proofs.told.add_outputs.Reads as reads
@@ -10,10 +11,10 @@ use Rattle.trace.proofs.told.add_outputs.Lts as lts
 use Rattle.trace.proofs.told.add_marked.Reads as add-marked-reads
 
 abbrev Inv-loop : tie.InvT-loop
-Inv-loop text₀ at marks after s are-sets to₀ j₀ text to j = (length text ≡ length text₀) × (j ≤ 5)
+Inv-loop text₀ at marks after s are-sets to₀ j₀ text to j = (length text ≡ length text₀) × (j ≤ outputCount)
 
 abbrev μ-loop : tie.MeasureT-loop
-μ-loop text₀ at marks after s are-sets to₀ j₀ text to j = 5 - j
+μ-loop text₀ at marks after s are-sets to₀ j₀ text to j = outputCount - j
 
 loop-holds : tie.Need-loop-holds Inv-loop μ-loop
 loop-holds c = search needs
