@@ -54,6 +54,7 @@ while IFS= read -r name || [ -n "$name" ]; do
     [ -f "$folder/${name##*/}.txt" ] || continue
     echo "$name" >>"$folder/names"
     awk -v name="$name" '
+        { sub(", split operator: ", ", operator: ") }
         $1 == "draw" && $5 == "operator:" && $8 == "serviced" {
             sub(":", "", $2); sub(",", "", $11); print $2, $7, $11
         }
