@@ -13,7 +13,7 @@ use lib.Dec.{leb, lit<}
 use lib.Pow.{pow-pos, shr-le}
 use Rattle.base.specs.Bools.{and, cond-ok}
 use Rattle.base.specs.Sizes.{sitesMost, codeCount, splitCodeCount}
-use Rattle.draws.specs.Draws.{leftXor, rightXor, drawn, valueAfter, restricted, codesIn, drawnNumber, drawnSite, drawnCode, eventOf}
+use Rattle.draws.specs.Draws.{leftXor, rightXor, drawn, valueAfter, restricted, codesIn, Shares, drawnNumber, drawnSite, drawnCode, eventOf}
 
 -- ---- values
 
@@ -76,6 +76,13 @@ codes-some edition = by-codes (λ n. codeCount ≤ n) edition (omega arith) (ome
 
 pub codes-most : (edition : ℕ) → codesIn edition ≤ splitCodeCount
 codes-most edition = by-codes (λ n. n ≤ splitCodeCount) edition (omega arith) (omega arith)
+
+-- thirteen codes and fifteen, with their shares
+pub thirteen : Shares codeCount 5042
+thirteen = record { small = omega arith; divides = λ m h. omega arith; rests = λ m. omega arith }
+
+pub fifteen : Shares splitCodeCount 4370
+fifteen = record { small = omega arith; divides = λ m h. omega arith; rests = λ m. omega arith }
 
 pub site-below : (edition S value : ℕ) → 1 ≤ S → drawnSite edition S value < S
 site-below edition S value h =

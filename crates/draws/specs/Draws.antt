@@ -1,6 +1,7 @@
 -- Draws, and the event that a draw names. The quoted phrases are document 01's. Assumes nothing.
 use mathlib.Core.Bool.{Bool, cond, _&&_}
-use Prim.Native.Nat.{ℕ, zero, suc, _*_, _/_, _%_, _^_}
+use mathlib.Core.Path.{_≡_}
+use Prim.Native.Nat.{ℕ, zero, suc, _+_, _*_, _/_, _%_, _^_, _≤_, _<_}
 use lib.Bits.{bitXor}
 use lib.Dec.{eqb, leb}
 use Rattle.base.specs.Sizes.{sitesMost, codeCount, splitCodeCount}
@@ -42,6 +43,13 @@ drawnSite edition S value = drawnNumber edition S value / codesIn edition
 
 abbrev pub drawnCode : ℕ → ℕ → ℕ → ℕ
 drawnCode edition S value = drawnNumber edition S value % codesIn edition
+
+-- what a number of codes and its share of 65536 have to do with each other: a product in the place of the whole division, of every
+-- number that a draw comes to
+pub record Shares (codes share : ℕ) : Type 0 where
+  pub small : share ≤ 65536
+  pub divides : (m : ℕ) → m < splitCodeCount * sitesMost → m * share / 65536 ≡ m / codes
+  pub rests : (m : ℕ) → codes * (m / codes) + m % codes ≡ m
 
 -- the event in a network of S sites; "3 | S, T or D outside its limits", and "A refusal's other numbers are zero."
 unfoldable pub eventOf : ℕ → ℕ → ℕ → DrawnEvent

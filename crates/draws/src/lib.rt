@@ -5,6 +5,11 @@ ghost use Prim.Native.Nat.{_*_, _/_, _%_, _≤_};
 ghost use Rattle.base.specs.Sizes.{sitesMost, codeCount, splitCodeCount};
 ghost use Rattle.draws.specs.Draws as spec;
 
+// 65536 / 13 and 65536 / 15, rounded up.
+const THIRTEENTH: usize = 5042;
+
+const FIFTEENTH: usize = 4370;
+
 // The event RUN (site, code) that a value names; with a refusal other than 0 it names none, and both are 0.
 pub struct DrawnEvent {
     pub refusal: u8,
@@ -39,16 +44,18 @@ pub fn codes_in(edition: u8) -> usize
     }
 }
 
-// The event that a value names among so many sites and codes.
-fn named(value: u32, sites: usize, codes: usize) -> DrawnEvent
-    requires { ⌜ (1 ≤ sites) × (sites ≤ sitesMost) × (codeCount ≤ codes) × (codes ≤ splitCodeCount) ⌝ }
+// The event that a value names among so many sites and codes. The whole division by the codes is a product with their share of
+// 65536: a division by a number that is known only when the program runs would be the dearest part of a draw.
+fn named(value: u32, sites: usize, codes: usize, share: usize) -> DrawnEvent
+    requires { ⌜ (1 ≤ sites) × (sites ≤ sitesMost) × (codeCount ≤ codes) × (codes ≤ splitCodeCount) × spec.Shares codes share ⌝ }
     ensures { λ r. ⌜ r ≡ record { refusal = 0; site = value % (codes * sites) / codes; code = value % (codes * sites) % codes } ⌝ }
 {
     let m = (value as usize) % (codes * sites);
+    let site = m * share / 65536;
     DrawnEvent {
         refusal: 0,
-        site: m / codes,
-        code: m % codes,
+        site,
+        code: m - codes * site,
     }
 }
 
@@ -58,9 +65,9 @@ pub fn event_of(value: u32, sites: usize, edition: u8) -> DrawnEvent
 {
     if (1 <= sites) & (sites <= base::SITES) {
         if is_restricted(edition) {
-            return named(value, sites, base::SPLIT_CODES);
+            return named(value, sites, base::SPLIT_CODES, FIFTEENTH);
         }
-        return named(value, sites, base::CODES);
+        return named(value, sites, base::CODES, THIRTEENTH);
     }
     DrawnEvent {
         refusal: 3,

@@ -8,7 +8,7 @@ use borrow.Author.Tests.{leb-true}
 use lib.Dec.{leb}
 use Rattle.base.specs.Bools.{both}
 use Rattle.base.specs.Sizes.{sitesMost}
-use Rattle.draws.proofs.Laws.{event-named, event-refused}
+use Rattle.draws.proofs.Laws.{thirteen, fifteen, event-named, event-refused}
 use Rattle.draws.proofs.event_of.Statement.{statement}
 use Rattle.draws.proofs.event_of.Tie as tie
 
@@ -20,7 +20,7 @@ is-restricted-requires c κs = search needs
 
 named-requires : tie.Need-named-requires
 named-requires c κs =
-    let l = limits (c .before .before .before .args .sites) (c .before .before .if1 .taken) in (l .0, l .1, omega arith, omega arith)
+    let l = limits (c .before .before .before .args .sites) (c .before .before .if1 .taken) in (l .0, l .1, omega arith, omega arith, fifteen)
 
 returns : tie.Need-returns
 returns c =
@@ -31,7 +31,7 @@ returns c =
 
 named-requires-2 : tie.Need-named-requires-2
 named-requires-2 c κs =
-    let l = limits (c .before .before .before .args .sites) (c .before .before .if1 .taken) in (l .0, l .1, omega arith, omega arith)
+    let l = limits (c .before .before .before .args .sites) (c .before .before .if1 .taken) in (l .0, l .1, omega arith, omega arith, thirteen)
 
 returns-2 : tie.Need-returns-2
 returns-2 c =
