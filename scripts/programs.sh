@@ -303,7 +303,7 @@ cd "$work/desk" || exit 2
 tried=$((tried + 1))
 sed '$d' "$root/crates/batch/stdout" | cmp -s - "$got/out" || say 'the slices are not the whole'
 awk '{ s += $1; f += $2; p += $3; r += $4; u += $5 } END { print s, f, p, r, u }' "$got/slices.numbers" >"$got/numbers"
-same 'the numbers of the slices' numbers '12 449 242 203 4'
+same 'the numbers of the slices' numbers '11 449 242 203 4'
 printf 'r.bin\nnone.bin\n%s\nshort.bin\n' "$long" >list
 call "$batch" --front desk --slice 3 1 <list
 expect 'a slice behind a long name' 'short.bin: refused 1' '' '1 1 0 1 0'
