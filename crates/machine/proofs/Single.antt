@@ -52,7 +52,8 @@ module _ (n : Network) (st : State) where
     unfolding ran runRefusal
     run-shared k e ne = rw (shared (runFault n s code) (λ z. ne (e ∙ z)), ← e, ne-eqb k 0 ne) refl
 
-    pub run-none : refusalThen n st 0 ≡ 0 → (ltb s (n .sites) && ltb code (codesIn (n .edition))) ≡ false → record { answer = RunRefused 9; state = st } ≡ ran n st s code
+    pub run-none : refusalThen n st 0 ≡ 0 → (ltb s (n .sites) && ltb code (codesIn (n .edition))) ≡ false
+        → record { answer = RunRefused 9; state = st } ≡ ran n st s code
     unfolding ran runRefusal
     run-none h e = rw (alone (runFault n s code) h, e) refl
 
