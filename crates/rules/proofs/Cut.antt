@@ -16,7 +16,7 @@ use Rattle.model.specs.NetInput.{Stay, give}
 use Rattle.model.specs.Places.{lastLacks, stalled, cutOff, cutAt}
 use Rattle.rules.specs.Turns.{givenAt, cuts, cutPhase, cutIf}
 
-cut-at : (y : Input) (os : List Output) (ph : Phase) → cutAt y os ph ≡ cond (cuts ph) (cutOff y os (cutPhase ph)) Stay
+pub cut-at : (y : Input) (os : List Output) (ph : Phase) → cutAt y os ph ≡ cond (cuts ph) (cutOff y os (cutPhase ph)) Stay
 unfolding cutAt
 cut-at y os Free = refl
 cut-at y os Seek = refl

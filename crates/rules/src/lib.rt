@@ -31,6 +31,7 @@ pub use queues::push_out;
 pub use router::Choice;
 pub use router::route_in;
 pub use router::route_packet;
+pub use timeout::can_cut;
 pub use timeout::time_out;
 pub use work::OperatorTurn;
 pub use work::operator;

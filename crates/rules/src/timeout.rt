@@ -11,8 +11,8 @@ use types::Output;
 use types::Phase;
 use types::Terminator;
 
-// Whether a net-input is open, wait, done or last with connection 3 or 4.
-fn can_cut(phase: Phase) -> bool
+// Whether a net-input is open, wait, done or last with connection 3 or 4: no timeout changes another.
+pub fn can_cut(phase: Phase) -> bool
     ensures { λ r. ⌜ r ≡ cuts phase ⌝ }
 {
     match phase {

@@ -10,6 +10,7 @@ use Rattle.rules.proofs.empty_output as the-empty-output
 use Rattle.rules.proofs.free_input as the-free-input
 use Rattle.rules.proofs.held_terminator as the-held-terminator
 use Rattle.rules.proofs.is_listening as the-is-listening
+use Rattle.rules.proofs.can_cut as the-can-cut
 use Rattle.rules.proofs.channel_output as the-channel-output
 use Rattle.rules.proofs.local_output as the-local-output
 use Rattle.rules.proofs.out_queue as the-out-queue
@@ -57,6 +58,9 @@ route-in-settled = settled (λ κs a x y p q. refl) (λ κs a x y p q i. (same p
 
 pub route-packet-settled : Settles the-route-packet.ended (λ M. the-route-packet.clauses) (λ M. the-route-packet.spec)
 route-packet-settled = settled (λ κs a x y p q. refl) (λ κs a x y p q i. (same p q i, x .1))
+
+pub can-cut-settled : Settles the-can-cut.ended (λ M. the-can-cut.clauses) (λ M. the-can-cut.spec)
+can-cut-settled = settled (λ κs a x y p q. refl) (λ κs a x y p q i. (same p q i, x .1))
 
 pub time-out-settled : Settles the-time-out.ended (λ M. the-time-out.clauses) (λ M. the-time-out.spec)
 time-out-settled = settled (λ κs a x y p q. refl) (λ κs a x y p q i. (same p q i, x .1))
