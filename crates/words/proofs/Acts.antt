@@ -1,7 +1,7 @@
 -- What RUN decides and what its code has stored. Assumes what each law names.
 use mathlib.Core.Path.{_≡_, refl, sym, ap, ap₂, subst, _∙_}
 use mathlib.Core.List.{List}
-use mathlib.Core.Bool.{Bool, true, false, not, _||_, or-true}
+use mathlib.Core.Bool.{Bool, true, false, cond, not, _&&_, _||_, or-true}
 use Prim.Native.Nat.{ℕ, suc, _+_, _<_}
 use native.Mathlib.Numerals.{add-one}
 use borrow.Author.Tests.{eq-eqb}
@@ -17,17 +17,17 @@ use Rattle.types.specs.declared.Network.{Network}
 use Rattle.types.specs.declared.Ran.the-variants.{the-data as Ran, Nothing, Changed, Serviced}
 use Rattle.types.specs.Phases.{isNone}
 use Rattle.draws.specs.Draws.{restricted}
-use Rattle.model.specs.Types.{inAt, outAt, queueAt, inEntry, queuePort, setSite, setIn, setOut, setQueue, withOutQueue}
+use Rattle.model.specs.Types.{inAt, outOf, outAt, queueAt, inEntry, queuePort, setSite, setIn, setOut, setQueue, withOutQueue}
 use Rattle.model.specs.Network.{channel, isChannel}
 use Rattle.model.specs.NetInput.{Turn, Stay, To}
-use Rattle.model.specs.Places.{Work, Rest, Cleared, Service, localOutput, channelOutput, outQueue, operator, timeout, stalled}
+use Rattle.model.specs.Places.{Work, Rest, Cleared, Service, localOutput, channelOutput, outQueue, operator, timeout, lastLacks, stalled}
 use Rattle.model.specs.Steps.{Act, Idle, Own, Serve, Pass, ownTurn, passTurn, workDone, setBoth, farEnd, setFar}
 use Rattle.rules.specs.declared.inputs.InputTurn.{InputTurn}
 use Rattle.rules.specs.declared.places.LocalTurn.{LocalTurn}
 use Rattle.rules.specs.declared.places.ChannelTurn.{ChannelTurn}
 use Rattle.rules.specs.declared.places.QueueTurn.{QueueTurn}
 use Rattle.rules.specs.declared.work.OperatorTurn.{OperatorTurn}
-use Rattle.rules.specs.Turns.{ofLocalTurn, ofChannelTurn, ofQueueTurn, ofWork, ofInputTurn}
+use Rattle.rules.specs.Turns.{ofLocalTurn, ofChannelTurn, ofQueueTurn, ofWork, ofInputTurn, cuts}
 use Rattle.layout.specs.Layout.{wordCount}
 use Rattle.layout.specs.Words.{sitesOf}
 use Rattle.layout.specs.Stored.{Stored}
@@ -38,6 +38,7 @@ use Rattle.words.specs.Events.{localBack, channelBack, queueBack, inputB
 use Rattle.words.specs.Marked.{masked, mergedTurn, cutting}
 use Rattle.layout.proofs.Chained.{stays}
 use Rattle.layout.proofs.Rests.{local-rests, queue-rests, operator-rests, timeout-rests, channel-rests}
+use Rattle.rules.proofs.Cut.{cut-at}
 use Rattle.theorems.proofs.Editions.{unjoined}
 use Rattle.words.proofs.MarkedLaws.{timeout-merged}
 use Rattle.words.proofs.MarkedStores.{outputs-of, marks-of}
@@ -59,6 +60,19 @@ pub timeout-idle : (edition : ℕ) (x : Site) → (restricted edition || not (st
 timeout-idle edition x h =
     ap (ownTurn (setBoth x (outAt x 0 .input)))
     (timeout-rests edition (queueAt x 0) (x .outputs) (inAt x (outAt x 0 .input)) h)
+
+-- a net-input that no timeout cuts
+uncut : (edition : ℕ) (iq : InQueue) (os : List Output) (y : Input) → cuts (y .phase) ≡ false → timeout edition iq os y ≡ Stay
+uncut edition iq os y h = rw (cut-at y os (y .phase), h) (stay (restricted edition) (lastLacks iq && stalled (outOf os 0)))
+  where
+    stay : (a b : Bool) → cond {A = Turn Input (List Output)} a Stay (cond b Stay Stay) ≡ Stay
+    stay true b = refl
+    stay false true = refl
+    stay false false = refl
+
+pub timeout-uncut : (edition : ℕ) (x : Site) → cuts (inAt x (outAt x 0 .input) .phase) ≡ false → timeoutAct edition x ≡ Idle
+timeout-uncut edition x h =
+    ap (ownTurn (setBoth x (outAt x 0 .input))) (uncut edition (queueAt x 0) (x .outputs) (inAt x (outAt x 0 .input)) h)
 
 -- an output 1 to 4 without a channel
 pub pass-none : (edition : ℕ) (o : Output) (y : Input) (b : ℕ) → isChannel b ≡ false
@@ -185,6 +199,13 @@ module _ (c : List ℕ) (s : ℕ) (h : length c ≡ wordCount) where
   timeout-none edition e n =
       did-nothing n c s (timeoutAct edition z) h
       (timeout-idle edition z (ap (λ (b : Bool). restricted edition || not b) e ∙ or-true (restricted edition)))
+
+  pub timeout-spared : (edition i : ℕ) (y : Input) → i ≡ outAt z 0 .input → y ≡ inAt z i → cuts (y .phase) ≡ false
+      → DidOwn c c s Nothing (timeoutAct edition z)
+  timeout-spared edition i y e f k n =
+      did-nothing n c s (timeoutAct edition z) h
+      (timeout-uncut edition z
+      (ap (λ (m : ℕ). cuts (inAt z m .phase)) (sym e) ∙ ap (λ (u : Input). cuts (u .phase)) (sym f) ∙ k))
 
   module _ (edition j b : ℕ) where
     abbrev t : Turn Output Input

@@ -1,13 +1,14 @@
 -- RUN's arms by the code number, and what an arm asks of the words. Assumes what each law names.
 use mathlib.Core.Path.{_≡_, refl}
+use mathlib.Core.Logic.{_⊎_, inl, inr}
 use mathlib.Core.List.{List}
 use mathlib.Core.Bool.{false}
-use Prim.Native.Nat.{ℕ, zero, suc, _-_, _<_}
+use Prim.Native.Nat.{ℕ, suc, _-_, _*_, _/_, _≤_, _<_}
 use native.Mathlib.Omega.{arith}
 use borrow.Author.Tests.{lt-ltb, le-ltb, le-leb, ne-eqb}
 use lib.Dec.{eqb}
 use lib.ListN.{length}
-use Rattle.base.specs.Sizes.{sitesMost, inputCount, inQueueCount}
+use Rattle.base.specs.Sizes.{sitesMost, inputCount, inQueueCount, codeCount}
 use Rattle.types.specs.declared.Input.{Input}
 use Rattle.types.specs.declared.Network.{Network}
 use Rattle.types.specs.declared.Site.{Site}
@@ -32,14 +33,25 @@ module _ (version edition S D T : ℕ) (l m c : List ℕ) (s : ℕ) (ok : RunAsk
   seekable i h =
       record { site = ok .site; few = ok .few; words = ok .words; routes = ok .routes; set = λ e. ok .sought i h e }
 
--- the codes of the output that fills in-queue q, and of the operator there
-abbrev pub localCode : ℕ → ℕ
-localCode zero = 5
-localCode (suc q) = 13
+-- an arm of two codes serves both in-queues, that of the split output by the code beyond thirteen
+pub which-queue : {j k : ℕ} (code : ℕ) → (code ≡ j) ⊎ (code ≡ k) → j < 2 * codeCount → k < 2 * codeCount
+    → code / codeCount < inQueueCount
+which-queue code (inl e) hj hk = omega (arith, e, hj)
+which-queue code (inr e) hj hk = omega (arith, e, hk)
 
-abbrev pub operatorCode : ℕ → ℕ
-operatorCode zero = 11
-operatorCode (suc q) = 14
+-- the codes that are in no arm of single ones: 6 to 9 behind the net-inputs, and none behind 14
+next-code : (code m : ℕ) → (code ≡ m → ⊥) → m ≤ code → m < code
+next-code code m e h = omega arith
+
+pub past-local : (code : ℕ) → ((code ≡ 5) ⊎ (code ≡ 13) → ⊥) → 5 ≤ code → 5 < code
+past-local code locals h = next-code code 5 (λ e. locals (inl e)) h
+
+pub past-all : (code : ℕ) → ((code ≡ 5) ⊎ (code ≡ 13) → ⊥) → (code ≡ 10 → ⊥) → ((code ≡ 11) ⊎ (code ≡ 14) → ⊥) → (code ≡ 12 → ⊥)
+    → 10 ≤ code → 14 < code
+past-all code locals queue operators timeout h =
+    next-code code 14 (λ e. operators (inr e))
+    (next-code code 13 (λ e. locals (inr e))
+    (next-code code 12 timeout (next-code code 11 (λ e. operators (inl e)) (next-code code 10 queue h))))
 
 -- ---- an arm by its code
 
@@ -54,11 +66,10 @@ module _ (n : Network) (c d : List ℕ) (s : ℕ) (r : Ran) (code : ℕ) where
   unfolding act
   by-input h p = rw (lt-ltb code 5 h) p
 
-  pub by-local : (q : ℕ) → q < inQueueCount → code ≡ localCode q → Did n c d s r (localAct (n .depth) x q) → Did n c d s r (act n s x far code)
+  pub by-local : (code ≡ 5) ⊎ (code ≡ 13) → Did n c d s r (localAct (n .depth) x (code / codeCount)) → Did n c d s r (act n s x far code)
   unfolding act netOutput
-  by-local zero h e p = rw e p
-  by-local (suc zero) h e p = rw e p
-  by-local (suc (suc q)) h e p = absurd (omega arith)
+  by-local (inl e) p = rw e (rw e at p)
+  by-local (inr e) p = rw e (rw e at p)
 
   pub by-channel : 5 < code → code < 10
       → DidPass c d s r (code - 6) (channel n s (suc (code - 6)))
@@ -74,12 +85,11 @@ module _ (n : Network) (c d : List ℕ) (s : ℕ) (r : Ran) (code : ℕ) where
   unfolding act
   by-queue e p = rw e p
 
-  pub by-operator : (q : ℕ) → q < inQueueCount → code ≡ operatorCode q → Did n c d s r (operatorAct (n .depth) s x q)
+  pub by-operator : (code ≡ 11) ⊎ (code ≡ 14) → Did n c d s r (operatorAct (n .depth) s x (code / codeCount))
       → Did n c d s r (act n s x far code)
   unfolding act
-  by-operator zero h e p = rw e p
-  by-operator (suc zero) h e p = rw e p
-  by-operator (suc (suc q)) h e p = absurd (omega arith)
+  by-operator (inl e) p = rw e (rw e at p)
+  by-operator (inr e) p = rw e (rw e at p)
 
   pub by-timeout : code ≡ 12 → Did n c d s r (timeoutAct (n .edition) x) → Did n c d s r (act n s x far code)
   unfolding act

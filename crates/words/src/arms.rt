@@ -32,6 +32,7 @@ use crate::turns::local_turn;
 use crate::turns::operator_turn;
 use crate::turns::queue_turn;
 use crate::turns::timeout_turn;
+use rules::can_cut;
 use types::Ran;
 
 // Whether net-output j has nothing to do: it is empty, or its head is taken and its terminator has not come.
@@ -118,10 +119,14 @@ pub(crate) fn timeout_in_place(edition: u8, words: &mut [u64], s: usize) -> Ran
     if is_stalled(words, s, 0) {
         let i = feeder_of(words, s);
         let input = load_input(words, s, i);
-        let connected = input.outputs;
-        let marks = cutting(connected);
-        let turn = timeout_turn(edition, words, s, marks, input);
-        return put_input(words, s, i, marks, turn);
+        let phase = input.phase;
+        if can_cut(phase) {
+            let connected = input.outputs;
+            let marks = cutting(connected);
+            let turn = timeout_turn(edition, words, s, marks, input);
+            return put_input(words, s, i, marks, turn);
+        }
+        return Ran::Nothing;
     }
     Ran::Nothing
 }

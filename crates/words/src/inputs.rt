@@ -45,7 +45,7 @@ fn is_heard(words: &[u64], channel: u16) -> bool
     (number == 2) | (number == 6)
 }
 
-// Whether output j + 1 is marked and ready; it is looked at only where it is marked.
+// Whether output j + 1 is marked and ready; a branch by the mark would cost more than the look at it.
 fn is_ready(channels: &[u16], words: &[u64], s: usize, j: usize, marked: bool) -> bool
     requires { ⌜
         (s < sitesMost) × (j < portCount) × (length (now channels) ≡ endCount) × (length (now words) ≡ wordCount) ×
@@ -53,13 +53,10 @@ fn is_ready(channels: &[u16], words: &[u64], s: usize, j: usize, marked: bool) -
         ⌝ }
     ensures { λ r. ⌜ r ≡ (marked && spec.readyAt (now (channels .entry)) (sitesOf (now (words .entry))) s j) ⌝ }
 {
-    if marked {
-        let channel = channels[base::PORTS * s + j];
-        let taken = is_taken(words, s, j + 1);
-        let heard = is_heard(words, channel);
-        return taken & heard;
-    }
-    false
+    let channel = channels[base::PORTS * s + j];
+    let taken = is_taken(words, s, j + 1);
+    let heard = is_heard(words, channel);
+    marked & (taken & heard)
 }
 
 // Whether the split output is marked and ready.

@@ -37,7 +37,7 @@ pub(crate) fn run_in_place(
 {
     match code {
         0..=4 => input_in_place(edition, channels, routes, sites, tries, words, s, code),
-        5 => local_in_place(depth, words, s, 0),
+        5 | 13 => local_in_place(depth, words, s, code / base::CODES),
         6..=9 => channel_in_place(
             edition,
             words,
@@ -46,10 +46,8 @@ pub(crate) fn run_in_place(
             channels[base::PORTS * s + (code - 6)],
         ),
         10 => queue_in_place(words, s),
-        11 => operator_in_place(depth, words, s, 0),
+        11 | 14 => operator_in_place(depth, words, s, code / base::CODES),
         12 => timeout_in_place(edition, words, s),
-        13 => local_in_place(depth, words, s, 1),
-        14 => operator_in_place(depth, words, s, 1),
         _ => Ran::Nothing,
     }
 }

@@ -32,15 +32,11 @@ is-taken-requires c κs = search needs
 
 -- src/inputs.rt:59:13
 is-heard-requires : tie.Need-is-heard-requires
-is-heard-requires c κs = (search needs, λ e. c .before .before .before .before .before .pre .4 _ (search needs) e)
-
--- src/inputs.rt:60:9
-returns : tie.Need-returns
-returns c = rw (c .before .before .before .if1 .taken, c .is-heard .ensures, c .before .is-taken .ensures)
+is-heard-requires c κs = (search needs, λ e. c .before .before .before .before .pre .4 _ (search needs) e)
 
 -- src/inputs.rt:49:1
-returns-2 : tie.Need-returns-2
-returns-2 c = search needs
+returns : tie.Need-returns
+returns c = rw (c .is-heard .ensures, c .before .is-taken .ensures)
 
 pub is-ready-spec : {M : Type 1} → statement M
 is-ready-spec =
@@ -53,5 +49,4 @@ is-ready-spec =
     add-is-taken
     is-taken-requires
     is-heard-requires
-    returns
-    returns-2)
+    returns)

@@ -2,6 +2,7 @@ use Prim.Native.Nat.{ℕ, _-_, _<_}
 use native.Mathlib.Omega.{arith}
 use Rattle.base.specs.Sizes.{portCount}
 use Rattle.words.proofs.Codes.{by-input, by-local, by-channel, by-queue, by-operator, by-timeout, by-none, seekable}
+use Rattle.words.proofs.Codes.{which-queue, past-local, past-all}
 use native.Mathlib.Omega.{arith}
 use borrow.Author.Needs.{needs}
 use Rattle.words.proofs.runs.run_in_place.Statement.{statement}
@@ -20,7 +21,13 @@ port-below code h = omega arith
 
 -- src/runs.rt:40:14
 local-in-place-requires : tie.Need-local-in-place-requires
-local-in-place-requires c κs = search needs
+local-in-place-requires c κs =
+    let here = c .before .before .before .before .before in
+    let p = here .pre in (
+      omega (arith, p .site, p .few),
+      which-queue (here .args .code) (c .before .match .keys1) (omega arith) (omega arith),
+      p .words,
+    )
 
 -- src/runs.rt:48:15
 queue-in-place-requires : tie.Need-queue-in-place-requires
@@ -28,19 +35,17 @@ queue-in-place-requires c κs = search needs
 
 -- src/runs.rt:49:15
 operator-in-place-requires : tie.Need-operator-in-place-requires
-operator-in-place-requires c κs = search needs
+operator-in-place-requires c κs =
+    let here = c .before .before .before .before .before in
+    let p = here .pre in (
+      omega (arith, p .site, p .few),
+      which-queue (here .args .code) (c .before .match .keys3) (omega arith) (omega arith),
+      p .words,
+    )
 
 -- src/runs.rt:50:15
 timeout-in-place-requires : tie.Need-timeout-in-place-requires
 timeout-in-place-requires c κs = search needs
-
--- src/runs.rt:51:15
-local-in-place-requires-2 : tie.Need-local-in-place-requires-2
-local-in-place-requires-2 c κs = search needs
-
--- src/runs.rt:52:15
-operator-in-place-requires-2 : tie.Need-operator-in-place-requires-2
-operator-in-place-requires-2 c κs = search needs
 
 -- src/runs.rt:39:18
 input-in-place-requires : tie.Need-input-in-place-requires
@@ -59,7 +64,10 @@ input-in-place-requires c κs =
 
 -- src/runs.rt:45:13
 sub-channel-in-place : tie.Need-sub-channel-in-place
-sub-channel-in-place c = search needs
+sub-channel-in-place c =
+    let tested = c .before in
+    let here = tested .before .before .before .before .before .before in
+    omega (arith, past-local (here .args .code) (tested .before .before .match .rest .0 .0 .0 .1) (tested .before .if1 .left))
 
 -- src/runs.rt:46:22
 mul-channel-in-place : tie.Need-mul-channel-in-place
@@ -67,7 +75,10 @@ mul-channel-in-place c = search needs
 
 -- src/runs.rt:46:41
 sub-channel-in-place-2 : tie.Need-sub-channel-in-place-2
-sub-channel-in-place-2 c = search needs
+sub-channel-in-place-2 c =
+    let tested = c .before in
+    let here = tested .before .before .before .before .before .before in
+    omega (arith, past-local (here .args .code) (tested .before .before .match .rest .0 .0 .0 .1) (tested .before .if1 .left))
 
 -- src/runs.rt:46:22
 add-channel-in-place : tie.Need-add-channel-in-place
@@ -106,7 +117,7 @@ same-length c = search needs
 
 -- src/runs.rt:15:1
 returns : tie.Need-returns
-returns c = by-local _ _ _ _ _ _ 0 (omega arith) (c .before .before .before .before .match .keys1) (c .before .before .local-in-place .ensures _)
+returns c = by-local _ _ _ _ _ _ (c .before .before .before .before .match .keys1) (c .before .before .local-in-place .ensures _)
 
 -- src/runs.rt:15:1
 same-length-2 : tie.Need-same-length-2
@@ -122,7 +133,7 @@ same-length-3 c = search needs
 
 -- src/runs.rt:15:1
 returns-3 : tie.Need-returns-3
-returns-3 c = by-operator _ _ _ _ _ _ 0 (omega arith) (c .before .before .before .before .match .keys3) (c .before .before .operator-in-place .ensures _)
+returns-3 c = by-operator _ _ _ _ _ _ (c .before .before .before .before .match .keys3) (c .before .before .operator-in-place .ensures _)
 
 -- src/runs.rt:15:1
 same-length-4 : tie.Need-same-length-4
@@ -138,7 +149,7 @@ same-length-5 c = search needs
 
 -- src/runs.rt:15:1
 returns-5 : tie.Need-returns-5
-returns-5 c = by-local _ _ _ _ _ _ 1 (omega arith) (c .before .before .before .before .match .keys5) (c .before .before .local-in-place2 .ensures _)
+returns-5 c = by-input _ _ _ _ _ _ (omega arith) (c .before .before .input-in-place .ensures _ _)
 
 -- src/runs.rt:15:1
 same-length-6 : tie.Need-same-length-6
@@ -146,27 +157,18 @@ same-length-6 c = search needs
 
 -- src/runs.rt:15:1
 returns-6 : tie.Need-returns-6
-returns-6 c = by-operator _ _ _ _ _ _ 1 (omega arith) (c .before .before .before .before .match .keys6) (c .before .before .operator-in-place2 .ensures _)
-
--- src/runs.rt:15:1
-same-length-7 : tie.Need-same-length-7
-same-length-7 c = search needs
+returns-6 c =
+    let tested = c .before .before .before .before .before in
+    let here = tested .before .before .before .before .before .before in
+    by-channel _ _ _ _ _ _ (past-local (here .args .code) (tested .before .before .match .rest .0 .0 .0 .1) (tested .before .if1 .left))
+    (tested .if2 .taken) (c .before .before .channel-in-place .ensures)
 
 -- src/runs.rt:15:1
 returns-7 : tie.Need-returns-7
-returns-7 c = by-input _ _ _ _ _ _ (omega arith) (c .before .before .input-in-place .ensures _ _)
-
--- src/runs.rt:15:1
-same-length-8 : tie.Need-same-length-8
-same-length-8 c = search needs
-
--- src/runs.rt:15:1
-returns-8 : tie.Need-returns-8
-returns-8 c = by-channel _ _ _ _ _ _ (omega arith) (omega arith) (c .before .before .channel-in-place .ensures)
-
--- src/runs.rt:15:1
-returns-9 : tie.Need-returns-9
-returns-9 c = by-none _ _ _ _ (search needs) (omega arith)
+returns-7 c =
+    let here = c .before .before .before .before .before .before in
+    let no = c .before .before .match .rest in
+    by-none _ _ _ _ (search needs) (past-all (here .args .code) (no .0 .0 .0 .1) (no .0 .0 .1) (no .0 .1) (no .1) (c .if2 .left))
 
 pub run-in-place-spec : {M : Type 1} → statement M
 run-in-place-spec =
@@ -176,8 +178,6 @@ run-in-place-spec =
     queue-in-place-requires
     operator-in-place-requires
     timeout-in-place-requires
-    local-in-place-requires-2
-    operator-in-place-requires-2
     input-in-place-requires
     sub-channel-in-place
     mul-channel-in-place
@@ -198,8 +198,4 @@ run-in-place-spec =
     returns-5
     same-length-6
     returns-6
-    same-length-7
-    returns-7
-    same-length-8
-    returns-8
-    returns-9)
+    returns-7)
