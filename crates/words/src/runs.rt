@@ -11,7 +11,8 @@ use crate::arms::timeout_in_place;
 use crate::inputs::input_in_place;
 use types::Ran;
 
-// RUN (s, code) on the words of a state in range of a valid network, handed in by its parts.
+// RUN (s, code) on the words of a state in range of a valid network, handed in by its parts. The whole division of 5, 11, 13 and 14 by
+// the codes of editions 1 and 2 is the number of the in-queue that the arm serves.
 pub(crate) fn run_in_place(
     channels: &[u16],
     routes: &[u16],

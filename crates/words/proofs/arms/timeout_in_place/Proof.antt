@@ -49,9 +49,11 @@ timeout-turn-requires c κs = search needs
 -- src/arms.rt:127:13
 put-input-requires : tie.Need-put-input-requires
 put-input-requires c κs =
-    let fed = c .before .before .before .before .before .before .before .before .before in
-    let here = fed .before .before .before .before .before .before .before .before in
-    (search needs, rw (fed .feeder-of .ensures) (here .pre .2), search needs)
+    let cut = c .before .before .before in
+    let fed = cut .before .before .before .before .before .before in
+    let tested = fed .before .before .before in
+    let start = tested .before .before .before .before .before in
+    (search needs, rw (fed .feeder-of .ensures) (start .pre .2), search needs)
 
 -- src/arms.rt:127:13
 same-length : tie.Need-same-length
@@ -62,7 +64,8 @@ returns-2 : tie.Need-returns-2
 returns-2 c =
     let cut = c .before .before .before .before .before .before in
     let fed = cut .before .before .before .before .before .before in
-    let start = fed .before .before .before .before .before .before .before .before in
+    let tested = fed .before .before .before in
+    let start = tested .before .before .before .before .before in
     timeout-done _ _ _ _ (start .args .edition) _ _ _ (start .pre .0) (search needs) (fed .feeder-of .ensures)
     (cut .before .before .before .before .load-input .ensures) (cut .cutting .ensures) _
     (c .before .before .before .before .timeout-turn .ensures) (c .before .before .put-input .ensures)
@@ -75,7 +78,8 @@ same-length-2 c = search needs
 returns-3 : tie.Need-returns-3
 returns-3 c =
     let fed = c .before .before .before .before in
-    let start = fed .before .before .before .before .before .before .before .before in
+    let tested = fed .before .before .before in
+    let start = tested .before .before .before .before .before in
     timeout-spared _ _ (search needs) (start .args .edition) _ _ (fed .feeder-of .ensures) (c .before .before .load-input .ensures)
     (sym (c .before .can-cut .ensures) ∙ c .if3 .left)
 

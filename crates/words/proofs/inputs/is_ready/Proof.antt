@@ -6,31 +6,31 @@ use Rattle.words.proofs.inputs.is_ready.Lts as lts
 use Rattle.words.proofs.inputs.is_heard.Reads as is-heard-reads
 use Rattle.words.proofs.load.is_taken.Reads as is-taken-reads
 
--- src/inputs.rt:57:32
+-- src/inputs.rt:56:28
 mul-channel : tie.Need-mul-channel
 mul-channel c = search needs
 
--- src/inputs.rt:57:32
+-- src/inputs.rt:56:28
 add-channel : tie.Need-add-channel
 add-channel c = search needs
 
--- src/inputs.rt:57:23
+-- src/inputs.rt:56:19
 mul-channel-2 : tie.Need-mul-channel-2
 mul-channel-2 c = search needs
 
--- src/inputs.rt:57:23
+-- src/inputs.rt:56:19
 shared-slice-read-channel : tie.Need-shared-slice-read-channel
 shared-slice-read-channel c = search needs
 
--- src/inputs.rt:58:40
+-- src/inputs.rt:57:36
 add-is-taken : tie.Need-add-is-taken
 add-is-taken c = search needs
 
--- src/inputs.rt:58:13
+-- src/inputs.rt:57:9
 is-taken-requires : tie.Need-is-taken-requires
 is-taken-requires c κs = search needs
 
--- src/inputs.rt:59:13
+-- src/inputs.rt:58:9
 is-heard-requires : tie.Need-is-heard-requires
 is-heard-requires c κs = (search needs, λ e. c .before .before .before .before .pre .4 _ (search needs) e)
 
