@@ -1,10 +1,10 @@
 #!/bin/sh
 # Single events through the product and the second model: makes COUNT cases (3000) of the first form, WIDE (400) of the
-# second in edition 1, HELD (400) in edition 2 and RESTRICTED (400) in edition 3 from SEED (1) with the second model,
-# replays them with the proved program target/bin/singles (run as scripts/program.sh says) and compares what both print,
-# byte by byte.
+# second in edition 1, HELD (400) in edition 2, RESTRICTED (400) in edition 3 and ASKED (400) in every edition, with the
+# outputs in the way, from SEED (1) with the second model, replays them with the proved program target/bin/singles (run
+# as scripts/program.sh says) and compares what both print, byte by byte.
 # Prints one line; fails at any difference, and leaves the texts in target/singles/. Run it after `rt ci` or `rt check`.
-# usage: scripts/singles.sh [COUNT] [SEED] [WIDE] [HELD] [RESTRICTED]. It needs cargo; nothing is fetched.
+# usage: scripts/singles.sh [COUNT] [SEED] [WIDE] [HELD] [RESTRICTED] [ASKED]. It needs cargo; nothing is fetched.
 set -eu
 export LC_ALL=C
 root=$(CDPATH= cd -- "$(dirname -- "$0")/.." && pwd)
@@ -14,6 +14,7 @@ seed=${2:-1}
 wide=${3:-400}
 held=${4:-400}
 restricted=${5:-400}
+asked=${6:-400}
 program="$root/target/bin/singles"
 texts="$root/target/singles"
 
@@ -28,7 +29,7 @@ if ! can_run "$program"; then
 fi
 (cd "$root/reference" && cargo build --release --offline --quiet)
 mkdir -p "$texts"
-"$CARGO_TARGET_DIR/release/cases" "$seed" "$count" "$wide" "$held" "$restricted" \
+"$CARGO_TARGET_DIR/release/cases" "$seed" "$count" "$wide" "$held" "$restricted" "$asked" \
     "$texts/cases" "$texts/expected" > "$texts/counters"
 if ! run "$program" < "$texts/cases" > "$texts/printed"; then
     echo "singles: target/bin/singles failed on target/singles/cases" >&2
@@ -41,4 +42,5 @@ if ! cmp -s "$texts/expected" "$texts/printed"; then
     exit 1
 fi
 passed=$(awk '/not refused/ { print $1 + $2 + $3 + $4 }' "$texts/counters")
-echo "singles: $count, $wide, $held and $restricted single events of seed $seed, $passed of them not refused, 0 differences"
+echo "singles: $count, $wide, $held, $restricted and $asked single events of seed $seed, $passed of them not refused," \
+    "0 differences"

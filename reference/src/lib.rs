@@ -25,3 +25,4 @@ pub mod step;
 pub mod text;
 pub mod trace;
 pub mod watch;
+pub mod why;

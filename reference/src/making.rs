@@ -1,5 +1,6 @@
 //! Making things to test with: networks, runs, damaged archives, states. Everything follows from a seed.
 
+pub mod asked;
 pub mod branches;
 pub mod cases;
 pub mod clauses;

@@ -1,7 +1,7 @@
 //! The router: which empty outputs of a site a packet gets, and under which connection.
 //!
-//! It reads the network and the outputs that are empty, and changes nothing. The set is a target set. A closing output is
-//! in use, and serves nobody.
+//! It reads the network and the outputs that are empty, and changes nothing. The set is a target set. A closing output
+//! is in use, and serves nobody.
 
 use crate::network::{ports, Wiring, OUTPUTS, SPLIT};
 use crate::sets::{has, members, only, without, Set};
@@ -39,8 +39,7 @@ fn whole(connection: Connection, port: usize, set: Set) -> Choice {
 
 impl Request<'_> {
     pub fn decide(&self, watch: &mut impl Watch) -> Verdict {
-        let found = if self.set.is_power_of_two() { self.unicast(watch) } else { self.multicast(watch) };
-        if let Some(choice) = found {
+        if let Some(choice) = self.found(watch) {
             return Verdict::Connect(choice);
         }
         if self.tries < self.wiring.tries {
@@ -56,6 +55,28 @@ impl Request<'_> {
         }
         watch.saw(Rule::FailedAtT);
         Verdict::Fail
+    }
+
+    /// What the rules find, the handed rule left aside.
+    #[inline]
+    fn found(&self, watch: &mut impl Watch) -> Option<Choice> {
+        if self.set.is_power_of_two() {
+            self.unicast(watch)
+        } else {
+            self.multicast(watch)
+        }
+    }
+
+    /// At a failure the outputs whose emptying would each, alone, have let this packet connect, the handed rule left
+    /// aside; else none. Bit p is output p.
+    pub fn blocking(&self) -> u8 {
+        if let Verdict::Connect(_) = self.decide(&mut ()) {
+            return 0;
+        }
+        let emptied = |port: usize| Request { empty: self.empty | 1 << port, ..*self };
+        (0..OUTPUTS)
+            .filter(|&port| !self.is_empty(port) && emptied(port).found(&mut ()).is_some())
+            .fold(0, |outputs, port| outputs | 1 << port)
     }
 
     fn is_empty(&self, port: usize) -> bool {

@@ -14,17 +14,32 @@ use crate::watch::{Rule, Watch};
 /// A SEND or a RUN with any numbers.
 #[derive(Clone, Copy, PartialEq, Eq, Debug)]
 pub enum Event {
-    Send { site: u64, set: Set },
-    Run { site: u64, code: u64 },
+    Send {
+        site: u64,
+        set: Set,
+    },
+    Run {
+        site: u64,
+        code: u64,
+    },
+    /// A RUN of which the outputs in the way are told too.
+    Ask {
+        site: u64,
+        code: u64,
+    },
 }
+
+/// The answer of RUN, and the outputs in the way, bit p for output p: none where the router was not asked or did not
+/// fail.
+pub type Told = (Answer, u8);
 
 /// SEND (site, set): the packet number, or the refusal.
 pub fn send(network: &Network, state: &mut State, site: u64, set: Set) -> Result<u8, Refusal> {
     send_seen(network, state, site, set, &mut ())
 }
 
-/// RUN (site, code): the answer, or the refusal.
-pub fn run(network: &Network, state: &mut State, site: u64, code: u64) -> Result<Answer, Refusal> {
+/// RUN (site, code): the answer and the outputs in the way, or the refusal.
+pub fn run(network: &Network, state: &mut State, site: u64, code: u64) -> Result<Told, Refusal> {
     run_seen(network, state, site, code, &mut ())
 }
 
@@ -55,12 +70,34 @@ pub fn run_seen(
     site: u64,
     code: u64,
     watch: &mut impl Watch,
-) -> Result<Answer, Refusal> {
+) -> Result<Told, Refusal> {
+    let wiring = addressed(network, state, site, code)?;
+    let (site, code) = (site as usize, code as usize);
+    let mut machine = Machine { wiring: &wiring, state, watch };
+    let outputs = machine.in_the_way(site, code);
+    Ok((machine.run(site, code), outputs))
+}
+
+/// RUN with a watch that is told what the outputs in the way are like.
+pub fn ask_seen(
+    network: &Network,
+    state: &mut State,
+    site: u64,
+    code: u64,
+    watch: &mut impl Watch,
+) -> Result<Told, Refusal> {
+    let wiring = addressed(network, state, site, code)?;
+    Machine { wiring: &wiring, state, watch }.tell_way(site as usize, code as usize);
+    run_seen(network, state, site, code, watch)
+}
+
+/// The wiring for a RUN of this site and code.
+fn addressed(network: &Network, state: &State, site: u64, code: u64) -> Result<Wiring, Refusal> {
     let wiring = checked(network, state)?;
     if site >= wiring.sites as u64 || code >= wiring.codes() as u64 {
         return Err(Refusal::Address);
     }
-    Ok(Machine { wiring: &wiring, state, watch }.run(site as usize, code as usize))
+    Ok(wiring)
 }
 
 fn checked(network: &Network, state: &State) -> Result<Wiring, Refusal> {

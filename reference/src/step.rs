@@ -3,6 +3,7 @@
 //! The state is in range and the site and code exist; `single` checks that for callers from outside. The
 //! counter is not touched. Two places of one site may be the two ends of a channel.
 
+mod asks;
 mod inputs;
 mod outputs;
 mod queues;

@@ -9,7 +9,7 @@ pub use reading::read_cases;
 
 use crate::network::{Network, NO_CHANNEL, PORTS, SITES, SITES_OF_1, SPLIT};
 use crate::refusal::Refusal;
-use crate::single::{run_seen, send_seen, Event};
+use crate::single::{ask_seen, run_seen, send_seen, Event, Told};
 use crate::state::{Connection, InEntry, Output, Phase, Queue, State, Terminator};
 use crate::step::Answer;
 use crate::watch::Watch;
@@ -45,8 +45,21 @@ pub struct Case {
 /// What comes back: the answer's numbers, or the refusal, and the state.
 pub struct Outcome {
     pub form: Form,
-    pub told: Result<[u64; 3], Refusal>,
+    /// Whether the outputs in the way are told.
+    pub asked: bool,
+    /// Answer, packet, site and the outputs in the way.
+    pub told: Result<[u64; 4], Refusal>,
     pub state: State,
+}
+
+/// The numbers of a RUN.
+fn run_numbers((answer, outputs): Told) -> [u64; 4] {
+    let [answer, packet, site] = match answer {
+        Answer::Nothing => [0, 0, 0],
+        Answer::Changed => [1, 0, 0],
+        Answer::Serviced { packet, site } => [2, packet, site],
+    };
+    [answer, packet, site, outputs].map(u64::from)
 }
 
 impl Case {
@@ -54,17 +67,16 @@ impl Case {
         let mut state = self.state.clone();
         let told = match self.event {
             Event::Send { site, set } => {
-                send_seen(&self.network, &mut state, site, set, watch).map(|packet| [packet as u64, 0, 0])
+                send_seen(&self.network, &mut state, site, set, watch).map(|packet| [packet as u64, 0, 0, 0])
             }
             Event::Run { site, code } => {
-                run_seen(&self.network, &mut state, site, code, watch).map(|answer| match answer {
-                    Answer::Nothing => [0, 0, 0],
-                    Answer::Changed => [1, 0, 0],
-                    Answer::Serviced { packet, site } => [2, packet as u64, site as u64],
-                })
+                run_seen(&self.network, &mut state, site, code, watch).map(run_numbers)
+            }
+            Event::Ask { site, code } => {
+                ask_seen(&self.network, &mut state, site, code, watch).map(run_numbers)
             }
         };
-        Outcome { form: self.form, told, state }
+        Outcome { form: self.form, asked: matches!(self.event, Event::Ask { .. }), told, state }
     }
 
     /// Whether an enum of phases can hold every net-input.
@@ -103,15 +115,17 @@ impl Writer {
             self.line(&match case.event {
                 Event::Run { site, code } => [1, site, code],
                 Event::Send { site, set } => [2, site, set],
+                Event::Ask { site, code } => [3, site, code],
             });
         }
     }
 
     pub fn outcome(&mut self, outcome: &Outcome) {
-        match outcome.told {
-            Ok([answer, packet, site]) => self.line(&[0, answer, packet, site]),
-            Err(refusal) => self.line(&[refusal.number() as u64, 0, 0, 0]),
-        }
+        let numbers = match outcome.told {
+            Ok([answer, packet, site, outputs]) => [0, answer, packet, site, outputs],
+            Err(refusal) => [refusal.number() as u64, 0, 0, 0, 0],
+        };
+        self.line(&numbers[..if outcome.asked { 5 } else { 4 }]);
         self.state(outcome.form, &outcome.state);
     }
 

@@ -13,9 +13,10 @@ use crate::single::accept;
 use crate::state::{Connection, Phase, State, Terminator};
 use crate::step::{Answer, Machine};
 
-fn set_text(set: Set) -> String {
-    let sites: Vec<String> = members(set).map(|site| site.to_string()).collect();
-    format!("{{{}}}", sites.join(","))
+/// `{0,2,63}`, ascending.
+pub(crate) fn set_text(set: Set) -> String {
+    let numbers: Vec<String> = members(set).map(|number| number.to_string()).collect();
+    format!("{{{}}}", numbers.join(","))
 }
 
 fn phase_name(phase: Phase) -> &'static str {

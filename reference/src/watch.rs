@@ -1,9 +1,10 @@
 //! What happened: every rule of the documents by name, each way in which it acts or leaves things alone.
 //!
 //! The step tells a `Watch` which rule it took. The watch `()` costs nothing; a `Tally` counts. A new rule is added at
-//! the end: the corpus's searches are seeded by a rule's place.
+//! the end: the corpus's searches are seeded by a rule's place. What the outputs in the way are like is told beside the
+//! step, where they are asked for.
 
-use crate::network::{EDITION_2, EDITION_3, SPLIT};
+use crate::network::{EDITION, EDITION_2, EDITION_3, SPLIT};
 
 /// Sees each rule as it is taken.
 pub trait Watch {
@@ -145,19 +146,48 @@ rules! {
     SplitEndBlocked "split operator: end with a rest, out-queue full"
     TimeoutRestricted "timeout: none in edition 3"
     TimeoutBranch "timeout: none in edition 3, the head of a split waits for its terminator"
+    WayBelowT "in the way: failed below T"
+    WayAtT "in the way: failed at T"
+    WayOwnSite "in the way: output 0, own site alone"
+    WaySeveral "in the way: several outputs"
+    WayLocalEmpty "in the way: several targets, output 0 empty"
+    WayLocalUsed "in the way: several targets, output 0 in use and not named"
+    WayOtherEmpty "in the way: an empty output in another target's list"
+    WayOtherUsed "in the way: an output in use in another target's list, not named"
+    WayClosing "in the way: a closing output"
+    WaySplitUsed "in the way: the split output in use and not named"
+    WayHanded "in the way: none, failed and handed on"
 }
 
 /// The rules that editions 2 and 3 have.
 pub const OF_CLOSING: [Rule; 4] =
     [Rule::Closing, Rule::ClosingHeld, Rule::ClosingEmptied, Rule::ClosingNoChannel];
 
-/// Whether edition 3 alone has the rule.
+/// Whether the rule says what the outputs in the way are like; no step tells it.
+pub fn is_of_the_way(rule: Rule) -> bool {
+    rule as usize >= Rule::WayBelowT as usize
+}
+
+/// Whether the rule is the router's, or says what the outputs in the way are like.
+pub fn is_of_an_ask(rule: Rule) -> bool {
+    let between = |first: Rule, last: Rule| (first as usize..=last as usize).contains(&(rule as usize));
+    between(Rule::UnicastLocal, Rule::FailedAtT)
+        || between(Rule::BranchTaken, Rule::LocalAloneBusy)
+        || is_of_the_way(rule)
+}
+
+/// Whether it is a step's, and edition 3 alone has the rule.
 pub fn is_of_edition_3(rule: Rule) -> bool {
-    rule as usize >= Rule::BranchTaken as usize
+    rule as usize >= Rule::BranchTaken as usize && !is_of_the_way(rule)
 }
 
 /// Whether some state in range takes the rule in this edition.
 pub fn is_of(edition: u8, rule: Rule) -> bool {
+    match rule {
+        Rule::WayClosing => return edition != EDITION,
+        Rule::WaySplitUsed => return edition == EDITION_3,
+        _ => (),
+    }
     match edition {
         EDITION_3 => !NOT_IN_EDITION_3.contains(&rule),
         EDITION_2 => !is_of_edition_3(rule),

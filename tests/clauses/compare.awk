@@ -35,7 +35,7 @@ function tell(words) {
 }
 
 # An event has 18 lines, or 66 in the second form: the numbers, the counter, the sites. `done` are the lines before it.
-function compare(e, size,    i, line, first) {
+function compare(e, size,    i, line, first, number) {
     first = done
     done += size
     for (i = 1; i <= size; i++) {
@@ -51,8 +51,11 @@ function compare(e, size,    i, line, first) {
             tell("    nothing more is printed")
             return
         }
-        if (i < 3)
-            differ(i == 1 ? "refusal, answer, packet, site" : "counter", TYPED[line], PRINTED[line])
+        if (i == 1)
+            differ("refusal, answer, packet, site" (split(TYPED[line], number, " ") == 5 ? ", outputs in the way" : ""), \
+                TYPED[line], PRINTED[line])
+        else if (i == 2)
+            differ("counter", TYPED[line], PRINTED[line])
         else
             compare_site(i - 3, TYPED[line], PRINTED[line])
     }

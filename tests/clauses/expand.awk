@@ -244,7 +244,8 @@ function new_case(name, n, field,    i) {
     keep("end of " name)
 }
 
-# RUN site code -> ANSWER or SEND site set -> ANSWER: from the case's own state, or with `then` from the one just left.
+# RUN site code -> ANSWER or SEND site set -> ANSWER: from the case's own state, or with `then` from the one just left. Behind
+# the answer of RUN may stand `, outputs ..`, those in the way.
 function new_event(name, words,    n, word, next_one) {
     next_one = sub(/^then /, "", words)
     if (event != "")
@@ -266,11 +267,36 @@ function new_event(name, words,    n, word, next_one) {
     event = word[1] " " word[2] " " word[3]
     answer = words
     sub(/^.*-> /, "", answer)
+    in_the_way = ""
+    if (match(answer, /, outputs /)) {
+        if (word[1] != "RUN")
+            fail("outputs in the way are of RUN alone: " words)
+        in_the_way = outputs_number(substr(answer, RSTART + RLENGTH))
+        answer = substr(answer, 1, RSTART - 1)
+    }
     total[form]++
     OF[++count] = form
     EVENT[count] = at ": " name ": " (next_one ? "then " : "") event
-    CASE[count] = wires "\n" state_text(form, now) "\n" (word[1] == "RUN" ? 1 : 2) " " word[2] " " word[3]
-    numbers = answer_numbers(word[1])
+    CASE[count] = wires "\n" state_text(form, now) "\n" kind_number(word[1]) " " word[2] " " word[3]
+    numbers = answer_numbers(word[1]) (in_the_way == "" ? "" : " " in_the_way)
+}
+
+# RUN is 1, and 3 where the outputs in the way are typed; SEND is 2.
+function kind_number(kind) {
+    return kind == "SEND" ? 2 : in_the_way == "" ? 1 : 3
+}
+
+# The outputs in the way, `none` or ascending: the number whose bit j is output j.
+function outputs_number(words,    n, i, word, number) {
+    if (words == "none")
+        return "0"
+    n = split(words, word, " ")
+    for (i = 1; i <= n; i++) {
+        if (word[i] !~ /^[0-5]$/ || i > 1 && word[i] <= word[i - 1])
+            fail("neither `none` nor different outputs 0 to 5, ascending: " words)
+        number += 2 ^ word[i]
+    }
+    return number ""
 }
 
 # `refused N`; of SEND the packet; of RUN 0, 1, or 2 with packet and site. In numbers: refusal, answer, packet, site.

@@ -15,6 +15,7 @@ use Rattle.layout.specs.Words.{stateOf, wordsOf, isState}
 
 pub record RanWords : Type 0 where
   pub answer : Ran
+  pub blocking : ℕ
   pub words : List ℕ
 
 pub record SentWords : Type 0 where
@@ -22,7 +23,7 @@ pub record SentWords : Type 0 where
   pub words : List ℕ
 
 abbrev pub ofRan : AfterRun → RanWords
-ofRan w = record { answer = w .answer; words = wordsOf (w .state) }
+ofRan w = record { answer = w .answer; blocking = w .blocking; words = wordsOf (w .state) }
 
 abbrev pub ofSent : AfterSend → SentWords
 ofSent w = record { answer = w .answer; words = wordsOf (w .state) }
@@ -33,7 +34,8 @@ formRefusal n = orNext (networkRefusal n) 13
 
 -- RUN (s, code) and SEND (s, X) on the words c, with all their refusals: 2, 17, 3, 6, 7, 13, 9, and for SEND 10, 12, 11
 unfoldable pub ranWords : Network → List ℕ → ℕ → ℕ → RanWords
-ranWords n c s code = cond (isState c) (ofRan (ran n (stateOf c) s code)) (record { answer = RunRefused (formRefusal n); words = c })
+ranWords n c s code =
+    cond (isState c) (ofRan (ran n (stateOf c) s code)) (record { answer = RunRefused (formRefusal n); blocking = 0; words = c })
 
 unfoldable pub sentWords : Network → List ℕ → ℕ → ℕ → SentWords
 sentWords n c s X = cond (isState c) (ofSent (sent n (stateOf c) s X)) (record { answer = SendRefused (formRefusal n); words = c })

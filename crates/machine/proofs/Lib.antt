@@ -1,4 +1,5 @@
 -- Laws that belong to no one function.
+pub mod Blocked
 pub mod Lifts
 pub mod OwingSums
 pub mod PlayedArchive

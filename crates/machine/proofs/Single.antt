@@ -19,7 +19,7 @@ use Rattle.types.specs.declared.Ran.the-variants.{the-data as Ran, Refused as R
 use Rattle.model.specs.Types.{siteAt}
 use Rattle.model.specs.Network.{networkRefusal}
 use Rattle.model.specs.Range.{inRange}
-use Rattle.model.specs.Steps.{Act, Idle, Own, Serve, Pass, patch, act, ends, run}
+use Rattle.model.specs.Steps.{Act, Idle, Own, Serve, Pass, patch, act, ends, run, blockingAt}
 use Rattle.model.specs.Runs.{trySend}
 use Rattle.model.specs.Events.{refusalThen, runFault, sendFault, runRefusal, sendRefusal, runs, sends, ran, sent}
 use Rattle.theorems.proofs.Networks.{valid-ok}
@@ -48,12 +48,12 @@ module _ (n : Network) (st : State) where
 
   module _ (s code : ℕ) where
     pub run-shared : (k : ℕ) → k ≡ refusalThen n st 0 → (k ≡ 0 → ⊥)
-        → record { answer = RunRefused k; state = st } ≡ ran n st s code
+        → record { answer = RunRefused k; blocking = 0; state = st } ≡ ran n st s code
     unfolding ran runRefusal
     run-shared k e ne = rw (shared (runFault n s code) (λ z. ne (e ∙ z)), ← e, ne-eqb k 0 ne) refl
 
     pub run-none : refusalThen n st 0 ≡ 0 → (ltb s (n .sites) && ltb code (codesIn (n .edition))) ≡ false
-        → record { answer = RunRefused 9; state = st } ≡ ran n st s code
+        → record { answer = RunRefused 9; blocking = 0; state = st } ≡ ran n st s code
     unfolding ran runRefusal
     run-none h e = rw (alone (runFault n s code) h, e) refl
 
@@ -93,18 +93,22 @@ module _ (n : Network) (st : State) where
 
 -- ---- RUN is the change that it stores
 
-stored-is : (n : Network) (st : State) (s : ℕ) (a : Act)
+stored-is : (n : Network) (st : State) (s B : ℕ) (a : Act)
     → let w = patch n (st .sites) s a in
-    stored st s (ofAct n s (siteAt (st .sites) s) a)
-    ≡ record { answer = w .answer; state = record { sites = w .sites; counter = st .counter } }
-stored-is n st s Idle = refl
-stored-is n st s (Own x) = refl
-stored-is n st s (Serve x q) = refl
-stored-is n st s (Pass x j y) = refl
+    stored st s (ofAct n s (siteAt (st .sites) s) a) B
+    ≡ record { answer = w .answer; blocking = B; state = record { sites = w .sites; counter = st .counter } }
+stored-is n st s B Idle = refl
+stored-is n st s B (Own x) = refl
+stored-is n st s B (Serve x q) = refl
+stored-is n st s B (Pass x j y) = refl
 
-pub run-stored : (n : Network) (st : State) (s code : ℕ) → stored st s (changeOf n (st .sites) s code) ≡ runs n st s code
+-- the outputs in the way that it names
+abbrev pub inTheWay : Network → State → ℕ → ℕ → ℕ
+inTheWay n st s code = blockingAt n s (siteAt (st .sites) s) code
+
+pub run-stored : (n : Network) (st : State) (s code : ℕ) → stored st s (changeOf n (st .sites) s code) (inTheWay n st s code) ≡ runs n st s code
 unfolding run changeOf
-run-stored n st s code = stored-is n st s (act n s (siteAt (st .sites) s) (ends n (st .sites) s) code)
+run-stored n st s code = stored-is n st s (inTheWay n st s code) (act n s (siteAt (st .sites) s) (ends n (st .sites) s) code)
 
 -- what is seen is enough
 pub change-seen : (n : Network) (xs : List Site) (s code : ℕ) {v : Seen} → v ≡ seenAt n xs s
@@ -124,11 +128,12 @@ change-storable n ok xs s code h e =
     let v = valid-ok n ok in
     (omega (arith, v .few, h), rw e (act-passable n v s (siteAt xs s) h (ends n xs s) code))
 
--- the answer and the state by themselves
-abbrev left : Ran → State → AfterRun
-left a y = record { answer = a; state = y }
+-- the answer, the outputs in the way and the state by themselves
+abbrev left : Ran → ℕ → State → AfterRun
+left a B y = record { answer = a; blocking = B; state = y }
 
 pub run-done : (n : Network) (st : State) (s code : ℕ) {c : Change} → c ≡ changeOf n (st .sites) s code → {a : Ran} → a ≡ answerTo (c .act) s
-    → {y : State} → y ≡ storedState st s c → left a y ≡ runs n st s code
-run-done n st s code e ha hy =
-    ap₂ left ha hy ∙ ap (stored st s) e ∙ run-stored n st s code
+    → {y : State} → y ≡ storedState st s c → {B : ℕ} → B ≡ inTheWay n st s code → left a B y ≡ runs n st s code
+run-done n st s code {c = c} e ha hy {B = B} hB =
+    ap₂ (λ (a : Ran) (y : State). left a B y) ha hy ∙ ap (stored st s c) hB
+    ∙ ap (λ (k : Change). stored st s k (inTheWay n st s code)) e ∙ run-stored n st s code

@@ -111,5 +111,6 @@ answerTo didOwn s = Changed
 answerTo (didServe q) s = Serviced q s
 answerTo didPass s = Changed
 
-abbrev pub stored : State → ℕ → Change → AfterRun
-stored st s c = record { answer = answerTo (c .act) s; state = storedState st s c }
+-- with the outputs in the way
+abbrev pub stored : State → ℕ → Change → ℕ → AfterRun
+stored st s c B = record { answer = answerTo (c .act) s; blocking = B; state = storedState st s c }

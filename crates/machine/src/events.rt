@@ -9,6 +9,7 @@ ghost use Rattle.model.specs.Range.{inRange};
 ghost use Rattle.model.specs.Events as spec;
 ghost use Rattle.model.specs.Runs.{trySend};
 ghost use Rattle.machine.specs.Step.{changeOf};
+use crate::inputs::blocking_at;
 use crate::step::Change;
 use crate::step::step;
 use crate::store::answer_to;
@@ -86,10 +87,14 @@ fn run_checked(network: Network, state: State, s: usize, code: usize) -> AfterRu
     requires { ⌜ (networkRefusal network ≡ 0) × (inRange network state ≡ true) × (s < network .sites) ⌝ }
     ensures { λ r. ⌜ r ≡ spec.runs network state s code ⌝ }
 {
-    let change = change_of(network, state, s, code);
+    let seen = seen_at(network, state, s);
+    let site = seen.site;
+    let far = seen.far;
+    let change = step(network, s, site, far, code);
     let act = change.act;
     AfterRun {
         answer: answer_to(act, s),
+        blocking: blocking_at(network, s, site, code),
         state: store_change(state, s, change),
     }
 }
@@ -103,6 +108,7 @@ pub fn run(network: Network, state: State, site: usize, code: usize) -> AfterRun
     if refusal != 0 {
         return AfterRun {
             answer: Ran::Refused(refusal),
+            blocking: 0,
             state,
         };
     }
@@ -112,6 +118,7 @@ pub fn run(network: Network, state: State, site: usize, code: usize) -> AfterRun
     }
     AfterRun {
         answer: Ran::Refused(9),
+        blocking: 0,
         state,
     }
 }

@@ -32,7 +32,7 @@ use Rattle.model.proofs.WorkCases.{outs as late-outs, zeroth, lacking, 
 -- ---- the router. Four sites, T = 3: the hub of RouterCases in version 2, in an edition. Site 0's lists: ports 1, 4 to site 1; 2, 1 to
 -- site 2; 1, 3 to site 3
 
-abbrev hub : ℕ → Network
+abbrev pub hub : ℕ → Network
 hub edition =
     netIn 2 edition noChannel 0 4 3 1
     (4 ∷ 8 ∷ 12 ∷ 5 ∷ 0 ∷ noChannel ∷ noChannel ∷ noChannel ∷ 1 ∷ noChannel ∷ noChannel ∷ noChannel ∷ 2 ∷ [])
@@ -43,7 +43,7 @@ unfolding networkRefusal all any
 hub-valid = refl
 
 -- site 0's outputs 0 to 5: 1 for one in use, by another packet with the set {3}, 2 for the same, closing, 0 for an empty one
-outputsOf : List ℕ → List Output
+unfoldable pub outputsOf : List ℕ → List Output
 outputsOf [] = []
 outputsOf (zero ∷ us) = noOutput ∷ outputsOf us
 outputsOf (suc zero ∷ us) = out 9 8 4 true tNone ∷ outputsOf us

@@ -4,18 +4,19 @@ use Prim.Native.Nat.{ℕ}
 use mathlib.Core.Path.{_≡_, refl}
 use mathlib.Core.List.{List, [], _∷_, _++_, map}
 use lib.Count.{trailingZeros}
+use lib.ListN.{replicate}
 use Rattle.base.specs.Sizes.{noChannel}
 use Rattle.base.specs.All.{all, any}
 use Rattle.base.specs.Over.{over}
 use Rattle.base.specs.Sums.{sum}
-use Rattle.sets.specs.Sets.{has, plus, minus, sizeIn, lowest}
+use Rattle.sets.specs.Sets.{has, plus, minus, sizeIn, lowest, those}
 use Rattle.types.specs.Numbers.{ranNumbers}
-use Rattle.model.specs.Types.{Site, Network, noSite}
+use Rattle.model.specs.Types.{Site, Network, noSite, siteAt}
 use Rattle.model.specs.Network.{networkRefusal}
-use Rattle.model.specs.Router.{firstPort, gatherFrom, gather, spread, branch, orElse, route}
-use Rattle.model.specs.NetInput.{hears, give, occupy, marksOf, seek, inState}
+use Rattle.model.specs.Router.{firstPort, gatherFrom, gather, spread, branch, orElse, route, blocks, ask}
+use Rattle.model.specs.NetInput.{hears, give, occupy, marksOf, seek, inState, failed, passesOn}
 use Rattle.model.specs.Places.{localOutput, deliver, channelOutput, outQueue, operate, cutAt}
-use Rattle.model.specs.Steps.{netOutput, act, run, enqueue}
+use Rattle.model.specs.Steps.{netOutput, act, run, blockingAt, enqueue}
 use Rattle.model.proofs.Made.{netIn}
 use Rattle.model.proofs.CodeCases.{places}
 
@@ -37,7 +38,10 @@ runs-on xs (c ∷ cs) = runs-on (run two xs (c .0) (c .1) .sites) cs
 
 answers-on : List Site → List (ℕ × ℕ) → List (List ℕ)
 answers-on xs [] = []
-answers-on xs (c ∷ cs) = ranNumbers (run two xs (c .0) (c .1) .answer) ∷ answers-on (run two xs (c .0) (c .1) .sites) cs
+answers-on xs (c ∷ cs) =
+    let s = c .0 in
+    let r = run two xs s (c .1) in
+    ranNumbers (r .answer) (blockingAt two s (siteAt xs s) (c .1)) ∷ answers-on (r .sites) cs
 
 seen : List (ℕ × ℕ) → List (List ℕ)
 seen cs = map places (runs-on sent-twice cs)
@@ -73,10 +77,10 @@ onward = (0, 6) ∷ (1, 1) ∷ []
 
 -- the answer 1; the answer 0
 abbrev changed : List ℕ
-changed = 0 ∷ 1 ∷ 0 ∷ 0 ∷ []
+changed = 0 ∷ 1 ∷ 0 ∷ 0 ∷ 0 ∷ []
 
 abbrev nothing : List ℕ
-nothing = 0 ∷ 0 ∷ 0 ∷ 0 ∷ []
+nothing = 0 ∷ 0 ∷ 0 ∷ 0 ∷ 0 ∷ []
 
 pub worked : List (List (List ℕ) × List (List ℕ))
 worked =
@@ -127,15 +131,19 @@ worked =
     )
     ∷ (
       answers-on (runs-on sent-twice (begins ++ frees)) serves,
-      changed ∷ (0 ∷ 2 ∷ 0 ∷ 0 ∷ []) ∷ changed ∷ (0 ∷ 2 ∷ 0 ∷ 1 ∷ []) ∷ [],
+      changed ∷ (0 ∷ 2 ∷ 0 ∷ 0 ∷ 0 ∷ []) ∷ changed ∷ (0 ∷ 2 ∷ 0 ∷ 1 ∷ 0 ∷ []) ∷ [],
     )
     -- at site 1 packet 1 splits again: {1} to that site's split output, {0} onward
     ∷ (
       seen (begins ++ frees ++ serves ++ onward),
       (0 ∷ 213210 ∷ 2 ∷ 6 ∷ 113010 ∷ 10 ∷ 1 ∷ 131 ∷ []) ∷ (1 ∷ 213600 ∷ 34 ∷ 6 ∷ 111100 ∷ 13 ∷ 112100 ∷ []) ∷ [],
     )
-    -- every RUN so far answers 1; the timeout, code 14 with no terminator and code 13 with nothing to pass on answer 0
-    ∷ (answers-on sent-twice begins, changed ∷ changed ∷ changed ∷ changed ∷ changed ∷ changed ∷ changed ∷ changed ∷ changed ∷ changed ∷ [])
+    -- every RUN so far answers 1; L7: the failed ask of packet 1 names output 1 and not the busy split output, the next one, which hands it
+    -- on, names none; the timeout, code 14 with no terminator and code 13 with nothing to pass on answer 0
+    ∷ (
+      answers-on sent-twice (begins ++ ((0, 0) ∷ [])),
+      replicate 9 changed ++ ((0 ∷ 1 ∷ 0 ∷ 0 ∷ 2 ∷ []) ∷ changed ∷ []),
+    )
     ∷ (
       answers-on (runs-on sent-twice (splits ++ heads)) ((0, 12) ∷ (0, 14) ∷ (0, 13) ∷ (1, 13) ∷ (1, 14) ∷ []),
       nothing ∷ nothing ∷ nothing ∷ nothing ∷ nothing ∷ [],
@@ -145,5 +153,5 @@ worked =
 pub worked-read : map (λ row. row .0) worked ≡ map (λ row. row .1) worked
 unfolding worked seen runs-on answers-on sent-twice splits heads closes asks begins frees serves onward run act netOutput enqueue inState
     seek route branch orElse spread gather gatherFrom firstPort occupy marksOf hears localOutput channelOutput deliver outQueue operate
-    cutAt give over all sum has plus minus sizeIn lowest trailingZeros
+    cutAt give over all sum has plus minus sizeIn lowest trailingZeros blockingAt passesOn failed ask blocks those
 worked-read = refl

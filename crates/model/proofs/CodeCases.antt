@@ -14,13 +14,13 @@ use Rattle.base.specs.Sums.{sum}
 use Rattle.sets.specs.Sets.{has, plus, minus, sizeIn, lowest}
 use Rattle.model.specs.Types.{Unicast, Passthru, SomeLocal, gotEnd, tNone, tEnd, tAbort}
 use Rattle.model.specs.Types.{Phase, Seek, Open, Wait, Done, Aborted}
-use Rattle.model.specs.Types.{Site, Network, noMarks, noSite, inAt, outAt, queueAt, setIn, setOut, setQueue, withOutQueue}
+use Rattle.model.specs.Types.{Site, Network, noMarks, noSite, siteAt, inAt, outAt, queueAt, setIn, setOut, setQueue, withOutQueue}
 use Rattle.types.specs.Numbers.{ranNumbers, answerOf}
 use Rattle.model.specs.Network.{networkRefusal}
 use Rattle.model.specs.Router.{firstPort, gatherFrom, gather, spread, orElse, route}
-use Rattle.model.specs.NetInput.{hears, give, occupy, marksOf, seek, inState}
+use Rattle.model.specs.NetInput.{hears, give, occupy, marksOf, seek, inState, failed, passesOn}
 use Rattle.model.specs.Places.{localOutput, deliver, channelOutput, outQueue, operate, cutAt}
-use Rattle.model.specs.Steps.{netOutput, act, run, enqueue}
+use Rattle.model.specs.Steps.{netOutput, act, run, blockingAt, enqueue}
 use Rattle.model.proofs.Shown.{ofInput, ofOutput, ofOutQueue, ofInQueue, each}
 use Rattle.model.proofs.Shown.{inp, out, leaving, arrived, outQ, inQ, alone, first, split}
 use Rattle.model.proofs.Made.{net}
@@ -56,9 +56,11 @@ answers x =
     map (λ code. answerOf (run crossed (x ∷ noSite ∷ noSite ∷ []) 0 code .answer))
     (0 ∷ 1 ∷ 2 ∷ 3 ∷ 4 ∷ 5 ∷ 6 ∷ 7 ∷ 8 ∷ 9 ∷ 10 ∷ 11 ∷ 12 ∷ [])
 
--- the numbers of RUN's answer, and the places of sites 0, 1, 2 after it
+-- the numbers of RUN's answer (L7: the last names the outputs in the way, none here), and the places of sites 0, 1, 2 after it
 abbrev ran-on : List Site → ℕ → ℕ → List (List ℕ)
-ran-on xs s code = let r = run crossed xs s code in ranNumbers (r .answer) ∷ map places (r .sites)
+ran-on xs s code =
+    let r = run crossed xs s code in
+    ranNumbers (r .answer) (blockingAt crossed s (siteAt xs s) code) ∷ map places (r .sites)
 
 -- a site with one thing to do: this net-input seeks; this output has a head to pass on; an entry is in the out-queue; one is in
 -- the in-queue; input 3 feeds output 0, which has no terminator yet
@@ -106,7 +108,7 @@ turned = refl
 
 -- the answer 1
 abbrev changed : List ℕ
-changed = 0 ∷ 1 ∷ 0 ∷ 0 ∷ []
+changed = 0 ∷ 1 ∷ 0 ∷ 0 ∷ 0 ∷ []
 
 -- site 0's net-input 0 is done, connected to outputs 0, 1 and 2; the inputs at the ends of channels 1 and 2 are in these
 -- states, each connected to its own site's output 0
@@ -140,11 +142,11 @@ changes =
     ∷ (ran-on (noSite ∷ holds 1 ∷ noSite ∷ []) 1 6, changed ∷ [] ∷ (1 ∷ 163000 ∷ 0 ∷ 6 ∷ 163210 ∷ []) ∷ [] ∷ [])
     ∷ (ran-on (noSite ∷ noSite ∷ looping ∷ []) 2 7, changed ∷ [] ∷ [] ∷ (2 ∷ 457122 ∷ 2 ∷ 6 ∷ 157210 ∷ []) ∷ [])
     -- no channel
-    ∷ (ran-on (noSite ∷ holds 3 ∷ noSite ∷ []) 1 8, replicate 4 0 ∷ [] ∷ (8 ∷ 163200 ∷ []) ∷ [] ∷ [])
+    ∷ (ran-on (noSite ∷ holds 3 ∷ noSite ∷ []) 1 8, replicate 5 0 ∷ [] ∷ (8 ∷ 163200 ∷ []) ∷ [] ∷ [])
     -- "net-input 0, if free, takes it"
     ∷ (ran-on (noSite ∷ leaves ∷ noSite ∷ []) 1 10, changed ∷ [] ∷ (0 ∷ 163000 ∷ 0 ∷ 10 ∷ 1 ∷ 631 ∷ []) ∷ [] ∷ [])
     -- "The answer is 2 with packet and site where the operator serviced, else 1 if anything in the state changed"
-    ∷ (ran-on (noSite ∷ arrives ∷ noSite ∷ []) 1 11, (0 ∷ 2 ∷ 6 ∷ 1 ∷ []) ∷ [] ∷ (10 ∷ 1 ∷ 610 ∷ []) ∷ [] ∷ [])
+    ∷ (ran-on (noSite ∷ arrives ∷ noSite ∷ []) 1 11, (0 ∷ 2 ∷ 6 ∷ 1 ∷ 0 ∷ []) ∷ [] ∷ (10 ∷ 1 ∷ 610 ∷ []) ∷ [] ∷ [])
     ∷ (ran-on (noSite ∷ noSite ∷ arrives ∷ []) 2 11, changed ∷ [] ∷ [] ∷ (10 ∷ 1 ∷ 630 ∷ []) ∷ [])
     -- the timeout: "the input feeding it"
     ∷ (
@@ -177,7 +179,7 @@ changes =
     ∷ []
 
 pub change-read : map (λ row. row .0) changes ≡ map (λ row. row .1) changes
-unfolding changes run act netOutput enqueue inState seek route orElse spread gather gatherFrom firstPort occupy
+unfolding changes run act blockingAt passesOn failed netOutput enqueue inState seek route orElse spread gather gatherFrom firstPort occupy
     marksOf hears localOutput channelOutput deliver outQueue operate cutAt give over all sum has plus minus sizeIn
     lowest trailingZeros
 change-read = refl

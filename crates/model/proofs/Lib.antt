@@ -1,4 +1,5 @@
--- Computed tables: what the definitions give beside what documents 01 and 02 say, row by row. The theorems stand in crate theorems.
+-- Computed tables: what the definitions give beside what documents 01 and 02 say, row by row; and of L7 what the outputs in the way are,
+-- which the code goes by. The theorems stand in crate theorems.
 pub mod Made
 pub mod RunCases
 pub mod AnswerCases
@@ -16,3 +17,5 @@ pub mod CodeCases
 pub mod EditionCases
 pub mod BranchCases
 pub mod BranchRuns
+pub mod Blocking
+pub mod BlockingCases

@@ -104,10 +104,10 @@ abbrev sites : InEntry → List Site
 sites a = setSite (noState .sites) 63 (setQueue noSite 0 (inQ (a ∷ [])))
 
 abbrev answer : InEntry → List ℕ
-answer a = ranNumbers (run (bare 2 64 []) (sites a) 63 11 .answer)
+answer a = ranNumbers (run (bare 2 64 []) (sites a) 63 11 .answer) 0
 
 pub last-site : answer (arrived 7 (2 ^ 63) tEnd) ∷ answer (arrived 7 (2 ^ 63 + 1) tKeep) ∷ answer (arrived 7 1 tEnd)
     ∷ answer (arrived 7 (2 ^ 63) tNone) ∷ []
-    ≡ (0 ∷ 2 ∷ 7 ∷ 63 ∷ []) ∷ (0 ∷ 2 ∷ 7 ∷ 63 ∷ []) ∷ (0 ∷ 1 ∷ 0 ∷ 0 ∷ []) ∷ (0 ∷ 0 ∷ 0 ∷ 0 ∷ []) ∷ []
+    ≡ (0 ∷ 2 ∷ 7 ∷ 63 ∷ 0 ∷ []) ∷ (0 ∷ 2 ∷ 7 ∷ 63 ∷ 0 ∷ []) ∷ (0 ∷ 1 ∷ 0 ∷ 0 ∷ 0 ∷ []) ∷ replicate 5 0 ∷ []
 unfolding run act operate has minus
 last-site = refl

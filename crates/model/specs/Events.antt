@@ -13,7 +13,7 @@ use Rattle.model.specs.Types.{State, Network, Sent, Accepted, SendRefuse
 use Rattle.types.specs.Numbers.{sentRefusal, sentPacket, answerOf, ranPacket, ranSite}
 use Rattle.model.specs.Network.{networkRefusal}
 use Rattle.model.specs.Range.{inRange}
-use Rattle.model.specs.Steps.{run, enqueue}
+use Rattle.model.specs.Steps.{run, blockingAt, enqueue}
 
 -- the network's own refusals 2, 17, 3, 6, 7, then "13: state not in range", then those of the event
 abbrev pub refusalThen : Network → State → ℕ → ℕ
@@ -44,12 +44,16 @@ runRefusal n st s code = refusalThen n st (runFault n s code)
 unfoldable pub sendRefusal : Network → State → ℕ → ℕ → ℕ
 sendRefusal n st s X = refusalThen n st (sendFault n st s X)
 
--- nothing refused: RUN's answer and state; SEND "takes the counter as packet number, adds one", "The answer is the packet
+-- nothing refused: RUN's answer, its outputs in the way (L7), and the state; SEND "takes the counter as packet number, adds one", "The answer is the packet
 -- number."
 abbrev pub runs : Network → State → ℕ → ℕ → AfterRun
 runs n st s code =
     let w = run n (st .sites) s code in
-    record { answer = w .answer; state = record { sites = w .sites; counter = st .counter } }
+    record {
+      answer = w .answer;
+      blocking = blockingAt n s (siteAt (st .sites) s) code;
+      state = record { sites = w .sites; counter = st .counter };
+    }
 
 abbrev pub sends : State → ℕ → ℕ → AfterSend
 sends st s X =
@@ -62,7 +66,7 @@ sends st s X =
 unfoldable pub ran : Network → State → ℕ → ℕ → AfterRun
 ran n st s code =
     cond (eqb (runRefusal n st s code) 0) (runs n st s code)
-    (record { answer = RunRefused (runRefusal n st s code); state = st })
+    (record { answer = RunRefused (runRefusal n st s code); blocking = 0; state = st })
 
 unfoldable pub sent : Network → State → ℕ → ℕ → AfterSend
 sent n st s X =

@@ -2,7 +2,7 @@
 -- A rule looks at two kinds of places, and says that they stay or what becomes of them.
 use Prim.Native.Nat.{ℕ, zero, suc, _+_}
 use mathlib.Core.List.{List}
-use mathlib.Core.Bool.{Bool, true, false, cond, _&&_, _||_}
+use mathlib.Core.Bool.{Bool, true, false, cond, not, _&&_, _||_}
 use lib.Dec.{eqb, ltb}
 use lib.ListN.{getD, set}
 use Rattle.base.specs.Sizes.{outputCount}
@@ -12,8 +12,8 @@ use Rattle.base.specs.Over.{over}
 use Rattle.model.specs.Types.{Connection, Unicast, Passthru, AllRemote, SomeLocal, Handed, Branch, Received, gotEnd, gotAbort}
 use Rattle.model.specs.Types.{Terminator, tNone, tEnd, tAbort, tKeep, Phase, Free, Seek, Open, Wait, Done, Last, Aborted, FinAbort}
 use Rattle.model.specs.Types.{Input, Output, Network, noMarks, noInput, outOf, mark, isLocal, carries, inPhase, outTerm}
-use Rattle.types.specs.Phases.{listening, asTerminator}
-use Rattle.model.specs.Router.{Choice, Chosen, Unserved, route, isEmpty, isChosen, unchosen}
+use Rattle.types.specs.Phases.{seeks, listening, asTerminator}
+use Rattle.model.specs.Router.{Choice, Chosen, Unserved, route, isEmpty, isChosen, unchosen, finds, ask}
 
 -- "What no rule names stays; a rule whose condition fails, or an empty place, changes nothing."
 pub data Turn (A B : Type 0) : Type 0 where
@@ -98,3 +98,14 @@ inState n s i y os isReady (FinAbort c r) = cond (isReady 0) (To noInput (set os
 
 abbrev pub netInput : Network → ℕ → ℕ → Input → List Output → (ℕ → Bool) → Turn Input (List Output)
 netInput n s i y os isReady = inState n s i y os isReady (y .phase)
+
+-- L7: a failure of net-input y: it asks the router, there is no choice, and the packet is not handed; below T and at T
+unfoldable pub failed : Network → ℕ → Input → List Output → Bool
+failed n s y os =
+    seeks (y .phase)
+    && not (finds (route n s os (y .set)))
+    && (ltb (y .tries) (n .tries) || not (isEmpty os 0))
+
+-- "The net-input's step passes it on, empty where the router was not asked or did not fail."
+unfoldable pub passesOn : Network → ℕ → Input → List Output → ℕ
+passesOn n s y os = cond (failed n s y os) (ask n s os (y .set) .blocking) 0

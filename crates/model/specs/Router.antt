@@ -2,16 +2,17 @@
 -- A choice gives each output its set; 0 for an output that is not chosen.
 use Prim.Native.Nat.{ℕ, zero, suc, _+_}
 use mathlib.Core.List.{List, [], _∷_}
-use mathlib.Core.Bool.{Bool, cond, not, _&&_, _||_}
+use mathlib.Core.Bool.{Bool, true, false, cond, not, _&&_, _||_}
 use lib.Dec.{eqb, leb}
 use lib.ListN.{getD, set, replicate}
 use Rattle.base.specs.Sizes.{outputCount, portCount, splitPort}
 use Rattle.base.specs.Bools.{count}
+use Rattle.base.specs.All.{any}
 use Rattle.base.specs.Sums.{sum}
-use Rattle.sets.specs.Sets.{has, only, plus, minus, size, lowest}
-use Rattle.model.specs.Types.{Connection, Unicast, Passthru, AllRemote, SomeLocal, Branch, Output, Network, outOf}
+use Rattle.sets.specs.Sets.{has, only, plus, minus, size, lowest, those}
+use Rattle.model.specs.Types.{Connection, Unicast, Passthru, AllRemote, SomeLocal, Branch, Output, Network, noOutput, outOf}
 use Rattle.draws.specs.Draws.{restricted}
-use Rattle.model.specs.Network.{listOf}
+use Rattle.model.specs.Network.{choice, listOf}
 
 pub data Choice : Type 0 where
   Chosen : Connection → List ℕ → Choice
@@ -115,3 +116,37 @@ route n s os X =
     (orElse (cond (isEmpty os 0) (spread s X (gather n s os (minus s X))) Unserved)
     -- "Otherwise, .. passthru of the whole X to the first empty output in the list of the lowest t other than s."
     (toOther n s os Passthru X (lowest (minus s X))))))
+
+-- L7: "the router's answer to name the set of outputs whose emptying would each, alone, have let this packet connect, the handed
+-- rule left aside": route is the rules without that one
+abbrev pub finds : Choice → Bool
+finds (Chosen c sets) = true
+finds Unserved = false
+
+-- the same outputs with j alone emptied
+abbrev pub emptied : List Output → ℕ → List Output
+emptied os j = set os j noOutput
+
+-- output j is in use, and with it emptied there is a choice
+unfoldable pub blocks : Network → ℕ → List Output → ℕ → ℕ → Bool
+blocks n s os X j = not (isEmpty os j) && finds (route n s (emptied os j) X)
+
+-- the router's answer: its choice; the set where there is none, no output where there is one
+pub record Answered : Type 0 where
+  pub found : Choice
+  pub blocking : ℕ
+
+unfoldable pub ask : Network → ℕ → List Output → ℕ → Answered
+ask n s os X =
+    let w = route n s os X in
+    record { found = w; blocking = cond (finds w) 0 (those (blocks n s os X) outputCount) }
+
+-- which outputs these are (proofs/Blocking.antt): output 0 for X = {s}, else every port in the list of the lowest target other than s
+abbrev pub listed : List ℕ → ℕ → Bool
+listed l j = any (λ m. eqb (choice l m) j) portCount
+
+abbrev pub isPort : ℕ → Bool
+isPort j = leb 1 j && leb j portCount
+
+unfoldable pub ways : Network → ℕ → ℕ → ℕ → Bool
+ways n s X j = cond (eqb X (only s)) (eqb j 0) (isPort j && listed (listOf n s (lowest (minus s X))) j)

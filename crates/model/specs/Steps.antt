@@ -11,7 +11,7 @@ use Rattle.model.specs.Types.{Input, Output, Site, Network, Ran, Nothing
 use Rattle.model.specs.Types.{noInput, siteAt, inAt, outAt, queueAt, queuePort, withInputs, withOutputs, withOutQueue}
 use Rattle.model.specs.Types.{setIn, setOut, setQueue, setSite, pushOut}
 use Rattle.model.specs.Network.{channel, joined, endSite, endPort}
-use Rattle.model.specs.NetInput.{Turn, Stay, To, ready, netInput}
+use Rattle.model.specs.NetInput.{Turn, Stay, To, ready, netInput, passesOn}
 use Rattle.model.specs.Places.{localOutput, channelOutput, outQueue, Work, Rest, Cleared, Service, operator, timeout}
 
 -- the input at the end of a channel with the byte b, and the sites with that input changed
@@ -93,6 +93,10 @@ patch n xs s (Pass x j y) = record { answer = Changed; sites = setFar (setSite x
 -- RUN (site, code)
 unfoldable pub run : Network → List Site → ℕ → ℕ → Stepped
 run n xs s code = patch n xs s (act n s (siteAt xs s) (ends n xs s) code)
+
+-- L7: the outputs that RUN names at site x: those that a net-input's step passes on; no other step has any
+unfoldable pub blockingAt : Network → ℕ → Site → ℕ → ℕ
+blockingAt n s x code = cond (ltb code 5) (passesOn n s (inAt x code) (x .outputs)) 0
 
 -- SEND (site, set): "appends to the out-queue, not started", under packet number q
 unfoldable pub enqueue : List Site → ℕ → ℕ → ℕ → List Site

@@ -1,5 +1,6 @@
 -- Laws that belong to no one function.
 pub mod Asked
+pub mod Blocked
 pub mod ByNumber
 pub mod Cut
 pub mod Gather

@@ -2,6 +2,7 @@
 // and proved equal to the definitions of crate model: the router, the net-inputs, the net-outputs, the out-queue, the
 // operator and the timeout.
 // Every public function takes anything.
+mod blocking;
 mod branch;
 mod inputs;
 mod phases;
@@ -13,6 +14,10 @@ mod terminators;
 mod timeout;
 mod work;
 
+pub use blocking::Answered;
+pub use blocking::ask_in;
+pub use blocking::blocking_in;
+pub use blocking::input_blocking;
 pub use inputs::InputTurn;
 pub use inputs::all_ready;
 pub use inputs::other_input;

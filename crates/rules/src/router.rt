@@ -238,7 +238,7 @@ fn choose_several(
 }
 
 // The router's rules but the last, at site s for a packet with this set.
-fn choose(
+pub(crate) fn choose(
     edition: u8,
     routes: &[u16],
     sites: usize,

@@ -43,6 +43,11 @@ lowest X = trailingZeros setBits X
 abbrev pub within : ℕ → ℕ → Bool
 within S X = ltb X (2 ^ S)
 
+-- the numbers below k of which f holds
+unfoldable pub those : (ℕ → Bool) → ℕ → ℕ
+those f zero = 0
+those f (suc k) = let fewer = those f k in cond (f k) (plus k fewer) fewer
+
 -- a target set: not empty, and every site in it below S
 abbrev pub targets : ℕ → ℕ → Bool
 targets S X = not (eqb X 0) && within S X

@@ -1,7 +1,7 @@
 -- Two networks of the same sizes and edition, stored in any versions, whose channels and routes agree within S sites,
 -- and that are refused alike: RUN, SEND and a list of events played singly say the same of both. Assumes nothing.
 use Prim.Native.Nat.{ℕ, _*_, _≤_, _<_}
-use mathlib.Core.Path.{_≡_, refl, ap, _∙_}
+use mathlib.Core.Path.{_≡_, refl, ap, ap₂, _∙_}
 use mathlib.Core.List.{List, [], _∷_}
 use borrow.Author.Tests.{eqb-true}
 use lib.Dec.{eqb}
@@ -17,7 +17,7 @@ use Rattle.model.specs.Runs.{Timed, Played, sendPlayed, runPlayed, advanceSingl
 use Rattle.theorems.proofs.Networks.{valid-ok}
 use Rattle.theorems.proofs.Refusals.{run-passes}
 use Rattle.theorems.proofs.Demand3.{seek-set}
-use Rattle.theorems.proofs.RoomLaws.{otherThan, run-same}
+use Rattle.theorems.proofs.RoomLaws.{otherThan, run-same, blocking-same}
 
 module _ (n : Network) (v : ℕ) (cs rs : List ℕ)
     (hc : n .sites ≤ sitesMost → (m : ℕ) → m < portCount * n .sites → getD cs m 0 ≡ channelAt n m)
@@ -38,11 +38,11 @@ module _ (n : Network) (v : ℕ) (cs rs : List ℕ)
     runs-same st s code h =
         let w = run-passes n st s code h in
         let few = valid-ok n (w .network) .few in
-        let left : Stepped → AfterRun =
-        λ r. record { answer = r .answer; state = record { sites = r .sites; counter = st .counter } } in
-        ap left
-        (run-same n v cs rs (hc few) (hr few) s (w .site) (st .sites) few
-        (seek-set n st s few (w .range) (w .site)) code)
+        let sets = seek-set n st s few (w .range) (w .site) in
+        let left : Stepped → ℕ → AfterRun =
+        λ r B. record { answer = r .answer; blocking = B; state = record { sites = r .sites; counter = st .counter } } in
+        ap₂ left (run-same n v cs rs (hc few) (hr few) s (w .site) (st .sites) few sets code)
+        (blocking-same n v cs rs (hc few) (hr few) s (w .site) (st .sites) few sets code)
 
     pub alike-ran : (st : State) (s code : ℕ) → ran other st s code ≡ ran n st s code
     unfolding ran

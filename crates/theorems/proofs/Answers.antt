@@ -12,7 +12,7 @@ use Rattle.theorems.specs.Names.{Site, State, Network, Ran, Nothing, Cha
 use Rattle.types.specs.Numbers.{answerOf}
 use Rattle.model.specs.Range.{inRange}
 use Rattle.model.specs.Steps.{run}
-use Rattle.model.specs.Events.{runRefusal, ran}
+use Rattle.model.specs.Events.{runRefusal, runs, ran}
 use Rattle.theorems.proofs.Networks.{Valid}
 use Rattle.theorems.proofs.RangeRun.{Told, run-in}
 use Rattle.theorems.proofs.RangeKept.{range-at, run-step}
@@ -21,12 +21,12 @@ use Rattle.model.specs.Shapes.{Shaped}
 abbrev Quiet : State → AfterRun → Type 0
 Quiet st a = (answerOf (a .answer) ≡ 0 → a .state ≡ st) × (a .state ≡ st → answerOf (a .answer) ≡ 0)
 
-quiet : (st : State) (s k : ℕ) (l : List Site) (a : Ran) → Told s k (st .sites) l a
-    → Quiet st (record { answer = a; state = record { sites = l; counter = st .counter } })
-quiet st s k l Nothing g = (λ e. ap (λ (w : List Site). record { sites = w; counter = st .counter }) g, λ e. refl)
-quiet st s k l Changed g = (λ e. absurd (omega arith), λ e. absurd (g (ap (λ (w : State). w .sites) e)))
-quiet st s k l (Serviced q u) g = (λ e. absurd (omega arith), λ e. absurd (g .0 (ap (λ (w : State). w .sites) e)))
-quiet st s k l (RunRefused r) g = absurd g
+quiet : (st : State) (s k B : ℕ) (l : List Site) (a : Ran) → Told s k (st .sites) l a
+    → Quiet st (record { answer = a; blocking = B; state = record { sites = l; counter = st .counter } })
+quiet st s k B l Nothing g = (λ e. ap (λ (w : List Site). record { sites = w; counter = st .counter }) g, λ e. refl)
+quiet st s k B l Changed g = (λ e. absurd (omega arith), λ e. absurd (g (ap (λ (w : State). w .sites) e)))
+quiet st s k B l (Serviced q u) g = (λ e. absurd (omega arith), λ e. absurd (g .0 (ap (λ (w : State). w .sites) e)))
+quiet st s k B l (RunRefused r) g = absurd g
 
 -- RUN, refused or not, answers 0 exactly if the state is the same
 pub answers : (n : Network) (st : State) (s code : ℕ) → Shaped st
@@ -36,7 +36,7 @@ unfolding ran
 answers n st s code sh =
     cond-ok (Quiet st) (eqb (runRefusal n st s code) 0) _ _
     (λ h.
-    quiet st s (st .counter) (run n (st .sites) s code .sites) (run n (st .sites) s code .answer)
+    quiet st s (st .counter) (runs n st s code .blocking) (run n (st .sites) s code .sites) (run n (st .sites) s code .answer)
     (run-step n st s code sh (eqb-true (runRefusal n st s code) 0 h) .told))
     (λ h. (λ e. refl, λ e. refl))
 

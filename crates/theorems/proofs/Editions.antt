@@ -199,7 +199,7 @@ module _ (e : ℕ) (n : Network) where
     step-same g d (Send s X) m = refl
     step-same g d (Run s code) m =
         let left : Stepped → AfterRun =
-        λ w. record { answer = w .answer; state = record { sites = w .sites; counter = g .state .counter } } in
+        λ w. record { answer = w .answer; blocking = 0; state = record { sites = w .sites; counter = g .state .counter } } in
         ap (λ (w : Stepped). runPlayed g d (left w)) (bare-run (g .state .sites) s code (m .0))
 
     played-same : (g : Played) (es : List Timed) → AllNamed n es → played other g es ≡ played n g es

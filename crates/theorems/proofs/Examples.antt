@@ -17,9 +17,9 @@ use Rattle.types.specs.Numbers.{stateNumber, terminatorNumber, sentNumbers, ran
 use Rattle.model.specs.Network.{networkRefusal}
 use Rattle.model.specs.Range.{inRange}
 use Rattle.model.specs.Router.{firstPort, gatherFrom, gather, spread, orElse, route}
-use Rattle.model.specs.NetInput.{hears, give, occupy, marksOf, seek, inState}
+use Rattle.model.specs.NetInput.{hears, give, occupy, marksOf, seek, inState, failed, passesOn}
 use Rattle.model.specs.Places.{localOutput, deliver, channelOutput, outQueue, operate, cutAt}
-use Rattle.model.specs.Steps.{netOutput, act, run, enqueue}
+use Rattle.model.specs.Steps.{netOutput, act, run, blockingAt, enqueue}
 use Rattle.model.specs.Events.{Event, Send, Run, ran, sent, runRefusal, sendRefusal, after, final}
 use Rattle.model.specs.Runs.{storedRefusal}
 use Rattle.model.proofs.Made.{net, runOn}
@@ -34,7 +34,7 @@ two = net 2 3 8 (4 ∷ noChannel ∷ noChannel ∷ noChannel ∷ 0 ∷ []) (0 �
 
 abbrev numbers : Network → State → Event → List ℕ
 numbers n st (Send s X) = sentNumbers (sent n st s X .answer)
-numbers n st (Run s code) = ranNumbers (ran n st s code .answer)
+numbers n st (Run s code) = let w = ran n st s code in ranNumbers (w .answer) (w .blocking)
 
 -- the answers to a list of events
 answers : Network → State → List Event → List (List ℕ)
@@ -47,7 +47,7 @@ at s [] = []
 at s (c ∷ cs) = Run s c ∷ at s cs
 
 changed : List ℕ
-changed = 0 ∷ 1 ∷ 0 ∷ 0 ∷ []
+changed = 0 ∷ 1 ∷ 0 ∷ 0 ∷ 0 ∷ []
 
 -- P5's events, and P6's after them; P7's
 p5 : List Event
@@ -85,14 +85,14 @@ table =
     -- "P4 one site, SEND 0 {0}, codes 10, 0, 5, 10, 0, 5, 11: answers 1 six times, then 2 (packet 0, site 0)."
     ∷ (
       answers (one 1) noState (Send 0 1 ∷ at 0 (10 ∷ 0 ∷ 5 ∷ 10 ∷ 0 ∷ 5 ∷ 11 ∷ [])),
-      (0 ∷ 0 ∷ []) ∷ replicate 6 changed ++ ((0 ∷ 2 ∷ 0 ∷ 0 ∷ []) ∷ []),
+      (0 ∷ 0 ∷ []) ∷ replicate 6 changed ++ ((0 ∷ 2 ∷ 0 ∷ 0 ∷ 0 ∷ []) ∷ []),
     )
     -- "P5 .. SEND 0 {0,1}; at site 0 codes 10, 0, 5, 12: input 0 is abort, output 1 holds abort."
     ∷ (look (final two noState p5) ∷ [], (6 ∷ 0 ∷ 2 ∷ []) ∷ [])
     -- "P6 from there 10, 0, 5, 11: services site 0, requeues {1}."
     ∷ (
       answers two noState p6 ++ (front (final two noState p6) ∷ []),
-      (0 ∷ 0 ∷ []) ∷ replicate 7 changed ++ ((0 ∷ 2 ∷ 0 ∷ 0 ∷ []) ∷ (1 ∷ 0 ∷ 2 ∷ []) ∷ []),
+      (0 ∷ 0 ∷ []) ∷ replicate 7 changed ++ ((0 ∷ 2 ∷ 0 ∷ 0 ∷ 0 ∷ []) ∷ (1 ∷ 0 ∷ 2 ∷ []) ∷ []),
     )
     -- "P7 as P5 up to 10, 0, 5, then 6, site 1's code 1, site 0's 10 and 0: output 0 holds keep-local, output 1 end."
     ∷ (look (final two noState p7) ∷ [], (0 ∷ 3 ∷ 1 ∷ []) ∷ [])
@@ -106,5 +106,5 @@ pub examples : map (λ row. row .0) table ≡ map (λ row. row .1) table
 unfolding table drawn seedless look front p5 p6 p7 changed at answers final ran sent runRefusal sendRefusal
     networkRefusal inRange all any over sum has plus minus sizeIn lowest trailingZeros firstPort gatherFrom gather
     spread orElse route hears give occupy marksOf seek inState localOutput deliver channelOutput outQueue operate
-    cutAt netOutput act run enqueue storedRefusal
+    cutAt netOutput act run blockingAt passesOn failed enqueue storedRefusal
 examples = refl

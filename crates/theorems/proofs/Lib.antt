@@ -42,3 +42,4 @@ pub mod Editions
 pub mod CalmPlaces
 pub mod CalmRules
 pub mod Calm
+pub mod Failures

@@ -76,7 +76,7 @@ sent-ways Q n st s X a b =
     cond-ok Q (eqb (sendRefusal n st s X) 0) _ _ (λ h. a (eqb-true (sendRefusal n st s X) 0 h)) (λ h. b (sendRefusal n st s X) h)
 
 pub ran-ways : (Q : AfterRun → Type 0) (n : Network) (st : State) (s code : ℕ) → (runRefusal n st s code ≡ 0 → Q (runs n st s code))
-    → ((f : ℕ) → Q (record { answer = RunRefused f; state = st })) → Q (ran n st s code)
+    → ((f : ℕ) → Q (record { answer = RunRefused f; blocking = 0; state = st })) → Q (ran n st s code)
 unfolding ran
 ran-ways Q n st s code a b =
     cond-ok Q (eqb (runRefusal n st s code) 0) _ _ (λ h. a (eqb-true (runRefusal n st s code) 0 h)) (λ h. b (runRefusal n st s code))

@@ -28,7 +28,8 @@ use Rattle.model.specs.Router.{serves, firstPort, gets, unchosen, gatherFrom, g
 use Rattle.model.specs.NetInput.{Turn, Stay, To, hears, ready, inState, netInput}
 use Rattle.model.specs.Places.{localOutput, channelOutput, outQueue, Work, Rest, Cleared, Service, operator, timeout}
 use Rattle.model.specs.Steps.{farEnd, Act, Idle, Own, Serve, Pass, ownTurn, passTurn, workDone, operatorAt, setBoth, localAt}
-use Rattle.model.specs.Steps.{netOutput, act, ends, patch, run}
+use Rattle.model.specs.Steps.{netOutput, act, ends, patch, run, blockingAt}
+use Rattle.model.proofs.Blocking.{passes-same, seeks-at}
 
 -- ---- what is passed on goes over one of the four channels
 
@@ -265,3 +266,19 @@ module _ (n : Network) (v : ℕ) (cs rs : List ℕ) (hc : (m : ℕ) → m < port
             act-same x
             (λ i hi e. let X = sets i hi e in router-same (x .outputs) (inAt x i .set) few (X .0) (X .1)) code in
             ap (patch other xs s) w ∙ patch-same (act n s x (ends n xs s) code) (act-on n s x (ends n xs s) code)
+
+        -- and the outputs that it names
+        pub blocking-same : n .sites ≤ sitesMost
+            → ((i : ℕ) → i < inputCount → let y = inAt (siteAt xs s) i in
+            y .phase ≡ Seek → (0 < y .set) × (y .set < 2 ^ n .sites))
+            → (code : ℕ) → blockingAt other s (siteAt xs s) code ≡ blockingAt n s (siteAt xs s) code
+        unfolding blockingAt
+        blocking-same few sets code =
+            let x = siteAt xs s in
+            let y = inAt x code in
+            either-way (ltb code 5)
+            (λ e.
+            rw e
+            (passes-same other n s y (x .outputs) refl
+            (λ a us. let X = sets code (ltb-true code 5 e) (seeks-at (y .phase) a) in router-same us (y .set) few (X .0) (X .1))))
+            (λ e. rw e refl)

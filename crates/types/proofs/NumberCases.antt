@@ -26,10 +26,13 @@ rows =
     ∷ (sentNumbers (SendRefused 11), 11 ∷ 0 ∷ [])
     ∷ (sentRefusal (Accepted 3) ∷ sentPacket (Accepted 3) ∷ sentRefusal (SendRefused 11) ∷ [], 0 ∷ 3 ∷ 11 ∷ [])
     -- RUN: "The answer is 2 with packet and site where the operator serviced, else 1 .., else 0."
-    ∷ (ranNumbers Nothing, 0 ∷ 0 ∷ 0 ∷ 0 ∷ [])
-    ∷ (ranNumbers Changed, 0 ∷ 1 ∷ 0 ∷ 0 ∷ [])
-    ∷ (ranNumbers (Serviced 4 1), 0 ∷ 2 ∷ 4 ∷ 1 ∷ [])
-    ∷ (ranNumbers (RunRefused 13), 13 ∷ 0 ∷ 0 ∷ 0 ∷ [])
+    -- L7: the set of outputs in the way, {1, 2} here and none, with 0 and with 1
+    ∷ (ranNumbers Nothing 6, 0 ∷ 0 ∷ 0 ∷ 0 ∷ 6 ∷ [])
+    ∷ (ranNumbers Nothing 0, 0 ∷ 0 ∷ 0 ∷ 0 ∷ 0 ∷ [])
+    ∷ (ranNumbers Changed 6, 0 ∷ 1 ∷ 0 ∷ 0 ∷ 6 ∷ [])
+    ∷ (ranNumbers Changed 0, 0 ∷ 1 ∷ 0 ∷ 0 ∷ 0 ∷ [])
+    ∷ (ranNumbers (Serviced 4 1) 0, 0 ∷ 2 ∷ 4 ∷ 1 ∷ 0 ∷ [])
+    ∷ (ranNumbers (RunRefused 13) 0, 13 ∷ 0 ∷ 0 ∷ 0 ∷ 0 ∷ [])
     ∷ (answerOf (Serviced 4 1) ∷ ranPacket (Serviced 4 1) ∷ ranSite (Serviced 4 1) ∷ [], 2 ∷ 4 ∷ 1 ∷ [])
     ∷ []
 

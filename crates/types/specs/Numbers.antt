@@ -55,15 +55,16 @@ sentNumbers (Accepted q) = 0 ∷ q ∷ []
 sentNumbers (SendRefused f) = f ∷ 0 ∷ []
 
 -- RUN: the refusal number, the answer, packet and site. "The answer is 2 with packet and site where the operator serviced,
--- else 1 if anything in the state changed, else 0."
-abbrev pub ranNumbers : Ran → List ℕ
-ranNumbers Nothing = 0 ∷ 0 ∷ 0 ∷ 0 ∷ []
-ranNumbers Changed = 0 ∷ 1 ∷ 0 ∷ 0 ∷ []
-ranNumbers (Serviced q s) = 0 ∷ 2 ∷ q ∷ s ∷ []
-ranNumbers (RunRefused f) = f ∷ 0 ∷ 0 ∷ 0 ∷ []
+-- else 1 if anything in the state changed, else 0." L7: last "the set of outputs whose emptying would each, alone, have let this
+-- packet connect", which a service and a refusal have not
+abbrev pub ranNumbers : Ran → ℕ → List ℕ
+ranNumbers Nothing B = 0 ∷ 0 ∷ 0 ∷ 0 ∷ B ∷ []
+ranNumbers Changed B = 0 ∷ 1 ∷ 0 ∷ 0 ∷ B ∷ []
+ranNumbers (Serviced q s) B = 0 ∷ 2 ∷ q ∷ s ∷ 0 ∷ []
+ranNumbers (RunRefused f) B = f ∷ 0 ∷ 0 ∷ 0 ∷ 0 ∷ []
 
 -- What the promises read of an answer: of SEND the refusal (0 if it is accepted) and the packet, of RUN the answer 0, 1
--- or 2, the packet and the site
+-- or 2, the packet and the site, which its set does not change
 abbrev pub sentRefusal : Sent → ℕ
 sentRefusal w = getD (sentNumbers w) 0 0
 
@@ -71,10 +72,10 @@ abbrev pub sentPacket : Sent → ℕ
 sentPacket w = getD (sentNumbers w) 1 0
 
 abbrev pub answerOf : Ran → ℕ
-answerOf w = getD (ranNumbers w) 1 0
+answerOf w = getD (ranNumbers w 0) 1 0
 
 abbrev pub ranPacket : Ran → ℕ
-ranPacket w = getD (ranNumbers w) 2 0
+ranPacket w = getD (ranNumbers w 0) 2 0
 
 abbrev pub ranSite : Ran → ℕ
-ranSite w = getD (ranNumbers w) 3 0
+ranSite w = getD (ranNumbers w 0) 3 0

@@ -13,6 +13,16 @@ isFree (Last c r) = false
 isFree (Aborted c) = false
 isFree (FinAbort c r) = false
 
+abbrev pub seeks : Phase → Bool
+seeks Free = false
+seeks Seek = true
+seeks (Open c) = false
+seeks (Wait c) = false
+seeks (Done c r) = false
+seeks (Last c r) = false
+seeks (Aborted c) = false
+seeks (FinAbort c r) = false
+
 -- "open or abort": the states in which a net-input can receive a terminator
 abbrev pub listening : Phase → Bool
 listening Free = false

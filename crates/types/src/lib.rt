@@ -149,9 +149,17 @@ pub struct AfterSend {
     pub state: State,
 }
 
+// RUN's answer, the outputs that stand in the packet's way where the router failed, and the next state.
 pub struct AfterRun {
     pub answer: Ran,
+    pub blocking: u64,
     pub state: State,
+}
+
+// The same of a RUN that leaves the next state in lent words.
+pub struct RunAnswer {
+    pub answer: Ran,
+    pub blocking: u64,
 }
 
 // What the player counts over a run.

@@ -18,7 +18,7 @@ use Rattle.types.specs.declared.Sent.the-variants.{the-data as Sent, Accepted, 
 use Rattle.types.specs.declared.Ran.the-variants.{the-data as Ran, Nothing, Changed, Serviced, Refused as RunRefused}
 use Rattle.model.specs.Network.{networkRefusal}
 use Rattle.model.specs.Range.{inRange}
-use Rattle.model.specs.Steps.{Act, Idle, Own, Serve, Pass, act, ends, patch, run}
+use Rattle.model.specs.Steps.{Act, Idle, Own, Serve, Pass, act, ends, patch, run, blockingAt}
 use Rattle.model.specs.Events.{refusalThen, runRefusal, sendRefusal, runs, ran, sent}
 use Rattle.model.specs.Runs.{trySend}
 use Rattle.theorems.proofs.Refusals.{ran-ways, sent-ways}
@@ -66,40 +66,43 @@ module _ (n : Network) (c : List ℕ) where
   -- ---- RUN
 
   module _ (s code : ℕ) where
-    ran-refused : (k : ℕ) → runRefusal n st s code ≡ k → (k ≡ 0 → ⊥) → ran n st s code ≡ record { answer = RunRefused k; state = st }
+    ran-refused : (k : ℕ) → runRefusal n st s code ≡ k → (k ≡ 0 → ⊥) → ran n st s code ≡ record { answer = RunRefused k; blocking = 0; state = st }
     unfolding ran
     ran-refused k e ne = rw (e, ne-eqb k 0 ne) refl
 
     of-refused : (k : ℕ) → isState c ≡ true → runRefusal n st s code ≡ k → (k ≡ 0 → ⊥)
-        → record { answer = RunRefused k; words = c } ≡ ofRan (ran n st s code)
+        → record { answer = RunRefused k; blocking = 0; words = c } ≡ ofRan (ran n st s code)
     of-refused k h e ne =
-        sym (ap ofRan (ran-refused k e ne) ∙ ap (λ (l : List ℕ). record { answer = RunRefused k; words = l }) (in-form c h))
+        sym (ap ofRan (ran-refused k e ne) ∙ ap (λ (l : List ℕ). record { answer = RunRefused k; blocking = 0; words = l }) (in-form c h))
 
-    pub run-shared : (k : ℕ) → k ≡ sharedRefusal n c → (k ≡ 0 → ⊥) → record { answer = RunRefused k; words = c } ≡ ranWords n c s code
+    pub run-shared : (k : ℕ) → k ≡ sharedRefusal n c → (k ≡ 0 → ⊥) → record { answer = RunRefused k; blocking = 0; words = c } ≡ ranWords n c s code
     unfolding ranWords runRefusal
     run-shared k e ne = go (isState c) refl
       where
         go : (b : Bool) → isState c ≡ b
-            → record { answer = RunRefused k; words = c } ≡ cond b (ofRan (ran n st s code)) (record { answer = RunRefused (formRefusal n); words = c })
+            → record { answer = RunRefused k; blocking = 0; words = c } ≡ cond b (ofRan (ran n st s code)) (record { answer = RunRefused (formRefusal n); blocking = 0; words = c })
         go true h = of-refused k h (shared-state _ k h e ne) ne
-        go false h = ap (λ (f : ℕ). record { answer = RunRefused f; words = c }) (shared-other k h e)
+        go false h = ap (λ (f : ℕ). record { answer = RunRefused f; blocking = 0; words = c }) (shared-other k h e)
 
     pub run-none : sharedRefusal n c ≡ 0 → (ltb s (n .sites) && ltb code (codesIn (n .edition))) ≡ false
-        → record { answer = RunRefused 9; words = c } ≡ ranWords n c s code
+        → record { answer = RunRefused 9; blocking = 0; words = c } ≡ ranWords n c s code
     unfolding ranWords runRefusal
     run-none z e =
         let f = fit n c z in
         rw (f .state) (of-refused 9 (f .state) (rw (f .network, f .range, e) refl) (λ k. omega arith))
 
-    pub run-done : (d : List ℕ) (r : Ran) → sharedRefusal n c ≡ 0 → (ltb s (n .sites) && ltb code (codesIn (n .edition))) ≡ true
-        → Did n c d s r (act n s (siteIn c s) (ends n (sitesOf c) s) code) → record { answer = r; words = d } ≡ ranWords n c s code
+    pub run-done : (d : List ℕ) (r : Ran) (B : ℕ) → sharedRefusal n c ≡ 0 → (ltb s (n .sites) && ltb code (codesIn (n .edition))) ≡ true
+        → Did n c d s r (act n s (siteIn c s) (ends n (sitesOf c) s) code) → B ≡ blockingAt n s (siteIn c s) code
+        → record { answer = r; blocking = B; words = d } ≡ ranWords n c s code
     unfolding ranWords ran runRefusal run
-    run-done d r z e p =
+    run-done d r B z e p q =
         let f = fit n c z in
         let w = runs n st s code .state in
+        let left : Ran → ℕ → List ℕ → RanWords = λ a k l. record { answer = a; blocking = k; words = l } in
         rw (f .state, f .network, f .range, e)
-        (ap₂ (λ (a : Ran) (l : List ℕ). record { answer = a; words = l }) (p .answer)
-        (words-are d w (p .stored .size) (p .stored .kept (f .form)) (state-after c d (w .sites) (p .stored))))
+        (ap₂ (λ (a : Ran) (l : List ℕ). left a B l) (p .answer)
+        (words-are d w (p .stored .size) (p .stored .kept (f .form)) (state-after c d (w .sites) (p .stored)))
+        ∙ ap (λ (k : ℕ). left (run n (st .sites) s code .answer) k (wordsOf w)) q)
 
   -- ---- SEND
 

@@ -63,7 +63,7 @@ unfolding noWords over sitesOf siteOf inputAt outputAt leavingAt arrivedAt inQue
 ran-words = refl
 
 -- refusals: the network's own before 13; a word changed that no state has
-untried : ranWords (oneSite 0) [] 0 0 ≡ record { answer = RunRefused 3; words = [] }
+untried : ranWords (oneSite 0) [] 0 0 ≡ record { answer = RunRefused 3; blocking = 0; words = [] }
 unfolding ranWords networkRefusal
 untried = refl
 

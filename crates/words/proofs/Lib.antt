@@ -1,5 +1,6 @@
 pub mod Acts
 pub mod Answered
+pub mod Blocked
 pub mod Codes
 pub mod EventExamples
 pub mod InputArm

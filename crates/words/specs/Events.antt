@@ -17,7 +17,8 @@ use Rattle.types.specs.declared.State.{State}
 use Rattle.types.specs.declared.Network.{Network}
 use Rattle.types.specs.declared.AfterSend.{AfterSend}
 use Rattle.types.specs.declared.Sent.the-variants.{the-data as Sent}
-use Rattle.types.specs.declared.Ran.the-variants.{the-data as Ran}
+use Rattle.types.specs.declared.RunAnswer.{RunAnswer}
+use Rattle.types.specs.declared.Ran.the-variants.{the-data as Ran, Refused as RunRefused}
 use Rattle.model.specs.Types.{noInput, siteAt, inAt, outAt, mark, carries}
 use Rattle.model.specs.Network.{channel, joined, isChannel}
 use Rattle.model.specs.NetInput.{Turn, Stay, To, netInput, seek}
@@ -62,6 +63,10 @@ pub record RunAsks (n : Network) (c : List ℕ) (s : ℕ) : Type 0 where
   pub feeder : outAt (siteIn c s) 0 .input < inputCount
   pub ends : (j : ℕ) → j < portCount → joined n s (suc j) ≡ true → channel n s (suc j) < endCount
   pub sought : (i : ℕ) → i < inputCount → stateNumber (inAt (siteIn c s) i .phase) ≡ 1 → targets (n .sites) (inAt (siteIn c s) i .set) ≡ true
+
+-- RUN turned down: its number, and no output in the way
+abbrev pub refusedRun : ℕ → RunAnswer
+refusedRun f = record { answer = RunRefused f; blocking = 0 }
 
 -- the answer r and the words d after the act a at site s
 pub record Did (n : Network) (c d : List ℕ) (s : ℕ) (r : Ran) (a : Act) : Type 0 where
@@ -145,6 +150,10 @@ pub record Seekable (m : List ℕ) (S : ℕ) (c : List ℕ) (s i : ℕ) : Type 0
   pub words : length c ≡ wordCount
   pub routes : length m ≡ sitesMost * sitesMost
   pub set : stateNumber (inAt (siteIn c s) i .phase) ≡ 1 → targets S (inAt (siteIn c s) i .set) ≡ true
+
+-- whichever it is
+abbrev pub SeekAsks : List ℕ → ℕ → List ℕ → ℕ → Type 0
+SeekAsks m S c s = (i : ℕ) → i < inputCount → Seekable m S c s i
 
 -- net-input i: of any network, where it is known which outputs are ready; of any with the channels l; of any with the
 -- edition, the routes m, sites and tries; of any with all of these

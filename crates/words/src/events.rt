@@ -1,23 +1,26 @@
 // RUN and SEND on any lent words, with their refusals 2, 17, 3, 6, 7, 13, 9, 10, 12, 11. A refusal writes nothing.
 ghost use mathlib.Core.Path.{_≡_};
 ghost use Prim.Native.Nat.{_<_};
-ghost use Rattle.model.specs.Steps.{act, ends};
+ghost use Rattle.model.specs.Steps.{act, ends, blockingAt};
 ghost use Rattle.layout.specs.Words.{sitesOf};
-ghost use Rattle.words.specs.Events.{Did, siteIn};
+ghost use Rattle.words.specs.Events.{Did, siteIn, refusedRun};
 ghost use Rattle.layout.specs.Public as spec;
+use crate::blocking::blocking_in_place;
 use crate::refusals::shared_refusal;
 use crate::runs::run_in_place;
 use crate::sends::send_in_place;
 use types::Network;
 use types::Ran;
+use types::RunAnswer;
 use types::Sent;
 
-// RUN on the words of a state in range of a valid network.
-fn run_checked(network: Network, words: &mut [u64], s: usize, code: usize) -> Ran
+// RUN on the words of a state in range of a valid network, and the outputs in the way, read before it.
+fn run_checked(network: Network, words: &mut [u64], s: usize, code: usize) -> RunAnswer
     requires { ⌜ (spec.sharedRefusal network (now words) ≡ 0) × (s < network .sites) ⌝ }
     ensures { λ r. ⌜
-        Did network (now (words .entry)) (now (words .exit)) s r
+        Did network (now (words .entry)) (now (words .exit)) s (r .answer)
         (act network s (siteIn (now (words .entry)) s) (ends network (sitesOf (now (words .entry))) s) code)
+        × (r .blocking ≡ blockingAt network s (siteIn (now (words .entry)) s) code)
         ⌝ }
 {
     let version = network.version;
@@ -27,7 +30,8 @@ fn run_checked(network: Network, words: &mut [u64], s: usize, code: usize) -> Ra
     let tries = network.tries;
     let channels = network.channels;
     let routes = network.routes;
-    run_in_place(
+    let blocking = blocking_in_place(edition, &routes, sites, tries, words, s, code);
+    let answer = run_in_place(
         &channels,
         &routes,
         version,
@@ -38,23 +42,37 @@ fn run_checked(network: Network, words: &mut [u64], s: usize, code: usize) -> Ra
         words,
         s,
         code,
-    )
+    );
+    RunAnswer { answer, blocking }
+}
+
+// RUN turned down.
+fn run_refused(refusal: u8) -> RunAnswer
+    ensures { λ r. ⌜ r ≡ refusedRun refusal ⌝ }
+{
+    RunAnswer {
+        answer: Ran::Refused(refusal),
+        blocking: 0,
+    }
 }
 
 // RUN (site, code).
-pub fn run(network: Network, words: &mut [u64], site: usize, code: usize) -> Ran
-    ensures { λ r. ⌜ record { answer = r; words = now (words .exit) } ≡ spec.ranWords network (now (words .entry)) site code ⌝ }
+pub fn run(network: Network, words: &mut [u64], site: usize, code: usize) -> RunAnswer
+    ensures { λ r. ⌜
+        record { answer = r .answer; blocking = r .blocking; words = now (words .exit) } ≡
+        spec.ranWords network (now (words .entry)) site code
+        ⌝ }
 {
     let sites = network.sites;
     let refusal = shared_refusal(network, words);
     if refusal != 0 {
-        return Ran::Refused(refusal);
+        return run_refused(refusal);
     }
     let codes = draws::codes_in(network.edition);
     if (site < sites) & (code < codes) {
         return run_checked(network, words, site, code);
     }
-    Ran::Refused(9)
+    run_refused(9)
 }
 
 // SEND (site, set).

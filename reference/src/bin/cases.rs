@@ -1,6 +1,7 @@
-//! `cases SEED COUNT WIDE HELD RESTRICTED INPUT EXPECTED`: writes single event cases and their outcomes, COUNT of the
-//! first form, then of the second WIDE in edition 1, HELD in edition 2 and RESTRICTED in edition 3, of which the
-//! first are those of `making::edges`, `making::held` and `making::restricted`.
+//! `cases SEED COUNT WIDE HELD RESTRICTED ASKED INPUT EXPECTED`: writes single event cases and their outcomes, COUNT of
+//! the first form, then of the second WIDE in edition 1, HELD in edition 2, RESTRICTED in edition 3, and ASKED in any
+//! edition of which the outputs in the way are told. The first of these are those of `making::edges`, `making::held`,
+//! `making::restricted` and `making::asked`.
 //!
 //! It prints how many cases there are of each kind, how many break each clause of the split output's range on purpose,
 //! and the refusals and rules that they reach, for each version and edition.
@@ -8,24 +9,23 @@
 use reference::coverage::{kind, line, Coverage};
 use reference::making::branches::CLAUSES;
 use reference::making::cases::{Maker, KINDS};
-use reference::making::{edges, held, restricted};
-use reference::network::{EDITION_2, EDITION_3};
+use reference::making::{asked, edges, held, restricted};
+use reference::network::{EDITIONS, EDITION_2, EDITION_3};
 use reference::text::{read_cases, Case, Form, Writer};
 use std::process::exit;
 
-/// So many cases, the first of them those that are given, how many of these there are, and how many of each other kind.
-fn made(maker: &mut Maker, given: Vec<Case>, count: usize) -> (Vec<Case>, Vec<usize>) {
+/// So many cases, the first of them those that are given, the others by the makers in turn; how many are given, and how
+/// many there are of each other kind.
+fn made(makers: &mut [Maker], given: Vec<Case>, count: u64) -> (Vec<Case>, Vec<usize>) {
     let mut cases = given;
-    cases.truncate(count);
+    cases.truncate(count as usize);
     let mut kinds = vec![cases.len()];
     kinds.resize(1 + KINDS.len(), 0);
-    let mut case = || {
-        let kind = maker.any_kind();
+    let makers_in_turn = (0..makers.len()).cycle();
+    for turn in makers_in_turn.take(count as usize - cases.len()) {
+        let kind = makers[turn].any_kind();
         kinds[1 + kind] += 1;
-        maker.any_case(kind)
-    };
-    while cases.len() < count {
-        cases.push(case());
+        cases.push(makers[turn].any_case(kind));
     }
     (cases, kinds)
 }
@@ -35,14 +35,17 @@ fn main() -> std::io::Result<()> {
     let [numbers @ .., input, expected] = &args[..] else { usage() };
     let numbers: Result<Vec<u64>, _> = numbers.iter().map(|word| word.parse()).collect();
     let Ok([seed, counts @ ..]) = numbers.as_deref() else { usage() };
-    let [count, wide, held, restricted] = *counts else { usage() };
-    let mut last = Maker::of_edition(*seed, EDITION_3);
-    last.show(&restricted::cases());
+    let [count, wide, held, restricted, asked] = *counts else { usage() };
+    let mut last = [Maker::of_edition(*seed, EDITION_3)];
+    last[0].show(&restricted::cases());
+    let mut asking = EDITIONS.map(|edition| Maker::asking(*seed, edition));
+    asking.iter_mut().for_each(|maker| maker.show(&asked::cases()));
     let parts = [
-        made(&mut Maker::new(*seed, Form::First), Vec::new(), count as usize),
-        made(&mut Maker::new(*seed, Form::Second), edges::cases(), wide as usize),
-        made(&mut Maker::of_edition(*seed, EDITION_2), held::cases(), held as usize),
-        made(&mut last, restricted::cases(), restricted as usize),
+        made(&mut [Maker::new(*seed, Form::First)], Vec::new(), count),
+        made(&mut [Maker::new(*seed, Form::Second)], edges::cases(), wide),
+        made(&mut [Maker::of_edition(*seed, EDITION_2)], held::cases(), held),
+        made(&mut last, restricted::cases(), restricted),
+        made(&mut asking, asked::cases(), asked),
     ];
     let kinds = parts.each_ref().map(|(_, kinds)| kinds.clone());
     let cases = parts.map(|(cases, _)| cases).concat();
@@ -59,12 +62,13 @@ fn main() -> std::io::Result<()> {
         outcomes.outcome(&outcome);
     }
     std::fs::write(expected, &outcomes.text)?;
-    println!("{:>12}{:>12}{:>12}{:>12}", "first form", "second form", "edition 2", "edition 3");
+    let parts = ["first form", "second form", "edition 2", "edition 3", "asked"];
+    println!("{}", parts.map(|words| format!("{words:>12}")).concat());
     let words = KINDS.iter().map(|(words, _)| *words);
     for (at, words) in std::iter::once("one by one, at a limit or for a rule").chain(words).enumerate() {
         println!("{}  case: {words}", kinds.each_ref().map(|kinds| format!("{:>12}", kinds[at])).concat());
     }
-    for (count, words) in last.broken.iter().zip(CLAUSES) {
+    for (count, words) in last[0].broken.iter().zip(CLAUSES) {
         println!("{count:>48}  broken: {words}");
     }
     println!("{}", Coverage::heading());
@@ -74,6 +78,6 @@ fn main() -> std::io::Result<()> {
 }
 
 fn usage() -> ! {
-    eprintln!("usage: cases SEED COUNT WIDE HELD RESTRICTED INPUT EXPECTED");
+    eprintln!("usage: cases SEED COUNT WIDE HELD RESTRICTED ASKED INPUT EXPECTED");
     exit(2);
 }

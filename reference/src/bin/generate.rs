@@ -11,6 +11,7 @@ use reference::making::{damage::damaged, runs};
 use reference::owing::{self, DEBTS};
 use reference::player::{play, play_run, Service, BOOK};
 use reference::refusal::Refusal;
+use reference::why;
 use std::path::PathBuf;
 use std::process::exit;
 
@@ -48,6 +49,7 @@ impl Reached {
         let wiring = run.network.wiring().expect("read archives have valid networks");
         let (counts, state) = play_run(run, &wiring, self.coverage.rules(kind), |_| ());
         assert_eq!(counts.pairs, counts.serviced + counts.owed, "pairs are serviced or owed");
+        why::walk(run, &wiring, self.coverage.rules(kind), |_| ());
         let refused = run.sends.len() as u64 - u64::from(counts.accepted);
         self.coverage.refused(kind, Refusal::Full.number(), refused);
         owing::each(&state, |kind, _, _| self.debts[kind as usize][column] += 1);

@@ -1,24 +1,27 @@
 //! `trace [--all] FILE`: what happened in the stored run, event by event, as docs/TRACE.md has it.
+//! `trace --why FILE`: every failed ask with the outputs in the way, and how often each of them was.
 
 use reference::print::read_seen;
 use reference::trace::trace;
+use reference::why::why;
 use std::fs::File;
 use std::io::{self, Write};
 use std::process::ExitCode;
 
 fn main() -> io::Result<ExitCode> {
-    let mut words: Vec<_> = std::env::args_os().skip(1).collect();
-    let all = words.first().is_some_and(|first| first == "--all");
-    if all {
-        words.remove(0);
-    }
-    let [name] = &words[..] else {
-        eprintln!("usage: trace [--all] FILE");
+    let words: Vec<_> = std::env::args_os().skip(1).collect();
+    let options = words.iter().take_while(|word| *word == "--all" || *word == "--why").count();
+    let (options @ ([] | [_]), [name]) = words.split_at(options) else {
+        eprintln!("usage: trace [--all | --why] FILE");
         return Ok(ExitCode::from(2));
     };
     let bytes = read_seen(File::open(name)?)?;
+    let told = match options.first() {
+        Some(option) if option == "--why" => why(&bytes),
+        all => trace(&bytes, all.is_some()),
+    };
     let mut out = io::stdout().lock();
-    match trace(&bytes, all) {
+    match told {
         Ok(text) => out.write_all(text.as_bytes())?,
         Err(refusal) => {
             writeln!(out, "refused {}", refusal.number())?;

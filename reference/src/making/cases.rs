@@ -2,13 +2,13 @@
 //!
 //! Of the events that a state allows, those whose rules the cases so far show least are preferred.
 
-use super::{branches, clauses, graphs, marks, rng::Rng, runs, spoil, states};
+use super::{asked, branches, clauses, graphs, marks, rng::Rng, runs, spoil, states};
 use crate::network::{Network, EDITION, EDITION_2, EDITION_3, SITES, SITES_OF_1};
 use crate::single::Event;
 use crate::state::State;
 use crate::step::Machine;
 use crate::text::{Case, Form};
-use crate::watch::{Rule, Tally, OF_CLOSING};
+use crate::watch::{is_of_an_ask, is_of_the_way, Rule, Tally, OF_CLOSING};
 
 /// The kinds of case, with the share of each in a hundred.
 pub const KINDS: [(&str, usize); 6] = [
@@ -20,16 +20,22 @@ pub const KINDS: [(&str, usize); 6] = [
     ("two faults at once", 6),
 ];
 
+/// The shares of the same where the outputs in the way are told.
+const ASKED: [usize; KINDS.len()] = [50, 30, 4, 8, 4, 4];
+
 /// States looked at for one case.
 const TURNS: usize = 14;
 
-/// How much oftener than others the rules that edition 2 brings are shown in its cases.
+/// How much oftener than others the rules that edition 2 brings are shown in its cases, and what the outputs in the way
+/// are like where they are told.
 const OFTENER: u64 = 5;
 
 pub struct Maker {
     rng: Rng,
     form: Form,
     edition: u8,
+    /// Whether every case is a RUN of which the outputs in the way are told.
+    asks: bool,
     /// The rules that the cases so far take, of the second form those in version 2, of edition 2 or 3 those in it.
     pub shown: Tally,
     /// How many cases so far break each of `branches::CLAUSES` on purpose.
@@ -40,12 +46,18 @@ impl Maker {
     /// Cases of edition 1, in the first form of version 1, in the second of both versions.
     pub fn new(seed: u64, form: Form) -> Maker {
         let (rng, shown) = (Rng::new(seed), Tally::default());
-        Maker { rng, form, edition: EDITION, shown, broken: [0; branches::CLAUSES.len()] }
+        Maker { rng, form, edition: EDITION, asks: false, shown, broken: [0; branches::CLAUSES.len()] }
     }
 
     /// Cases of edition 2 or 3, in the second form, from numbers of their own.
     pub fn of_edition(seed: u64, edition: u8) -> Maker {
         Maker { edition, ..Maker::new(seed ^ u64::from(edition) << 32, Form::Second) }
+    }
+
+    /// Cases of this edition of which the outputs in the way are told, in the second form, from numbers of their own.
+    pub fn asking(seed: u64, edition: u8) -> Maker {
+        let rng = Rng::new(seed ^ u64::from(edition) << 40);
+        Maker { rng, asks: true, ..Maker::of_edition(seed, edition) }
     }
 
     /// Counts the rules that these cases take as shown.
@@ -61,17 +73,18 @@ impl Maker {
     pub fn any_kind(&mut self) -> usize {
         let ticket = self.rng.below(100);
         let mut upto = 0;
-        let here = |(_, share): &(&str, usize)| {
+        let here = |share| {
             upto += share;
             ticket < upto
         };
-        KINDS.iter().position(here).expect("the shares make a hundred")
+        let shares = if self.asks { ASKED } else { KINDS.map(|(_, share)| share) };
+        shares.into_iter().position(here).expect("the shares make a hundred")
     }
 
     /// A case of the kind with this place in `KINDS`.
     pub fn any_case(&mut self, kind: usize) -> Case {
         loop {
-            let mut case = self.telling_case(kind == 1, if kind < 2 { TURNS } else { 1 });
+            let mut case = self.telling_case(kind == 1, if kind < 2 || self.asks { TURNS } else { 1 });
             let (rng, form, later) = (&mut self.rng, self.form, self.edition > EDITION);
             let mut broken = None;
             match kind {
@@ -86,6 +99,9 @@ impl Maker {
                 4 => case.event = spoil::stray_event(rng, form, &case.network),
                 5 => two_faults(rng, &mut case),
                 _ => (),
+            }
+            if self.asks {
+                case.event = asked::asking(rng, case.event);
             }
             if rng.one_in(3) {
                 spoil::junk_beyond(rng, form, &mut case.network);
@@ -111,7 +127,7 @@ impl Maker {
 
     /// One in five a SEND, else a RUN: that of so many whose rules have been shown least, or any.
     fn telling_case(&mut self, reached: bool, turns: usize) -> Case {
-        let (send, any) = (self.rng.one_in(5), self.rng.one_in(4));
+        let (send, any) = (!self.asks && self.rng.one_in(5), self.rng.one_in(4));
         let turns = if send || any { 1 } else { turns };
         let cases: Vec<Case> = (0..turns).map(|_| self.case(reached, send)).collect();
         cases.into_iter().min_by_key(|case| self.shown_least(case)).expect("at least one turn")
@@ -160,8 +176,8 @@ impl Maker {
         }
         if reached {
             let mut run = runs::run_on(rng, network, false);
-            run.sends.truncate(4);
-            return states::end_of(run);
+            run.sends.truncate(if self.asks { 12 } else { 4 });
+            return states::end_of(if self.asks { asked::cut(rng, run) } else { run });
         }
         let mut state = states::sparse_state(rng, &network);
         if self.edition > EDITION {
@@ -179,13 +195,27 @@ impl Maker {
         if send {
             event = Event::Send { site, set: rng.target_set(sites) };
         } else if !rng.one_in(5) {
-            let mut order: Vec<usize> = (0..sites.min(4) * codes).collect();
-            rng.shuffle(&mut order);
-            let addresses = order.into_iter().map(|m| (self.looked_at(sites, m / codes), m % codes));
+            let addresses = self.addresses(sites, codes, &state);
             let (site, code) = self.least_shown(&network, &state, addresses);
             event = Event::Run { site: site as u64, code: code as u64 };
         }
+        if self.asks {
+            event = asked::asking(&mut self.rng, event);
+        }
         Case { form: self.form, network, state, event }
+    }
+
+    /// Sites and codes in any order: those of four sites; where the outputs in the way are told, the net-inputs in seek
+    /// if there are any.
+    fn addresses(&mut self, sites: usize, codes: usize, state: &State) -> Vec<(usize, usize)> {
+        let mut order: Vec<usize> = (0..sites.min(4) * codes).collect();
+        self.rng.shuffle(&mut order);
+        let mut seeking = if self.asks { asked::seeking(state) } else { Vec::new() };
+        self.rng.shuffle(&mut seeking);
+        if seeking.is_empty() {
+            return order.into_iter().map(|m| (self.looked_at(sites, m / codes), m % codes)).collect();
+        }
+        seeking
     }
 
     /// The first four sites; in the second form the first and the last, the second and the last but one.
@@ -202,15 +232,19 @@ impl Maker {
         &self,
         network: &Network,
         state: &State,
-        addresses: impl Iterator<Item = (usize, usize)>,
+        addresses: Vec<(usize, usize)>,
     ) -> (usize, usize) {
         let wiring = network.wiring().expect("a valid network");
         let shown = |&(site, code): &(usize, usize)| {
             let (mut state, mut rules) = (state.clone(), Vec::new());
-            Machine { wiring: &wiring, state: &mut state, watch: &mut rules }.run(site, code);
+            let mut machine = Machine { wiring: &wiring, state: &mut state, watch: &mut rules };
+            if self.asks {
+                machine.tell_way(site, code);
+            }
+            machine.run(site, code);
             self.least(&rules)
         };
-        addresses.min_by_key(shown).expect("there are codes")
+        addresses.into_iter().min_by_key(shown).expect("there are codes")
     }
 
     /// How often the least shown of the case's rules has been shown.
@@ -220,10 +254,13 @@ impl Maker {
         self.least(&rules)
     }
 
+    /// How often the least shown of these has been shown, of an ask's alone where the outputs in the way are told.
     fn least(&self, rules: &[Rule]) -> u64 {
-        let oftener = |rule: &Rule| self.edition == EDITION_2 && OF_CLOSING.contains(rule);
+        let closes = |rule: &Rule| self.edition == EDITION_2 && OF_CLOSING.contains(rule);
+        let oftener = |rule: &Rule| closes(rule) || self.asks && is_of_the_way(*rule);
         let shown = |rule: &Rule| self.shown.count(*rule) / if oftener(rule) { OFTENER } else { 1 };
-        rules.iter().map(shown).min().unwrap_or(u64::MAX)
+        let counts = |rule: &&Rule| !self.asks || is_of_an_ask(**rule);
+        rules.iter().filter(counts).map(shown).min().unwrap_or(u64::MAX)
     }
 }
 

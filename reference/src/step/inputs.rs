@@ -32,7 +32,7 @@ fn giving(received: Terminator, connection: Connection) -> Rule {
     }
 }
 
-impl<W: Watch> Machine<'_, W> {
+impl<'a, W: Watch> Machine<'a, W> {
     pub(super) fn net_input(&mut self, site: usize, port: usize) -> Answer {
         let place = PORTS * site + port;
         match self.state.inputs[place].phase {
@@ -87,17 +87,21 @@ impl<W: Watch> Machine<'_, W> {
         self.changed(if received == Terminator::End { Rule::FinAbortEnd } else { Rule::FinAbortAbort })
     }
 
-    /// Seek: ask the router.
-    fn seek(&mut self, site: usize, port: usize) -> Answer {
-        let place = PORTS * site + port;
-        let Input { set, tries, .. } = self.state.inputs[place];
+    /// What a net-input in seek asks the router.
+    #[inline]
+    pub(super) fn request(&self, site: usize, port: usize) -> Request<'a> {
+        let Input { set, tries, .. } = self.state.inputs[PORTS * site + port];
         let outputs = self.state.outputs_of(site);
         let empty = (0..OUTPUTS).filter(|&p| !outputs[p].used).fold(0, |mask, p| mask | 1 << p);
-        let request = Request { wiring: self.wiring, site, set, empty, tries };
-        match request.decide(self.watch) {
+        Request { wiring: self.wiring, site, set, empty, tries }
+    }
+
+    /// Seek: ask the router.
+    fn seek(&mut self, site: usize, port: usize) -> Answer {
+        match self.request(site, port).decide(self.watch) {
             Verdict::Connect(choice) => self.connect(site, port, choice),
             Verdict::OneMoreTry => {
-                self.state.inputs[place].tries += 1;
+                self.state.inputs[PORTS * site + port].tries += 1;
                 Answer::Changed
             }
             Verdict::Fail => Answer::Nothing,

@@ -42,8 +42,12 @@ impl Reader<'_> {
         let network = self.network(form);
         let state = self.state(form);
         let (kind, site, number) = (self.number(), self.number(), self.number());
-        let event =
-            if kind == 1 { Event::Run { site, code: number } } else { Event::Send { site, set: number } };
+        let event = match kind {
+            1 => Event::Run { site, code: number },
+            2 => Event::Send { site, set: number },
+            3 => Event::Ask { site, code: number },
+            _ => panic!("no event of kind {kind}"),
+        };
         Case { form, network, state, event }
     }
 

@@ -52,11 +52,18 @@ impl Bench {
 
     /// RUN, with 0 and 1 as numbers; a service answers 2.
     pub fn run(&mut self, site: u64, code: u64) -> u8 {
-        match run(&self.network, &mut self.state, site, code).expect("not refused") {
+        self.asked(site, code).0
+    }
+
+    /// The same, and the outputs in the way.
+    pub fn asked(&mut self, site: u64, code: u64) -> (u8, u8) {
+        let (answer, outputs) = run(&self.network, &mut self.state, site, code).expect("not refused");
+        let number = match answer {
             Answer::Nothing => 0,
             Answer::Changed => 1,
             Answer::Serviced { .. } => 2,
-        }
+        };
+        (number, outputs)
     }
 
     /// RUNs at one site; every one must answer 1.
@@ -67,7 +74,7 @@ impl Bench {
     }
 
     pub fn answer(&mut self, site: u64, code: u64) -> Result<Answer, Refusal> {
-        run(&self.network, &mut self.state, site, code)
+        run(&self.network, &mut self.state, site, code).map(|(answer, _)| answer)
     }
 
     pub fn input(&mut self, site: usize, port: usize) -> &mut Input {

@@ -15,7 +15,7 @@ use reference::single::{run, send};
 use reference::state::State;
 use reference::step::Answer;
 use reference::text::Form;
-use reference::watch::{is_of, Tally, RULES};
+use reference::watch::{is_of, is_of_the_way, Tally, RULES};
 use std::collections::HashMap;
 
 type Pairs = HashMap<(u8, usize), u32>;
@@ -80,7 +80,7 @@ fn from_any_state_in_range_the_answer_is_0_exactly_if_nothing_changed() {
         for code in 0..wiring.codes() as u64 {
             let mut next = state.clone();
             let site = rng.below(wiring.sites) as u64;
-            let answer = run(&network, &mut next, site, code).expect("not refused");
+            let (answer, _) = run(&network, &mut next, site, code).expect("not refused");
             assert_eq!(answer == Answer::Nothing, next == state, "site {site} code {code}");
             if wiring.closes && state.outputs != next.outputs {
                 closed += next.outputs.iter().filter(|output| output.closing).count();
@@ -110,7 +110,7 @@ fn a_played_run_is_its_single_events_in_order() {
             if draw < stored.draws {
                 let (site, code) = event(draws.next_value(), wiring.sites, wiring.codes());
                 let answer = run(&stored.network, &mut state, site as u64, code as u64);
-                if let Answer::Serviced { packet, site } = answer.expect("not refused") {
+                if let (Answer::Serviced { packet, site }, _) = answer.expect("not refused") {
                     services.push(Service { draw, packet, site });
                 }
             }
@@ -181,7 +181,7 @@ fn made_runs_and_cases_reach_every_rule() {
             let kind = maker.any_kind();
             maker.any_case(kind);
         }
-        for (rule, words) in RULES {
+        for (rule, words) in RULES.iter().filter(|(rule, _)| !is_of_the_way(*rule)) {
             assert_eq!(maker.shown.count(*rule) > 0, is_of(edition, *rule), "edition {edition}: {words}");
         }
         assert!(maker.broken.iter().all(|&cases| (cases > 0) == (edition == 3)), "{:?}", maker.broken);
@@ -205,7 +205,7 @@ fn check_reached(what: &str, edition: u8, seen: Tally) {
         2 => &UNREACHED_IN_EDITION_2[..],
         _ => &UNREACHED_IN_EDITION_3,
     };
-    for (rule, words) in RULES {
+    for (rule, words) in RULES.iter().filter(|(rule, _)| !is_of_the_way(*rule)) {
         let there = is_of(edition, *rule) && !UNREACHED.contains(rule) && !unreached.contains(rule);
         assert_eq!(seen.count(*rule) > 0, there, "by runs of {what}: {words}");
     }

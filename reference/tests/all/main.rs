@@ -1,5 +1,6 @@
 //! The second model's own tests. Expected values are typed from document 01 and its readings.
 
+mod asked;
 mod bounds;
 mod branches;
 mod counters;
@@ -21,4 +22,5 @@ mod thrice;
 mod traces;
 mod typed;
 mod versions;
+mod why;
 mod words;

@@ -88,6 +88,7 @@ fn r29_two_sites_can_jam() {
     let (counts, mut state) = reference::player::play_run(&stored, &wiring, (), |_| ());
     assert!(counts.owed > 0);
     for (site, code) in (0..2).flat_map(|site| (0..13).map(move |code| (site, code))) {
-        assert_eq!(run(&stored.network, &mut state, site, code), Ok(Answer::Nothing));
+        let answer = run(&stored.network, &mut state, site, code).map(|(answer, _)| answer);
+        assert_eq!(answer, Ok(Answer::Nothing));
     }
 }

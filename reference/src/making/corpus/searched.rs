@@ -6,7 +6,7 @@ use crate::archive::Run;
 use crate::making::{rng::Rng, runs};
 use crate::owing::{DEBTS, DEBTS_OF_1};
 use crate::player::Play;
-use crate::watch::{is_of_edition_3, Rule, Tally, OF_CLOSING, RULES};
+use crate::watch::{is_of_edition_3, is_of_the_way, Rule, Tally, OF_CLOSING, RULES};
 
 /// Rules that no run from the empty state reaches; the single event cases have them.
 pub const UNREACHED: [Rule; 5] = [
@@ -133,7 +133,8 @@ pub(super) fn kebab(name: &str) -> String {
 pub fn all() -> Vec<Named> {
     let mut all = Vec::new();
     let lists = [&UNREACHED[..], &PLAIN, &OF_CLOSING];
-    let left_out = |rule: &Rule| is_of_edition_3(*rule) || lists.iter().any(|list| list.contains(rule));
+    let of_others = |rule: Rule| is_of_edition_3(rule) || is_of_the_way(rule);
+    let left_out = |rule: &Rule| of_others(*rule) || lists.iter().any(|list| list.contains(rule));
     for (rule, _) in RULES.iter().filter(|(rule, _)| !left_out(rule)) {
         all.push((format!("rule-{}.bin", kebab(&format!("{rule:?}"))), showing(*rule).bytes()));
     }

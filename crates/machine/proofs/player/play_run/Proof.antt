@@ -166,7 +166,7 @@ loop-again-3 c =
     let n = l .before .before .before .args .network in
     let named = m .before .event-of in
     let ran = run-done n (l .loop .state) (named .result .site) (named .result .code) (m .change-of .ensures) (e .before .before .answer-to .ensures)
-    (e .before .before .before .store-change .ensures) in
+    (e .before .before .before .store-change .ensures) refl in
     drawn-on (l .loop .inv) (k .before .before .before .before .loop-test .taken) (k .before .before .before .capped .ensures)
     (k .before .is-due .ensures) (k .if1 .left) (m .before .before .ticked .ensures) (named .ensures) ran
     (e .enter-answer .ensures .0) (e .enter-answer .ensures .1)
