@@ -11,7 +11,7 @@ export CARGO_TARGET_DIR="$root/target/reference"
 program="$root/target/bin/singles"
 data=tests/clauses
 texts=target/clauses
-files='names passes inputs queues beyond networks order runs versions wide editions branches splits'
+files='names passes inputs queues beyond networks order runs versions wide editions branches splits asks'
 
 fail() {
     echo "clauses: $1" >&2

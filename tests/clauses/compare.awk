@@ -52,7 +52,7 @@ function compare(e, size,    i, line, first, number) {
             return
         }
         if (i == 1)
-            differ("refusal, answer, packet, site" (split(TYPED[line], number, " ") == 5 ? ", outputs in the way" : ""), \
+            differ("refusal, answer, packet, site" (split(TYPED[line], number, " ") == 5 ? ", outputs" : ""), \
                 TYPED[line], PRINTED[line])
         else if (i == 2)
             differ("counter", TYPED[line], PRINTED[line])

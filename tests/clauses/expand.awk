@@ -244,8 +244,8 @@ function new_case(name, n, field,    i) {
     keep("end of " name)
 }
 
-# RUN site code -> ANSWER or SEND site set -> ANSWER: from the case's own state, or with `then` from the one just left. Behind
-# the answer of RUN may stand `, outputs ..`, those in the way.
+# RUN site code -> ANSWER or SEND site set -> ANSWER: from the case's own state, or with `then` from the one just left.
+# `, outputs ..` behind the answer of RUN are those in the way.
 function new_event(name, words,    n, word, next_one) {
     next_one = sub(/^then /, "", words)
     if (event != "")

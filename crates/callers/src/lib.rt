@@ -19,9 +19,11 @@ pub fn run(network: Network, state: State, site: usize, code: usize) -> AfterRun
 {
     let after = machine::run(network, state, site, code);
     let answer = after.answer;
+    let blocking = after.blocking;
     let next = after.state;
     AfterRun {
         answer,
+        blocking,
         state: next,
     }
 }

@@ -170,9 +170,11 @@ module _ (n : Network) (byte : n .tries < 256) where
       (w .0, w .1 ∙ ap (λ (st : State). final n st es) empty-words)
 
   pub called-run : (es : List Event) (s code : ℕ)
-      → ranWords n (wordsFinal n noWords es) s code .answer ≡ ran n (final n noState es) s code .answer
+      → let r = ranWords n (wordsFinal n noWords es) s code in
+      let w = ran n (final n noState es) s code in
+      (r .answer ≡ w .answer) × (r .blocking ≡ w .blocking)
   unfolding ranWords
-  called-run es s code = let w = called es in rw (w .0, w .1) refl
+  called-run es s code = let w = called es in (rw (w .0, w .1) refl, rw (w .0, w .1) refl)
 
   pub called-send : (es : List Event) (s X : ℕ)
       → sentWords n (wordsFinal n noWords es) s X .answer ≡ sent n (final n noState es) s X .answer

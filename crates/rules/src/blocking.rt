@@ -86,12 +86,7 @@ pub fn ask_in(
 }
 
 // What a net-input in seek passes on of the router's answer: the outputs in the way where nothing serves and the packet is not handed.
-fn passed_on(
-    tries: u8,
-    input: Input,
-    outputs: [Output; base::OUTPUTS],
-    answer: Answered,
-) -> u64
+fn passed_on(tries: u8, input: Input, outputs: [Output; base::OUTPUTS], answer: Answered) -> u64
     ensures { λ r. ⌜ r ≡ passedOf tries input outputs answer ⌝ }
 {
     let found = answer.found;

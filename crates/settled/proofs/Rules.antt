@@ -4,21 +4,24 @@ use mathlib.Core.Path.{refl}
 use Rattle.settled.specs.Outcomes.{Settles}
 use Rattle.settled.proofs.Shown.{settled, same}
 use Rattle.rules.proofs.all_ready as the-all-ready
-use Rattle.rules.proofs.other_input as the-other-input
-use Rattle.rules.proofs.seek_turn as the-seek-turn
+use Rattle.rules.proofs.ask_in as the-ask-in
+use Rattle.rules.proofs.blocking_in as the-blocking-in
+use Rattle.rules.proofs.can_cut as the-can-cut
+use Rattle.rules.proofs.channel_output as the-channel-output
 use Rattle.rules.proofs.empty_output as the-empty-output
 use Rattle.rules.proofs.free_input as the-free-input
 use Rattle.rules.proofs.held_terminator as the-held-terminator
+use Rattle.rules.proofs.input_blocking as the-input-blocking
 use Rattle.rules.proofs.is_listening as the-is-listening
-use Rattle.rules.proofs.can_cut as the-can-cut
-use Rattle.rules.proofs.channel_output as the-channel-output
 use Rattle.rules.proofs.local_output as the-local-output
+use Rattle.rules.proofs.operator as the-operator
+use Rattle.rules.proofs.other_input as the-other-input
 use Rattle.rules.proofs.out_queue as the-out-queue
 use Rattle.rules.proofs.push_out as the-push-out
 use Rattle.rules.proofs.route_in as the-route-in
 use Rattle.rules.proofs.route_packet as the-route-packet
+use Rattle.rules.proofs.seek_turn as the-seek-turn
 use Rattle.rules.proofs.time_out as the-time-out
-use Rattle.rules.proofs.operator as the-operator
 
 pub all-ready-settled : Settles the-all-ready.ended (λ M. the-all-ready.clauses) (λ M. the-all-ready.spec)
 all-ready-settled = settled (λ κs a x y p q. refl) (λ κs a x y p q i. (same p q i, x .1))
@@ -52,6 +55,15 @@ out-queue-settled = settled (λ κs a x y p q. refl) (λ κs a x y p q i. (same 
 
 pub push-out-settled : Settles the-push-out.ended (λ M. the-push-out.clauses) (λ M. the-push-out.spec)
 push-out-settled = settled (λ κs a x y p q. refl) (λ κs a x y p q i. (same p q i, x .1))
+
+pub ask-in-settled : Settles the-ask-in.ended (λ M. the-ask-in.clauses) (λ M. the-ask-in.spec)
+ask-in-settled = settled (λ κs a x y p q. refl) (λ κs a x y p q i. (same p q i, x .1))
+
+pub blocking-in-settled : Settles the-blocking-in.ended (λ M. the-blocking-in.clauses) (λ M. the-blocking-in.spec)
+blocking-in-settled = settled (λ κs a x y p q. refl) (λ κs a x y p q i. (same p q i, x .1))
+
+pub input-blocking-settled : Settles the-input-blocking.ended (λ M. the-input-blocking.clauses) (λ M. the-input-blocking.spec)
+input-blocking-settled = settled (λ κs a x y p q. refl) (λ κs a x y p q i. (same p q i, x .1))
 
 pub route-in-settled : Settles the-route-in.ended (λ M. the-route-in.clauses) (λ M. the-route-in.spec)
 route-in-settled = settled (λ κs a x y p q. refl) (λ κs a x y p q i. (same p q i, x .1))

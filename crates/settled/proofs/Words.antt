@@ -4,7 +4,7 @@ use mathlib.Core.Path.{refl, ap}
 use mathlib.Core.List.{List}
 use Prim.Native.Nat.{ℕ}
 use Rattle.types.specs.declared.Sent.the-variants.{the-data as Sent}
-use Rattle.types.specs.declared.Ran.the-variants.{the-data as Ran}
+use Rattle.types.specs.declared.RunAnswer.{RunAnswer}
 use Rattle.layout.specs.Public.{RanWords, SentWords}
 use Rattle.settled.specs.Outcomes.{Settles}
 use Rattle.settled.proofs.Shown.{settled, value, beside, behind, inputs, same}
@@ -19,12 +19,12 @@ pub play-settled : Settles the-play.ended (λ M. the-play.clauses) (λ M. the-pl
 play-settled = settled (λ κs a. beside value (beside (behind (inputs the-play.ended κs .1 .0)) value))
     (λ κs a x y p q i. (same (p .0) (q .0) i, (tt, (same (p .1) (q .1) i, tt))))
 
--- the answer, and every one of the lent `words`
+-- the answer with the outputs in the way, and every one of the lent `words`
 pub run-settled : Settles the-run.ended (λ M. the-run.clauses) (λ M. the-run.spec)
 run-settled =
     settled (λ κs a. beside value (beside (behind (inputs the-run.ended κs .1 .0)) (beside value (beside value value))))
     (λ κs a x y p q i.
-    let answer : RanWords → Ran = λ w. w .answer in
+    let answer : RanWords → RunAnswer = λ w. record { answer = w .answer; blocking = w .blocking } in
     let words : RanWords → List ℕ = λ w. w .words in
     (same (ap answer p) (ap answer q) i, (tt, (same (ap words p) (ap words q) i, (tt, (tt, tt))))))
 

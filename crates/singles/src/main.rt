@@ -1,6 +1,6 @@
 // Replays single events: reads the cases of docs/TESTING.md ('Single event cases: the text form') from standard input,
-// each with its own network and state, calls SEND or RUN, and writes `refusal answer packet site` and the state handed
-// back. A narrow case is of version 1 and has 16 sites; a wide one says version and edition and has 64. `stdin` and
+// each with its own network and state, calls SEND or RUN, and writes `refusal answer packet site`, for a RUN that asks for
+// them the outputs in the way too, and the state handed back. A narrow case is of version 1 and has 16 sites; a wide one says version and edition and has 64. `stdin` and
 // `stdout` are the second model's, by its program `cases`.
 mod line;
 mod numbers;
@@ -158,29 +158,45 @@ fn read_state(piece: &mut [u8; PIECE], from: Cursor, wide: bool) -> ReadState {
     ReadState { state, cursor }
 }
 
-fn put_numbers(refusal: u64, answer: u64, packet: u64, site: u64) {
-    let mut text = [0u8; line::ROOM];
-    let a = line::put(&mut text, 0, refusal);
-    let b = line::put(&mut text, a, answer);
-    let c = line::put(&mut text, b, packet);
-    let d = line::put(&mut text, c, site);
-    line::write(text, d);
+fn add_numbers(
+    text: &mut [u8; line::ROOM],
+    refusal: u64,
+    answer: u64,
+    packet: u64,
+    site: u64,
+) -> usize {
+    let a = line::put(text, 0, refusal);
+    let b = line::put(text, a, answer);
+    let c = line::put(text, b, packet);
+    line::put(text, c, site)
+}
+
+fn add_ran(text: &mut [u8; line::ROOM], answer: Ran) -> usize {
+    match answer {
+        Ran::Nothing => add_numbers(text, 0, 0, 0, 0),
+        Ran::Changed => add_numbers(text, 0, 1, 0, 0),
+        Ran::Serviced(packet, site) => add_numbers(text, 0, 2, packet as u64, site as u64),
+        Ran::Refused(n) => add_numbers(text, n as u64, 0, 0, 0),
+    }
 }
 
 fn put_sent(answer: Sent) {
-    match answer {
-        Sent::Accepted(packet) => put_numbers(0, packet as u64, 0, 0),
-        Sent::Refused(n) => put_numbers(n as u64, 0, 0, 0),
-    }
+    let mut text = [0u8; line::ROOM];
+    let end = match answer {
+        Sent::Accepted(packet) => add_numbers(&mut text, 0, packet as u64, 0, 0),
+        Sent::Refused(n) => add_numbers(&mut text, n as u64, 0, 0, 0),
+    };
+    line::write(text, end);
 }
 
-fn put_ran(answer: Ran) {
-    match answer {
-        Ran::Nothing => put_numbers(0, 0, 0, 0),
-        Ran::Changed => put_numbers(0, 1, 0, 0),
-        Ran::Serviced(packet, site) => put_numbers(0, 2, packet as u64, site as u64),
-        Ran::Refused(n) => put_numbers(n as u64, 0, 0, 0),
+// The numbers of RUN's answer, behind them the set of the outputs in the way, if it is asked for.
+fn put_ran(answer: Ran, blocking: u64, named: bool) {
+    let mut text = [0u8; line::ROOM];
+    let mut end = add_ran(&mut text, answer);
+    if named {
+        end = line::put(&mut text, end, blocking);
     }
+    line::write(text, end);
 }
 
 // Whether the numbers from one place up to another are zero.
@@ -235,10 +251,10 @@ fn put_state(state: State, wide: bool) {
     }
 }
 
-fn replay_run(network: Network, state: State, site: u64, code: u64, wide: bool) {
+fn replay_run(network: Network, state: State, site: u64, code: u64, wide: bool, named: bool) {
     let ran = machine::run(network, state, site as usize, code as usize);
     let answer = ran.answer;
-    put_ran(answer);
+    put_ran(answer, ran.blocking, named);
     put_state(ran.state, wide);
 }
 
@@ -249,7 +265,7 @@ fn replay_send(network: Network, state: State, site: u64, set: u64, wide: bool) 
     put_state(sent.state, wide);
 }
 
-// One case: 1 is RUN, anything else SEND.
+// One case: 1 is RUN, 3 RUN with the outputs in the way, anything else SEND.
 fn replay(piece: &mut [u8; PIECE], from: Cursor, wide: bool) -> Cursor {
     let net = read_network(piece, from, wide);
     let start = read_state(piece, net.cursor, wide);
@@ -258,8 +274,9 @@ fn replay(piece: &mut [u8; PIECE], from: Cursor, wide: bool) -> Cursor {
     let last = text::number(piece, site.cursor);
     let network = net.network;
     let state = start.state;
-    if kind.value == 1 {
-        replay_run(network, state, site.value, last.value, wide);
+    let named = kind.value == 3;
+    if (kind.value == 1) | named {
+        replay_run(network, state, site.value, last.value, wide, named);
     } else {
         replay_send(network, state, site.value, last.value, wide);
     }

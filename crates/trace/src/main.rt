@@ -1,9 +1,11 @@
-// Tells what happened in a stored run: `trace [--front NAME] [--all] [--] FILE`. docs/TRACE.md has the lines. The run
-// is played by the public single events on lent words, one after the other, each with all its checks. Assumes nothing
-// of the file.
+// Tells what happened in a stored run: `trace [--front NAME] [--all] [--why] [--] FILE`. docs/TRACE.md has the lines.
+// The run is played by the public single events on lent words, one after the other, each with all its checks. Assumes
+// nothing of the file.
 mod places;
+mod printed;
 mod run;
 mod told;
+mod why;
 
 use front::Words;
 use libc::STDERR_FILENO;
@@ -12,6 +14,7 @@ use libc::STDOUT_FILENO;
 // What the arguments ask for.
 struct Asked {
     all: bool,
+    why: bool,
     words: Words,
 }
 
@@ -19,6 +22,7 @@ struct Asked {
 fn asked_from(who: &[u8], first: usize) -> Asked {
     let mut asked = Asked {
         all: false,
+        why: false,
         words: front::no_words(who, first),
     };
     for i in first..os::arg_count() {
@@ -33,24 +37,44 @@ fn take_argument(who: &[u8], i: usize, asked: Asked) -> Asked {
     take_word(who, i, &room[..n], asked)
 }
 
-// One more word: `--all`, or what the programs share.
+// One more word: `--all`, `--why`, or what the programs share.
 fn take_word(who: &[u8], i: usize, word: &[u8], asked: Asked) -> Asked {
     let words = asked.words;
+    let mut now = asked;
     if !words.ended && check::same(word, b"--all") {
-        return Asked { all: true, words };
+        now.all = true;
+        return now;
+    }
+    if !words.ended && check::same(word, b"--why") {
+        now.why = true;
+        return now;
     }
     let more = front::take_word(who, i, word, words);
-    Asked {
-        all: asked.all,
-        words: more,
-    }
+    now.words = more;
+    now
 }
 
-fn print_usage(fd: i32, who: &[u8]) -> bool {
+// What is to be told: failed asks, every draw, or what changed something.
+fn mode_of(asked: Asked) -> u8 {
+    if asked.why {
+        return run::WHY;
+    }
+    if asked.all {
+        return run::EVERY;
+    }
+    run::CHANGES
+}
+
+// ---- usage
+
+fn print_usage(fd: i32, who: &[u8], asked: Asked) -> bool {
+    if asked.why {
+        return print_why_usage(fd, who);
+    }
     let begun = front::print_usage(
         fd,
         who,
-        b" [--all] [--] FILE\n",
+        b" [--all] [--why] [--] FILE\n",
         b"Tells what happened in the stored run FILE: a line for each send and for each draw\n",
     );
     begun
@@ -58,10 +82,74 @@ fn print_usage(fd: i32, who: &[u8]) -> bool {
             fd,
             b"that changed something, with --all for every draw; the last line has the counts.\n",
         )
+        && io::write_all(
+            fd,
+            b"With --why instead where the router failed, and which outputs stood in the way.\n",
+        )
 }
 
+fn print_why_usage(fd: i32, who: &[u8]) -> bool {
+    let words: &[u8] = if is_why(who) {
+        b" [--] FILE\n"
+    } else {
+        b" --why [--] FILE\n"
+    };
+    let begun = front::print_usage(
+        fd,
+        who,
+        words,
+        b"Tells where the router failed in the stored run FILE: a line for each failed ask, draw,\n",
+    );
+    begun
+        && io::write_all(
+            fd,
+            b"site, net-input, packet and the outputs each of whose emptying alone would have let it\n",
+        )
+        && io::write_all(
+            fd,
+            b"connect; then how often each output stood in the way, most often first.\n",
+        )
+}
+
+// Whether the name that messages begin with is that of the front's command `why`.
+fn is_why(who: &[u8]) -> bool {
+    let n = who.len();
+    if n < 4 {
+        return false;
+    }
+    let from = n - 4;
+    check::same(&who[from..], b" why")
+}
+
+// Whether the use is wrong, which is said.
+fn is_wrong(who: &[u8], asked: Asked) -> bool {
+    let words = asked.words;
+    if words.wrong {
+        return true;
+    }
+    if asked.all & asked.why {
+        front::say(who, b"--all does not go with --why", b"");
+        return true;
+    }
+    if words.names != 1 {
+        say_one_file(who, asked.why);
+        return true;
+    }
+    false
+}
+
+fn say_one_file(who: &[u8], why: bool) {
+    if why {
+        front::say(who, b"why takes one file", b"");
+        return;
+    }
+    front::say(who, b"trace takes one file", b"");
+}
+
+// ---- the trace
+
 // Traces the run that the bytes hold. Answers the status.
-fn trace_bytes(who: &[u8], bytes: &[u8], all: bool) -> u64 {
+fn trace_bytes(who: &[u8], bytes: &[u8], mode: u8) -> u64 {
     let decoded = archive::read(bytes);
     let refusal = decoded.refusal;
     if refusal != 0 {
@@ -70,11 +158,11 @@ fn trace_bytes(who: &[u8], bytes: &[u8], all: bool) -> u64 {
         }
         return front::FAILED;
     }
-    ended(who, run::trace(decoded.run, all))
+    ended(who, mode, run::trace(decoded.run, mode))
 }
 
-// The last line of a trace, unless it stopped before, which is said. Answers the status.
-fn ended(who: &[u8], traced: run::Traced) -> u64 {
+// The last line of a trace, unless it stopped before, which is said. Failed asks have none. Answers the status.
+fn ended(who: &[u8], mode: u8, traced: run::Traced) -> u64 {
     if traced.stop == run::REFUSED {
         front::say(
             who,
@@ -83,34 +171,23 @@ fn ended(who: &[u8], traced: run::Traced) -> u64 {
         );
         return front::FAILED;
     }
-    if traced.stop == run::NOT_WRITTEN || !report::print_line(0, traced.counts) {
-        front::no_output(who);
-        return front::FAILED;
+    let is_written = traced.stop != run::NOT_WRITTEN;
+    if is_written && (mode == run::WHY || report::print_line(0, traced.counts)) {
+        return front::DONE;
     }
-    front::DONE
+    front::no_output(who);
+    front::FAILED
 }
 
 // Traces the file that argument i names. Answers the status.
-fn trace_argument(who: &[u8], i: usize, all: bool) -> u64 {
+fn trace_argument(who: &[u8], i: usize, mode: u8) -> u64 {
     let mut bytes = io::large_buffer();
     let seen = front::read_argument(who, i, &mut bytes);
     if seen.failed {
         return front::FAILED;
     }
     let n = seen.count;
-    trace_bytes(who, &bytes[..n], all)
-}
-
-// Whether the use is wrong, which is said.
-fn is_wrong(who: &[u8], words: Words) -> bool {
-    if words.wrong {
-        return true;
-    }
-    if words.names != 1 {
-        front::say(who, b"trace takes one file", b"");
-        return true;
-    }
-    false
+    trace_bytes(who, &bytes[..n], mode)
 }
 
 // The status of the arguments from number `first` on.
@@ -118,13 +195,13 @@ fn answer(who: &[u8], first: usize) -> u64 {
     let asked = asked_from(who, first);
     let words = asked.words;
     if words.help {
-        return front::helped(who, print_usage(STDOUT_FILENO, who));
+        return front::helped(who, print_usage(STDOUT_FILENO, who, asked));
     }
-    if is_wrong(who, words) {
-        print_usage(STDERR_FILENO, who);
+    if is_wrong(who, asked) {
+        print_usage(STDERR_FILENO, who, asked);
         return front::WRONG;
     }
-    trace_argument(who, words.last, asked.all)
+    trace_argument(who, words.last, mode_of(asked))
 }
 
 fn main() {

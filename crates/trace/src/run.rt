@@ -2,21 +2,27 @@
 // that is marked d, after the last draw those marked with the number of draws. Each event's line goes out before the
 // next event. Assumes nothing of the run.
 ghost use Prim.Native.Nat.{_<_};
-use crate::told::add_change;
-use front::fill;
+use crate::printed::print_change;
+use crate::printed::print_idle;
+use crate::printed::print_send;
+use crate::why;
 use layout::WORDS;
-use libc::STDOUT_FILENO;
 use machine::Clock;
 use std::num::wrapping_add_usize;
 use types::Counts;
 use types::Network;
 use types::Ran;
 use types::Run;
+use types::RunAnswer;
 use types::Sent;
 use types::StoredSend;
 
-// Room for every line: the longest has some 550 bytes, a split to five outputs in a network of 64 sites.
-const ROOM: usize = 1024;
+// What is told: the sends and the draws that changed something; every draw too; or the failed asks alone.
+pub const CHANGES: u8 = 0;
+
+pub const EVERY: u8 = 1;
+
+pub const WHY: u8 = 2;
 
 // Why a trace goes no further: it does not stop; a line could not be written; RUN refused, which no valid run comes to.
 pub const GOES_ON: u8 = 0;
@@ -35,49 +41,6 @@ pub struct Traced {
 
 // ---- a send
 
-// Adds `send K before draw D: site S to SET: `.
-fn add_order(text: &mut [u8], k: usize, draws: u16, order: StoredSend) -> usize {
-    let site = base::wide(order.site);
-    let set = order.set as usize;
-    if order.draw == draws {
-        let values = [k, site, set, 0, 0, 0];
-        return fill(
-            text,
-            0,
-            b"send % after the last draw: site % to {: ",
-            values,
-        );
-    }
-    let values = [k, order.draw as usize, site, set, 0, 0];
-    fill(text, 0, b"send % before draw %: site % to {: ", values)
-}
-
-fn add_sent(text: &mut [u8], at: usize, answer: Sent) -> usize {
-    match answer {
-        Sent::Accepted(n) => fill(text, at, b"packet %", [base::wide(n), 0, 0, 0, 0, 0]),
-        Sent::Refused(n) => fill(
-            text,
-            at,
-            b"passed over, refused %",
-            [base::wide(n), 0, 0, 0, 0, 0],
-        ),
-    }
-}
-
-// Ends a line and writes it. Answers whether that was done.
-fn print(text: &mut [u8], at: usize) -> bool {
-    let end = report::add_bytes(text, at, b"\n");
-    io::write_all(STDOUT_FILENO, &text[..end])
-}
-
-// Prints the line of a send and its answer. Answers whether that was done.
-fn print_send(k: usize, draws: u16, order: StoredSend, answer: Sent) -> bool {
-    let mut text = [0u8; ROOM];
-    let begun = add_order(&mut text, k, draws, order);
-    let sent = add_sent(&mut text, begun, answer);
-    print(&mut text, sent)
-}
-
 // What is counted after an answer of SEND.
 fn counted_send(counts: Counts, order: StoredSend, answer: Sent) -> Counts {
     let mut now = counts;
@@ -91,6 +54,7 @@ fn counted_send(counts: Counts, order: StoredSend, answer: Sent) -> Counts {
 // SEND as the order says.
 fn send_turn(
     network: Network,
+    mode: u8,
     draws: u16,
     order: StoredSend,
     state: &mut [u64],
@@ -99,7 +63,7 @@ fn send_turn(
 ) -> Traced {
     let answer = words::send(network, state, base::wide(order.site), order.set);
     copy(state, before);
-    let is_printed = print_send(t.next, draws, order, answer);
+    let is_printed = mode == WHY || print_send(t.next, draws, order, answer);
     let clock = t.clock;
     let counts = counted_send(t.counts, order, answer);
     Traced {
@@ -111,59 +75,6 @@ fn send_turn(
 }
 
 // ---- a draw
-
-// Adds `draw D: site S, WHO: `.
-fn add_draw(text: &mut [u8], d: u16, site: usize, code: usize) -> usize {
-    let begun = fill(text, 0, b"draw %: site %, ", [d as usize, site, 0, 0, 0, 0]);
-    if code < base::INPUTS {
-        return fill(text, begun, b"net-input %: ", [code, 0, 0, 0, 0, 0]);
-    }
-    let j = code - base::INPUTS;
-    if j <= base::PORTS {
-        return fill(text, begun, b"net-output %: ", [j, 0, 0, 0, 0, 0]);
-    }
-    front::add_word(
-        text,
-        begun,
-        b"out-queue: ,operator: ,timeout: ,split output: ,split operator: ",
-        j - base::PORTS - 1,
-    )
-}
-
-// Prints the line of draw d, which changed nothing. Answers whether that was done.
-fn print_idle(d: u16, site: usize, code: usize) -> bool {
-    let mut text = [0u8; ROOM];
-    let begun = add_draw(&mut text, d, site, code);
-    let told = report::add_bytes(&mut text, begun, b"nothing");
-    print(&mut text, told)
-}
-
-// Prints the line of draw d, which changed something. Answers whether that was done.
-fn print_change(
-    d: u16,
-    tries: u8,
-    channel: usize,
-    before: &[u64],
-    after: &[u64],
-    site: usize,
-    code: usize,
-    answer: Ran,
-) -> bool {
-    let mut text = [0u8; ROOM];
-    let begun = add_draw(&mut text, d, site, code);
-    let told = add_change(
-        &mut text,
-        begun,
-        tries,
-        channel,
-        before,
-        after,
-        site,
-        code,
-        answer,
-    );
-    print(&mut text, told)
-}
 
 // The channel of the net-output that this code names at site s: 4 x site + port - 1 of the input at its end; 0 for
 // another code.
@@ -182,7 +93,7 @@ fn channel_of(channels: [u16; base::PORTS * base::SITES], s: usize, code: usize)
 // Prints the line that a draw's answer asks for, and keeps the words for the next event. Answers why the trace stops.
 fn tell_draw(
     network: Network,
-    all: bool,
+    mode: u8,
     d: u16,
     site: usize,
     code: usize,
@@ -190,17 +101,36 @@ fn tell_draw(
     state: &[u64],
     before: &mut [u64],
 ) -> u8 {
-    if let Ran::Refused(_) = answer {
-        return REFUSED;
-    }
     if let Ran::Nothing = answer {
-        return stop_unless(!all || print_idle(d, site, code));
+        return stop_unless(mode != EVERY || print_idle(d, site, code));
     }
     let channel = channel_of(network.channels, site, code);
     let tries = network.tries;
     let is_printed = print_change(d, tries, channel, before, state, site, code, answer);
     copy(state, before);
     stop_unless(is_printed)
+}
+
+// Tells of a draw what the mode asks for. Answers why the trace stops.
+fn tell(
+    network: Network,
+    mode: u8,
+    d: u16,
+    site: usize,
+    code: usize,
+    ran: RunAnswer,
+    state: &[u64],
+    before: &mut [u64],
+    times: &mut [usize],
+) -> u8 {
+    let answer = ran.answer;
+    if let Ran::Refused(_) = answer {
+        return REFUSED;
+    }
+    if mode == WHY {
+        return stop_unless(why::tell(d, site, code, ran.blocking, state, times));
+    }
+    tell_draw(network, mode, d, site, code, answer, state, before)
 }
 
 fn stop_unless(is_printed: bool) -> u8 {
@@ -219,9 +149,10 @@ fn counted_run(counts: Counts, answer: Ran) -> Counts {
 // The draw, and RUN as it names.
 fn draw_turn(
     network: Network,
-    all: bool,
+    mode: u8,
     state: &mut [u64],
     before: &mut [u64],
+    times: &mut [usize],
     t: Traced,
 ) -> Traced {
     let clock = t.clock;
@@ -229,9 +160,19 @@ fn draw_turn(
     let named = draws::event_of(ticked.value, network.sites, network.edition);
     let site = named.site;
     let code = named.code;
-    let answer = words::run(network, state, site, code);
-    let stop = tell_draw(network, all, clock.draw, site, code, answer, state, before);
-    let counts = counted_run(t.counts, answer);
+    let ran = words::run(network, state, site, code);
+    let stop = tell(
+        network,
+        mode,
+        clock.draw,
+        site,
+        code,
+        ran,
+        state,
+        before,
+        times,
+    );
+    let counts = counted_run(t.counts, ran.answer);
     Traced {
         next: t.next,
         stop,
@@ -253,23 +194,25 @@ fn copy(from: &[u64], to: &mut [u64]) {
     }
 }
 
-// One turn: the next send if it is due, else the next draw, else nothing. `before` has the words of `state`.
+// One turn: the next send if it is due, else the next draw, else nothing. `before` has the words of `state`; where only
+// failed asks are told, it is not looked at.
 fn turn(
     network: Network,
-    all: bool,
+    mode: u8,
     draws: u16,
     count: usize,
     order: StoredSend,
     state: &mut [u64],
     before: &mut [u64],
+    times: &mut [usize],
     t: Traced,
 ) -> Traced {
     let clock = t.clock;
     if (t.next < count) & (order.draw == clock.draw) {
-        return send_turn(network, draws, order, state, before, t);
+        return send_turn(network, mode, draws, order, state, before, t);
     }
     if clock.draw < draws {
-        return draw_turn(network, all, state, before, t);
+        return draw_turn(network, mode, state, before, times, t);
     }
     t
 }
@@ -281,8 +224,8 @@ fn place_of(next: usize) -> usize
     if next < base::SENDS { next } else { 0 }
 }
 
-// As many turns as there are sends and draws. `before` has the words of `state`.
-fn turns(run: Run, all: bool, state: &mut [u64], before: &mut [u64]) -> Traced {
+// As many turns as there are sends and draws.
+fn turns(run: Run, mode: u8, state: &mut [u64], before: &mut [u64], times: &mut [usize]) -> Traced {
     let network = run.network;
     let sends = run.sends;
     let draws = run.draws;
@@ -306,7 +249,7 @@ fn turns(run: Run, all: bool, state: &mut [u64], before: &mut [u64]) -> Traced {
     while k < total {
         let place = place_of(t.next);
         let order = sends[place];
-        t = turn(network, all, draws, count, order, state, before, t);
+        t = turn(network, mode, draws, count, order, state, before, times, t);
         if t.stop != GOES_ON {
             break;
         }
@@ -315,12 +258,14 @@ fn turns(run: Run, all: bool, state: &mut [u64], before: &mut [u64]) -> Traced {
     t
 }
 
-// Traces a run from the empty state, the pairs that are owed at its end counted.
-pub fn trace(run: Run, all: bool) -> Traced {
+// Traces a run from the empty state, the pairs that are owed at its end counted. Behind failed asks it prints how often
+// each output stood in the way.
+pub fn trace(run: Run, mode: u8) -> Traced {
     let mut state = [0u64; WORDS];
     words::write_empty(&mut state);
     let mut before = state;
-    let mut t = turns(run, all, &mut state, &mut before);
+    let mut times = [0usize; why::PLACES];
+    let mut t = turns(run, mode, &mut state, &mut before, &mut times);
     let left = words::owed(&state);
     if (left.refusal != 0) & (t.stop == GOES_ON) {
         t.stop = REFUSED;
@@ -328,5 +273,8 @@ pub fn trace(run: Run, all: bool) -> Traced {
     let mut counts = t.counts;
     counts.owed = left.pairs;
     t.counts = counts;
+    if (mode == WHY) & (t.stop == GOES_ON) {
+        t.stop = stop_unless(why::print_times(&mut times));
+    }
     t
 }

@@ -14,13 +14,12 @@ use types::Ran;
 use types::RunAnswer;
 use types::Sent;
 
-// RUN on the words of a state in range of a valid network, and the outputs in the way, read before it.
-fn run_checked(network: Network, words: &mut [u64], s: usize, code: usize) -> RunAnswer
+// RUN on the words of a state in range of a valid network.
+fn run_checked(network: Network, words: &mut [u64], s: usize, code: usize) -> Ran
     requires { ⌜ (spec.sharedRefusal network (now words) ≡ 0) × (s < network .sites) ⌝ }
     ensures { λ r. ⌜
-        Did network (now (words .entry)) (now (words .exit)) s (r .answer)
+        Did network (now (words .entry)) (now (words .exit)) s r
         (act network s (siteIn (now (words .entry)) s) (ends network (sitesOf (now (words .entry))) s) code)
-        × (r .blocking ≡ blockingAt network s (siteIn (now (words .entry)) s) code)
         ⌝ }
 {
     let version = network.version;
@@ -30,8 +29,7 @@ fn run_checked(network: Network, words: &mut [u64], s: usize, code: usize) -> Ru
     let tries = network.tries;
     let channels = network.channels;
     let routes = network.routes;
-    let blocking = blocking_in_place(edition, &routes, sites, tries, words, s, code);
-    let answer = run_in_place(
+    run_in_place(
         &channels,
         &routes,
         version,
@@ -42,8 +40,24 @@ fn run_checked(network: Network, words: &mut [u64], s: usize, code: usize) -> Ru
         words,
         s,
         code,
-    );
-    RunAnswer { answer, blocking }
+    )
+}
+
+// The outputs in the way that this RUN names, read before it.
+fn blocking_checked(network: Network, words: &[u64], s: usize, code: usize) -> u64
+    requires { ⌜ (spec.sharedRefusal network (now words) ≡ 0) × (s < network .sites) ⌝ }
+    ensures { λ r. ⌜ r ≡ blockingAt network s (siteIn (now (words .entry)) s) code ⌝ }
+{
+    let routes = network.routes;
+    blocking_in_place(
+        network.edition,
+        &routes,
+        network.sites,
+        network.tries,
+        words,
+        s,
+        code,
+    )
 }
 
 // RUN turned down.
@@ -70,7 +84,9 @@ pub fn run(network: Network, words: &mut [u64], site: usize, code: usize) -> Run
     }
     let codes = draws::codes_in(network.edition);
     if (site < sites) & (code < codes) {
-        return run_checked(network, words, site, code);
+        let blocking = blocking_checked(network, words, site, code);
+        let answer = run_checked(network, words, site, code);
+        return RunAnswer { answer, blocking };
     }
     run_refused(9)
 }
