@@ -1,6 +1,6 @@
 -- The outputs in the way at a site that RUN can run at. Assumes nothing beyond each statement.
 use Prim.Native.Nat.{ℕ, _<_}
-use mathlib.Core.Path.{_≡_, refl, ap, _∙_}
+use mathlib.Core.Path.{_≡_, refl, ap}
 use mathlib.Core.Bool.{cond}
 use borrow.Author.Tests.{lt-ltb}
 use Rattle.base.specs.Sizes.{inputCount}

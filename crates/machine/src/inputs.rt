@@ -1,5 +1,5 @@
-// The rule of a net-input: seek asks the router with the network, every other state is decided by the state number alone. And the outputs
-// that RUN names where the router failed.
+// The rule of a net-input: seek asks the router with the network, every other state is decided by the state number alone;
+// and the outputs in the way that RUN names where the router failed.
 ghost use mathlib.Core.Path.{_≡_};
 ghost use Prim.Native.Nat.{_<_, _≤_, _^_};
 ghost use Rattle.base.specs.Sizes.{sitesMost, inputCount};

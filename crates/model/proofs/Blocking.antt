@@ -5,17 +5,15 @@ use mathlib.Core.Path.{_≡_, refl, sym, ap, ap₂, _∙_}
 use mathlib.Core.List.{List, [], _∷_}
 use mathlib.Core.Bool.{Bool, true, false, cond, not, _&&_, _||_, or-true, and-false}
 use native.Mathlib.Decide.{ℕ-discrete}
-use native.Mathlib.Nat.{lt-of-lt-of-le}
 use native.Mathlib.Omega.{arith}
 use borrow.Author.Tests.{eqb-true, eqb-false, eq-eqb, ne-eqb}
-use lib.Dec.{eqb, ltb, leb}
-use lib.ListN.{getD, set}
+use lib.Dec.{eqb}
+use lib.ListN.{set}
 use lib.Seq.{getD-set-other}
-use Rattle.base.specs.Sizes.{outputCount, portCount, splitPort, setBits}
+use Rattle.base.specs.Sizes.{outputCount, splitPort, setBits}
 use Rattle.base.specs.Bools.{cond-ok, either-way, clash, neither}
 use Rattle.base.specs.All.{any}
-use Rattle.base.specs.Lists.{same-at}
-use Rattle.sets.specs.Sets.{has, only, minus, sizeIn, size, lowest, those}
+use Rattle.sets.specs.Sets.{has, only, minus, size, lowest, those}
 use Rattle.sets.proofs.Laws.{minus-in, minus-out, minus-le, has-le}
 use Rattle.sets.proofs.LawsLowest.{lowest-has, lowest-below, lowest-lt}
 use Rattle.sets.proofs.LawsSize.{size-minus}
@@ -25,8 +23,8 @@ use Rattle.model.specs.Types.{Connection, Unicast, Passthru, Phase, Free
 use Rattle.model.specs.Types.{Input, Output, Network, noOutput, outOf}
 use Rattle.types.specs.Numbers.{stateNumber}
 use Rattle.model.specs.Network.{choice, listOf, choices, routeOf}
-use Rattle.model.specs.Router.{Choice, Chosen, Unserved, Gathered, Every, Missing, unchosen, isChosen, isEmpty, serves, firstPort}
-use Rattle.model.specs.Router.{firstEmpty, oneOutput, onPort, toOwn, toOther, gatherFrom, gather, spread, parted, branch, orElse, route}
+use Rattle.model.specs.Router.{Choice, Chosen, Unserved, Missing, unchosen, isChosen, isEmpty, serves, firstPort}
+use Rattle.model.specs.Router.{firstEmpty, oneOutput, onPort, gatherFrom, gather, spread, parted, branch, orElse, route}
 use Rattle.model.specs.Router.{finds, emptied, blocks, ask, listed, isPort, ways}
 use Rattle.types.specs.Phases.{seeks}
 use Rattle.model.specs.NetInput.{failed, passesOn}

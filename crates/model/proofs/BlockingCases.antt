@@ -11,7 +11,7 @@ use Rattle.base.specs.Over.{over}
 use Rattle.base.specs.Sums.{sum}
 use Rattle.sets.specs.Sets.{has, plus, minus, sizeIn, lowest, those}
 use Rattle.types.specs.Numbers.{ranNumbers}
-use Rattle.model.specs.Types.{Unicast, Handed, gotEnd, Phase, Free, Seek, Open, Wait, Done, Aborted, Input, Site, State}
+use Rattle.model.specs.Types.{Unicast, Handed, gotEnd, Phase, Free, Seek, Open, Wait, Done, Input, Site, State}
 use Rattle.model.specs.Types.{noMarks, noSite, noState, setIn, setSite, withOutputs}
 use Rattle.model.specs.Network.{networkRefusal}
 use Rattle.model.specs.Range.{inRange}

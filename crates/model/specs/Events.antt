@@ -44,8 +44,8 @@ runRefusal n st s code = refusalThen n st (runFault n s code)
 unfoldable pub sendRefusal : Network → State → ℕ → ℕ → ℕ
 sendRefusal n st s X = refusalThen n st (sendFault n st s X)
 
--- nothing refused: RUN's answer, its outputs in the way (L7), and the state; SEND "takes the counter as packet number, adds one", "The answer is the packet
--- number."
+-- nothing refused: RUN's answer, its outputs in the way (L7), and the state; SEND "takes the counter as packet number, adds
+-- one", "The answer is the packet number."
 abbrev pub runs : Network → State → ℕ → ℕ → AfterRun
 runs n st s code =
     let w = run n (st .sites) s code in

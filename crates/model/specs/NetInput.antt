@@ -99,13 +99,14 @@ inState n s i y os isReady (FinAbort c r) = cond (isReady 0) (To noInput (set os
 abbrev pub netInput : Network → ℕ → ℕ → Input → List Output → (ℕ → Bool) → Turn Input (List Output)
 netInput n s i y os isReady = inState n s i y os isReady (y .phase)
 
--- L7: a failure of net-input y: it asks the router, there is no choice, and the packet is not handed; below T and at T
+-- "Failure is the last rule with nothing handed, and only that.": net-input y asks the router, there is no choice, and below T or
+-- with output 0 in use the packet is not handed
 unfoldable pub failed : Network → ℕ → Input → List Output → Bool
 failed n s y os =
     seeks (y .phase)
     && not (finds (route n s os (y .set)))
     && (ltb (y .tries) (n .tries) || not (isEmpty os 0))
 
--- "The net-input's step passes it on, empty where the router was not asked or did not fail."
+-- L7: "The net-input's step passes it on, empty where the router was not asked or did not fail."
 unfoldable pub passesOn : Network → ℕ → Input → List Output → ℕ
 passesOn n s y os = cond (failed n s y os) (ask n s os (y .set) .blocking) 0

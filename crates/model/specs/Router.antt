@@ -27,9 +27,12 @@ isChosen sets j = not (eqb (getD sets j 0) 0)
 abbrev pub isEmpty : List Output → ℕ → Bool
 isEmpty os j = not (outOf os j .used)
 
+abbrev pub isPort : ℕ → Bool
+isPort j = leb 1 j && leb j portCount
+
 -- "empty or already chosen for this packet": port j, with the sets chosen so far
 abbrev pub serves : List Output → List ℕ → ℕ → Bool
-serves os sets j = leb 1 j && leb j portCount && (isEmpty os j || isChosen sets j)
+serves os sets j = isPort j && (isEmpty os j || isChosen sets j)
 
 -- "the first output in its list that ..", 0 if there is none
 unfoldable pub firstPort : (ℕ → Bool) → List ℕ → ℕ
@@ -141,12 +144,10 @@ ask n s os X =
     let w = route n s os X in
     record { found = w; blocking = cond (finds w) 0 (those (blocks n s os X) outputCount) }
 
--- which outputs these are (proofs/Blocking.antt): output 0 for X = {s}, else every port in the list of the lowest target other than s
+-- which outputs these are, as proofs/Blocking.antt shows: output 0 for X = {s}, else the ports in the list of the lowest target
+-- other than s
 abbrev pub listed : List ℕ → ℕ → Bool
 listed l j = any (λ m. eqb (choice l m) j) portCount
-
-abbrev pub isPort : ℕ → Bool
-isPort j = leb 1 j && leb j portCount
 
 unfoldable pub ways : Network → ℕ → ℕ → ℕ → Bool
 ways n s X j = cond (eqb X (only s)) (eqb j 0) (isPort j && listed (listOf n s (lowest (minus s X))) j)

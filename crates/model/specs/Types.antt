@@ -10,7 +10,7 @@
 --   oq an out-queue        u   an entry of it                    iq an in-queue             a  an entry of it
 --   q  a place's packet    p   a packet that is asked for        X, Y  sets of sites        b  a channel's number
 --   c  a connection        r   what was received                 h  a terminator            f  a refusal's number
---   m  a place in a list   l   a list                            g  how far a run has come
+--   m  a place in a list   l   a list                            g  how far a run has come  B  a set of outputs in the way
 --   e, es  events, and what stands for one: a stored send, a service
 use Prim.Native.Nat.{ℕ, _+_, _-_, _*_}
 use mathlib.Core.List.{List, [], _∷_, _++_}

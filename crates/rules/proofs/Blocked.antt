@@ -19,7 +19,7 @@ use Rattle.types.specs.declared.Output.{Output}
 use Rattle.types.specs.declared.Network.{Network}
 use Rattle.model.specs.Types.{outOf}
 use Rattle.model.specs.Network.{listOf}
-use Rattle.model.specs.Router.{Choice as ModelChoice, Chosen, Unserved, isEmpty, finds, route, ask, isPort, listed, ways}
+use Rattle.model.specs.Router.{Choice as ModelChoice, Chosen, Unserved, finds, route, ask, isPort, listed, ways}
 use Rattle.model.specs.NetInput.{failed, passesOn}
 use Rattle.model.proofs.Blocking.{some-other, asked-ways, ask-same, passes-idle, passes-same}
 use Rattle.rules.specs.declared.router.Choice.{Choice}

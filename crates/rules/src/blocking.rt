@@ -1,5 +1,5 @@
-// The outputs that stand in the way of a packet for which the router finds nothing (document 02, L7), and what a net-input's step
-// passes on of them.
+// The outputs that stand in the way of a packet for which the router finds nothing (document 02, L7), and what a
+// net-input's step passes on of them. The player asks router.rt alone.
 ghost use mathlib.Core.Path.{_≡_};
 ghost use mathlib.Core.Bool.{cond, _&&_};
 ghost use Prim.Native.Nat.{_<_, _^_};
@@ -57,8 +57,8 @@ fn ways_of(routes: &[u16], sites: usize, s: usize, set: u64) -> u64
     ports_of(list)
 }
 
-// The router asked over any routes, sites and sets. Nothing serves, and nothing is in the way, where site s is none of the sites,
-// there are more than the limit, the routes are not those of the limit's sites, or the set is not one of targets.
+// The router asked over any routes, sites and sets. Nothing serves, and nothing is in the way, where site s is none of the
+// sites, there are more than the limit, the routes are not those of the limit's sites, or the set is not one of targets.
 pub fn ask_in(
     edition: u8,
     routes: &[u16],
@@ -85,7 +85,8 @@ pub fn ask_in(
     }
 }
 
-// What a net-input in seek passes on of the router's answer: the outputs in the way where nothing serves and the packet is not handed.
+// What a net-input in seek passes on of the router's answer: the outputs in the way where nothing serves and the packet is
+// not handed.
 fn passed_on(tries: u8, input: Input, outputs: [Output; base::OUTPUTS], answer: Answered) -> u64
     ensures { λ r. ⌜ r ≡ passedOf tries input outputs answer ⌝ }
 {

@@ -1,6 +1,6 @@
 // The rules of document 01, in edition 2 with L6's and in edition 3 with L10's, as code, each on the places that it looks at
-// and proved equal to the definitions of crate model: the router, the net-inputs, the net-outputs, the out-queue, the
-// operator and the timeout.
+// and proved equal to the definitions of crate model: the router, with the outputs in the way where it fails (L7), the
+// net-inputs, the net-outputs, the out-queue, the operator and the timeout.
 // Every public function takes anything.
 mod blocking;
 mod branch;

@@ -15,7 +15,7 @@ use Rattle.base.specs.All.{all, all-at, any}
 use Rattle.sets.specs.Sets.{has, only, minus, lowest, those}
 use Rattle.sets.proofs.Laws.{has-empty, minus-le}
 use Rattle.sets.proofs.LawsLowest.{lowest-lt, lowest-other}
-use Rattle.sets.proofs.LawsThose.{those-in, those-out, those-some}
+use Rattle.sets.proofs.LawsThose.{those-in, those-some}
 use Rattle.types.specs.Phases.{seeks}
 use Rattle.theorems.specs.Names.{Phase, Seek, Input, Output, Site, State, Network, AfterRun}
 use Rattle.model.specs.Types.{siteAt, inAt}
@@ -26,7 +26,7 @@ use Rattle.model.specs.Steps.{blockingAt}
 use Rattle.model.specs.Events.{runRefusal, ran}
 use Rattle.model.proofs.Blocking.{some-other, blocks-ways, asked-ways, seeks-at}
 use Rattle.theorems.proofs.Networks.{valid-ok, passed}
-use Rattle.theorems.proofs.Refusals.{run-passes, ran-ways}
+use Rattle.theorems.proofs.Refusals.{run-passes}
 use Rattle.theorems.proofs.Demand3.{seek-set}
 
 -- ---- a failure: the net-input asks, and after its step it still seeks

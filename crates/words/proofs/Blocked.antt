@@ -1,6 +1,6 @@
 -- The outputs in the way, read from the words of a state in range. Assumes nothing beyond each statement.
 use Prim.Native.Nat.{ℕ, _*_, _≤_, _<_}
-use mathlib.Core.Path.{_≡_, refl, ap, _∙_}
+use mathlib.Core.Path.{_≡_, refl, ap}
 use mathlib.Core.List.{List}
 use mathlib.Core.Bool.{true, _&&_}
 use borrow.Author.Tests.{lt-ltb, le-leb, eq-eqb}
@@ -18,7 +18,7 @@ use Rattle.model.specs.Steps.{blockingAt}
 use Rattle.model.proofs.Blocking.{seeks-at, passes-idle, passes-same}
 use Rattle.rules.specs.Router.{seekOnly, askable, passedBy}
 use Rattle.rules.proofs.Asked.{route-same}
-use Rattle.words.specs.Events.{RunAsks, Seekable, SeekAsks, siteIn}
+use Rattle.words.specs.Events.{RunAsks, SeekAsks, siteIn}
 
 -- what a RUN asks has what its net-inputs ask
 pub seek-asks : (n : Network) (c : List ℕ) (s : ℕ) → RunAsks n c s → SeekAsks (n .routes) (n .sites) c s

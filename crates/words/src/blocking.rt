@@ -1,5 +1,5 @@
-// The outputs in the way that RUN names where the router failed (document 02, L7), read from the words before it. The player does not ask for
-// them.
+// The outputs in the way that RUN names where the router failed (document 02, L7), read from the words before it. The
+// player does not ask for them.
 ghost use mathlib.Core.Path.{_≡_};
 ghost use Rattle.model.specs.Steps.{blockingAt};
 ghost use Rattle.rules.specs.Router.{seekOnly};

@@ -6,7 +6,6 @@ use Rattle.machine.specs.declared.store.Seen.{Seen}
 use Rattle.machine.proofs.RangeAt.{range-runnable}
 use Rattle.machine.proofs.Seen.{valid-ends}
 use Rattle.machine.proofs.Single.{change-seen, change-storable, run-done}
-use borrow.Author.Needs.{needs}
 use Rattle.machine.proofs.events.run_checked.Statement.{statement}
 use Rattle.machine.proofs.events.run_checked.Tie as tie
 use Rattle.machine.proofs.events.run_checked.Reads as reads

@@ -1,4 +1,3 @@
-use mathlib.Core.Path.{sym, _∙_}
 use Rattle.rules.proofs.Asked.{asked}
 use Rattle.rules.proofs.Blocked.{answer-served, answer-blocked, answer-none}
 use borrow.Author.Needs.{needs}
