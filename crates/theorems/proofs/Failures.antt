@@ -1,6 +1,7 @@
--- Document 02, L7: why the router failed, in every edition. Of a RUN that is not refused, so from any state in range of a valid network: at every
--- failure it names an output, and nowhere else; output 0 only for a packet whose single target is its own site; exactly the outputs in
--- use in the list of the lowest target other than s, or output 0. Assumes nothing beyond each statement.
+-- Document 02, L7: why the router failed, in every edition. Of a RUN that is not refused, so from any state in range of a valid
+-- network: at every failure it names an output, and nowhere else; output 0 only for a packet whose single target is its own site, the
+-- split output never; exactly the outputs in use in the list of the lowest target other than s, or output 0. Assumes nothing beyond
+-- each statement.
 use Prim.Native.Nat.{ℕ, _+_, _-_, _^_, _≤_, _<_}
 use mathlib.Core.Path.{_≡_, refl, sym, ap, _∙_}
 use mathlib.Core.List.{List}
@@ -186,21 +187,32 @@ module _ (n : Network) (st : State) (s code : ℕ) where
   unfolding ran
   refused h = rw h refl
 
-  -- "output 0 stands in it only for a packet whose single target is its own site"
-  pub zero-alone : has 0 (ran n st s code .blocking) ≡ true → Fails × (asker .set ≡ only s)
-  zero-alone h = go (ltb code 5) refl (failed n s asker (own .outputs)) refl
+  -- an output that is named is named at a failure, and is one of the ways
+  way-named : (j : ℕ) → j < outputCount → has j (ran n st s code .blocking) ≡ true → Fails × (ways n s (asker .set) j ≡ true)
+  way-named j hj h = go (ltb code 5) refl (failed n s asker (own .outputs)) refl
     where
-      empty : (ran n st s code .blocking ≡ 0) → ⊥
-      empty e = clash (sym h ∙ ap (has 0) e ∙ has-empty 0)
+      empty : ran n st s code .blocking ≡ 0 → ⊥
+      empty e = clash (sym h ∙ ap (has j) e ∙ has-empty j)
 
-      go : (b : Bool) → ltb code 5 ≡ b → (f : Bool) → failed n s asker (own .outputs) ≡ f → Fails × (asker .set ≡ only s)
+      go : (b : Bool) → ltb code 5 ≡ b → (f : Bool) → failed n s asker (own .outputs) ≡ f → Fails × (ways n s (asker .set) j ≡ true)
       go false c f e = absurd (empty (blameless (λ w. clash (sym (lt-ltb code 5 (w .0)) ∙ c))))
       go true c false e = absurd (empty (blameless (λ w. clash (sym (w .1) ∙ e))))
       go true c true e =
           let fails : Fails = (ltb-true code 5 c, e) in
           either-way (eqb (runRefusal n st s code) 0)
           (λ p.
-          let passes = eqb-true (runRefusal n st s code) 0 p in
-          let way = sym (those-in (ways n s (asker .set)) outputCount 0 (omega arith)) ∙ sym (ap (has 0) (ways-named passes fails)) ∙ h in
-          (fails, ways-zero n s (asker .set) way))
+          let named = ways-named (eqb-true (runRefusal n st s code) 0 p) fails in
+          (fails, sym (those-in (ways n s (asker .set)) outputCount j hj) ∙ sym (ap (has j) named) ∙ h))
           (λ p. absurd (empty (refused p)))
+
+  -- "output 0 stands in it only for a packet whose single target is its own site"
+  pub zero-alone : has 0 (ran n st s code .blocking) ≡ true → Fails × (asker .set ≡ only s)
+  zero-alone h = let w = way-named 0 (omega arith) h in (w .0, ways-zero n s (asker .set) (w .1))
+
+  -- the split output never does
+  pub split-never : has splitPort (ran n st s code .blocking) ≡ false
+  split-never = go (has splitPort (ran n st s code .blocking)) refl
+    where
+      go : (b : Bool) → has splitPort (ran n st s code .blocking) ≡ b → b ≡ false
+      go true h = absurd (clash (sym (way-named splitPort (omega arith) h .1) ∙ ways-split n s (asker .set)))
+      go false h = refl
