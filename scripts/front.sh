@@ -1,5 +1,5 @@
 #!/bin/sh
-# front.sh: tests the front `fennqualo`, in the repository and installed: its exit statuses, `over` and `back`,
+# front.sh: tests the front `fennqualo`, in the repository and installed: its exit statuses, `why`, `over` and `back`,
 # `batch --jobs`, what it says of a build, `install`. Run it after `rt ci` or `rt check` and scripts/exports.sh. Builds
 # are tried in a copy of the front with a program in the place of `rt`; the installed front is a real one. Prints one
 # line. Exit: 0 all as expected, 1 not.
@@ -33,6 +33,12 @@ expect() {
 # says WHERE TEXT: the last command said this, on out or err.
 says() { grep -qF -- "$2" "$work/$1" || wrong "$what: nothing on $1 says '$2': $(head -n 3 "$work/$1")"; }
 
+# prints TEXT: the last command printed this and nothing else, and no message.
+prints() {
+    printf '%s' "$1" | cmp -s - "$work/out" || wrong "$what: it prints $(head -n 3 "$work/out")"
+    [ ! -s "$work/err" ] || wrong "$what: it says $(head -n 3 "$work/err")"
+}
+
 # ---- exit statuses, in the repository
 printf 'no archive' >"$work/bad"
 mkdir "$work/a folder"
@@ -62,7 +68,7 @@ says err 'fennqualo check: no FILE is named'
 expect 0 "check --help" ./fennqualo check --help
 says out 'usage: fennqualo check [--] FILE..'
 expect 0 "trace --help" ./fennqualo trace --help
-says out 'usage: fennqualo trace [--all] [--] FILE'
+says out 'usage: fennqualo trace [--all | --why] [--] FILE'
 expect 0 "trace" ./fennqualo trace examples/run-r.bin
 expect 1 "trace, refused" ./fennqualo trace "$work/bad"
 expect 0 "version" ./fennqualo version
@@ -70,6 +76,44 @@ says out "$(head -n 1 VERSION)"
 ln -s "$root/fennqualo" "$work/fq"
 expect 1 "by a link" "$work/fq" play "$work/none"
 says err 'fq play: '
+
+# ---- why
+: >"$work/empty"
+head -c 100 examples/routes-one.bin >"$work/cut"
+cp examples/routes-two.bin "$work/--all"
+refused='refused 1
+'
+for name in routes-one routes-two; do
+    expect 0 "why, $name" ./fennqualo why "examples/$name.bin"
+    cmp -s "examples/$name.txt" "$work/out" || wrong "$what: not the lines of examples/$name.txt"
+done
+expect 0 "why, a name behind --" sh -c 'root=$PWD && cd "$1" && "$root/fennqualo" why -- --all' sh "$work"
+cmp -s examples/routes-two.txt "$work/out" || wrong "$what: not the lines of examples/routes-two.txt"
+expect 0 "why, no failed ask" ./fennqualo why examples/two-sites.bin
+prints ''
+expect 1 "why, refused" ./fennqualo why "$work/bad"
+prints "$refused"
+expect 1 "why, an empty file" ./fennqualo why "$work/empty"
+prints "$refused"
+expect 1 "why, a file half written" ./fennqualo why "$work/cut"
+prints "$refused"
+expect 1 "why, missing" ./fennqualo why "$work/none"
+says err 'none cannot be read: there is no such file'
+[ ! -s "$work/out" ] || wrong "$what: it prints $(cat "$work/out")"
+expect 1 "why, a folder" ./fennqualo why "$work/a folder"
+expect 2 "why, no file" ./fennqualo why
+says err 'fennqualo why: why takes one file'
+says err 'usage: fennqualo why [--] FILE'
+expect 2 "why, two files" ./fennqualo why examples/routes-one.bin examples/routes-two.bin
+says err 'fennqualo why: why takes one file'
+expect 2 "why --all" ./fennqualo why --all examples/routes-one.bin
+says err 'fennqualo why: --all does not go with --why'
+expect 2 "why, an option" ./fennqualo why --json examples/routes-one.bin
+says err 'fennqualo why: there is no option --json'
+expect 0 "why --help" ./fennqualo why --help
+says out 'usage: fennqualo why [--] FILE'
+expect 1 "why, a full disk" sh -c './fennqualo why examples/routes-one.bin >/dev/full'
+expect 1 "why, a closed output" sh -c './fennqualo why examples/routes-one.bin >&-'
 
 # ---- over and back
 . "$root/scripts/desk.sh"
@@ -208,6 +252,8 @@ says err 'fennqualo play: '
 expect 0 "installed, batch" "$work/prefix/bin/fennqualo" batch --jobs 2 examples/run-r.bin examples/two-sites.bin
 expect 0 "installed, check" "$work/prefix/bin/fennqualo" check examples/run-r.bin
 expect 0 "installed, trace" "$work/prefix/bin/fennqualo" trace examples/run-r.bin
+expect 0 "installed, why" "$work/prefix/bin/fennqualo" why examples/routes-one.bin
+cmp -s examples/routes-one.txt "$work/out" || wrong "$what: not the lines of examples/routes-one.txt"
 fennqualo=$work/prefix/bin/fennqualo
 moves "installed, over" "$two" over "$one" new.bin
 moves "installed, back" "$one" back "$two" new.bin

@@ -1,10 +1,12 @@
 #!/bin/sh
 # trace.sh: traces the archives of the corpus and the examples, but for those with more than 5,000 draws, by the proved
-# program target/bin/trace (run as scripts/program.sh says) and by the second model, with and without --all, and compares
-# all lines. (An event of a trace tests all 64 sites of the state; under an emulator that is a millisecond.) Then it sees that
-# the product's traces of the corpus tell the book: their services in order and their last lines are crates/batch/stdout. Then
-# the program's words: what it says of odd names, and the status that a front gets on descriptor 3; and that
-# crates/trace/stdout is the second model's. Prints one line. It needs cargo; nothing is fetched.
+# program target/bin/trace (run as scripts/program.sh says) and by the second model, with and without --all, and with --why,
+# and compares all lines. (An event of a trace tests all 64 sites of the state; under an emulator that is a millisecond.)
+# The failed asks of --why have to be those that the trace shows: the tries that fail, and at T draws of a net-input that
+# change nothing. Then it sees that the product's traces of the corpus tell the book: their services in order and their
+# last lines are crates/batch/stdout. Then the program's words: what it says of odd names, and the status that a front gets
+# on descriptor 3; and that crates/trace/stdout and examples/routes-*.txt are the second model's. Prints one line. It needs
+# cargo; nothing is fetched.
 # Exit: 0 no difference, 1 a difference (the lines stay in target/trace/), 2 no program.
 set -u
 export LC_ALL=C
@@ -27,24 +29,40 @@ can_run "$program" || end 2 "$why"
 rm -rf "$folder"
 mkdir -p "$folder" || exit 2
 
+# same_asks: whether the failed asks in `printed--why` are those in `printed--all`: with each `seek, try` one, and the others
+# draws in which this net-input did nothing
+same_asks() {
+    awk '
+        part == 1 { if ($1 + 0 == $1) { packet[$1 ": site " $2 ", net-input " $3 ":"] = $4 "," } next }
+        $5 != "net-input" { next }
+        { draw = $2 " " $3 " " $4 " " $5 " " $6 }
+        $9 == "seek," && $10 == "try" { if (packet[draw] != $8) exit; delete packet[draw]; next }
+        $7 == "nothing" { delete packet[draw] }
+        END { for (draw in packet) exit 1 }' part=1 "$folder/printed--why" part=2 "$folder/printed--all"
+}
+
 # the lines of each archive, the plain trace of the corpus kept under its name
 lines=0
 files=0
 longer=0
+failed=0
 for file in "$root"/corpus/*.bin "$root"/examples/*.bin; do
     name=${file##*/}
     if [ "$(draws "$file")" -gt 5000 ]; then
         longer=$((longer + 1))
         continue
     fi
-    for word in '' --all; do
+    for word in '' --all --why; do
+        printed=$folder/printed$word
         "$second" $word "$file" >"$folder/expected"
-        run "$program" $word -- "$file" >"$folder/printed" || end 1 "the program failed on $name"
-        cmp -s "$folder/expected" "$folder/printed" ||
-            end 1 "$name $word: $(diff "$folder/expected" "$folder/printed" | grep -c '^[<>]') lines differ in target/trace/"
-        lines=$((lines + $(wc -l <"$folder/printed")))
-        [ -n "$word" ] || case $file in "$root"/corpus/*) cp "$folder/printed" "$folder/$name.txt" ;; esac
+        run "$program" $word -- "$file" >"$printed" || end 1 "the program failed on $name"
+        cmp -s "$folder/expected" "$printed" ||
+            end 1 "$name $word: $(diff "$folder/expected" "$printed" | grep -c '^[<>]') lines differ in target/trace/"
+        lines=$((lines + $(wc -l <"$printed")))
     done
+    case $file in "$root"/corpus/*) cp "$folder/printed" "$folder/$name.txt" ;; esac
+    same_asks || end 1 "$name: --why has other failed asks than --all shows, in target/trace/"
+    failed=$((failed + $(grep -c '^[0-9]' "$folder/printed--why")))
     files=$((files + 1))
 done
 
@@ -87,8 +105,9 @@ said() {
 
 export root
 mkfifo "$folder/fifo" || exit 2
-cp examples/two-sites.bin "$folder/--all" || exit 2
+cp examples/two-sites.bin "$folder/--all" && cp examples/routes-one.bin "$folder/--why" || exit 2
 : >"$folder/empty"
+head -c 100 examples/routes-one.bin >"$folder/half"
 cd "$folder" || exit 2
 said 0 '' --help
 said 0 '' "$root/examples/two-sites.bin"
@@ -104,14 +123,34 @@ said 2 'there is no option --al' --al "$root/examples/two-sites.bin"
 said 2 'there is no option -a' -a
 said 2 'trace takes one file' --all
 said 2 'trace takes one file' a b
+said 0 '' --why --help
+grep -q '^usage: trace --why \[--] FILE$' out || end 1 "no usage of --why: $(cat out)"
+said 0 '' --why "$root/examples/two-sites.bin"
+[ ! -s out ] || end 1 "--why prints lines of a run without failed asks: $(cat out)"
+said 0 '' --why -- --why
+cmp -s "$root/examples/routes-one.txt" out || end 1 "--why of a file of that name prints other lines"
+said 1 '' --why empty
+said 1 '' half --why
+[ "$(cat out)" = 'refused 1' ] || end 1 "--why prints of half a file: $(cat out)"
+said 1 'missing.bin cannot be read: there is no such file' --why missing.bin
+said 2 '--all does not go with --why' --all --why "$root/examples/two-sites.bin"
+said 2 '--all does not go with --why' --why "$root/examples/two-sites.bin" --all
+said 2 'there is no option --wh' --wh "$root/examples/two-sites.bin"
+said 2 'why takes one file' --why
+said 2 'why takes one file' --why a b
 if [ -c /dev/full ]; then
-    run "$program" --front 'the desk' "$root/examples/two-sites.bin" 3>status >/dev/full 2>messages
-    [ "$(cat status)" = 1 ] || end 1 "status $(cat status) with an output that cannot be written"
-    grep -q '^the desk: standard output cannot be written: ' messages || end 1 "no message of a full output"
+    for words in two-sites.bin '--why routes-one.bin'; do
+        (cd "$root/examples" && run "$program" --front 'the desk' $words) 3>status >/dev/full 2>messages
+        [ "$(cat status)" = 1 ] || end 1 "status $(cat status) with an output that cannot be written: $words"
+        grep -q '^the desk: standard output cannot be written: ' messages || end 1 "no message of a full output: $words"
+    done
 fi
 
-# what rt runs is the example, and its expected trace the second model's
+# what rt runs is the example, and the stored traces are the second model's
 cd "$root" || exit 2
 cmp -s crates/trace/data/two-sites.bin examples/two-sites.bin || end 1 "crates/trace/data has not the example"
 "$second" crates/trace/data/two-sites.bin | cmp -s - crates/trace/stdout || end 1 "crates/trace/stdout is not the second model's"
-end 0 "$files archives with and without --all, $lines lines, 0 differences, $longer longer ones left alone; the book of each as expected; words and messages"
+for name in routes-one routes-two; do
+    "$second" --why "examples/$name.bin" | cmp -s - "examples/$name.txt" || end 1 "examples/$name.txt is not the second model's"
+done
+end 0 "$files archives with and without --all and with --why, $lines lines, $failed of them failed asks, 0 differences, $longer longer ones left alone; the book of each as expected; words and messages"

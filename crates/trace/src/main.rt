@@ -1,4 +1,4 @@
-// Tells what happened in a stored run: `trace [--front NAME] [--all] [--why] [--] FILE`. docs/TRACE.md has the lines.
+// Tells what happened in a stored run: `trace [--front NAME] [--all | --why] [--] FILE`. docs/TRACE.md has the lines.
 // The run is played by the public single events on lent words, one after the other, each with all its checks. Assumes
 // nothing of the file.
 mod places;
@@ -74,7 +74,7 @@ fn print_usage(fd: i32, who: &[u8], asked: Asked) -> bool {
     let begun = front::print_usage(
         fd,
         who,
-        b" [--all] [--why] [--] FILE\n",
+        b" [--all | --why] [--] FILE\n",
         b"Tells what happened in the stored run FILE: a line for each send and for each draw\n",
     );
     begun
@@ -89,26 +89,27 @@ fn print_usage(fd: i32, who: &[u8], asked: Asked) -> bool {
 }
 
 fn print_why_usage(fd: i32, who: &[u8]) -> bool {
-    let words: &[u8] = if is_why(who) {
-        b" [--] FILE\n"
-    } else {
-        b" --why [--] FILE\n"
-    };
-    let begun = front::print_usage(
-        fd,
-        who,
-        words,
-        b"Tells where the router failed in the stored run FILE: a line for each failed ask, draw,\n",
-    );
-    begun
+    print_why_words(fd, who)
         && io::write_all(
             fd,
-            b"site, net-input, packet and the outputs each of whose emptying alone would have let it\n",
+            b"Tells where the router failed in the stored run FILE: for each failed ask its draw, site,\n",
         )
         && io::write_all(
             fd,
-            b"connect; then how often each output stood in the way, most often first.\n",
+            b"net-input, packet and the outputs in the way, each of which would have done if it alone had\n",
         )
+        && io::write_all(
+            fd,
+            b"been empty; behind them how often each output stood in the way, the most often first.\n",
+        )
+}
+
+// Its first line: the front's command `why` takes FILE alone, the program --why before it.
+fn print_why_words(fd: i32, who: &[u8]) -> bool {
+    if is_why(who) {
+        return front::print_usage(fd, who, b" [--] FILE\n", b"");
+    }
+    front::print_usage(fd, who, b" --why [--] FILE\n", b"")
 }
 
 // Whether the name that messages begin with is that of the front's command `why`.

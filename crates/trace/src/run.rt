@@ -13,7 +13,6 @@ use types::Counts;
 use types::Network;
 use types::Ran;
 use types::Run;
-use types::RunAnswer;
 use types::Sent;
 use types::StoredSend;
 
@@ -111,24 +110,24 @@ fn tell_draw(
     stop_unless(is_printed)
 }
 
-// Tells of a draw what the mode asks for. Answers why the trace stops.
+// Tells of a draw what the mode asks for; `outputs` are those in the way of a failed ask. Answers why the trace stops.
 fn tell(
     network: Network,
     mode: u8,
     d: u16,
     site: usize,
     code: usize,
-    ran: RunAnswer,
+    answer: Ran,
+    outputs: u64,
     state: &[u64],
     before: &mut [u64],
     times: &mut [usize],
 ) -> u8 {
-    let answer = ran.answer;
     if let Ran::Refused(_) = answer {
         return REFUSED;
     }
     if mode == WHY {
-        return stop_unless(why::tell(d, site, code, ran.blocking, state, times));
+        return stop_unless(why::tell(d, site, code, outputs, state, times));
     }
     tell_draw(network, mode, d, site, code, answer, state, before)
 }
@@ -161,18 +160,21 @@ fn draw_turn(
     let site = named.site;
     let code = named.code;
     let ran = words::run(network, state, site, code);
+    let answer = ran.answer;
+    let outputs = ran.blocking;
     let stop = tell(
         network,
         mode,
         clock.draw,
         site,
         code,
-        ran,
+        answer,
+        outputs,
         state,
         before,
         times,
     );
-    let counts = counted_run(t.counts, ran.answer);
+    let counts = counted_run(t.counts, answer);
     Traced {
         next: t.next,
         stop,

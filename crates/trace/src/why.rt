@@ -1,5 +1,6 @@
 // Failed asks, in the words of docs/TRACE.md: a line for each, and how often each output stood in the way. Output j of
-// site s is counted at OUTPUTS x s + j. Every function takes any numbers: what has no place is not counted.
+// site s is counted at OUTPUTS x s + j. Every function takes any numbers: one beyond its range stands for its remainder,
+// and what has no place is not counted.
 use crate::places;
 use crate::printed::ROOM;
 use crate::printed::print;
@@ -29,17 +30,18 @@ pub fn tell(d: u16, s: usize, i: usize, outputs: u64, state: &[u64], times: &mut
 fn count_outputs(times: &mut [usize], s: usize, outputs: u64) {
     let mut j: usize = 0;
     while j < base::OUTPUTS {
-        if sets::member(outputs, j) {
-            count(times, base::OUTPUTS * (s % base::SITES) + j);
-        }
+        count_output(times, s, outputs, j);
         j += 1;
     }
 }
 
-// One more at this place.
-fn count(times: &mut [usize], place: usize) {
-    if place < times.len() {
-        times[place] = wrapping_add_usize(times[place], 1);
+// Counts output j of site s, if it is one of these.
+fn count_output(times: &mut [usize], s: usize, outputs: u64, j: usize) {
+    let place = base::OUTPUTS * (s % base::SITES) + j % base::OUTPUTS;
+    if sets::member(outputs, j) {
+        if place < times.len() {
+            times[place] = wrapping_add_usize(times[place], 1);
+        }
     }
 }
 
@@ -49,7 +51,7 @@ fn count(times: &mut [usize], place: usize) {
 // What is printed is counted no more. Answers whether that was done.
 pub fn print_times(times: &mut [usize]) -> bool {
     let mut k: usize = 0;
-    while k < PLACES {
+    while k < times.len() {
         let place = most(times);
         let n = taken(times, place);
         if n == 0 {

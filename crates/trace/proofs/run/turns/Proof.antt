@@ -12,11 +12,11 @@ use Rattle.trace.proofs.run.place_of.Reads as place-of-reads
 use Rattle.trace.proofs.run.turn.Reads as turn-reads
 
 abbrev Inv-loop : tie.InvT-loop
-Inv-loop all state₀ before₀ network sends draws count t₀ total k₀ state before t k =
-    (length state ≡ length state₀) × (length before ≡ length before₀) × (k ≤ total)
+Inv-loop mode state₀ before₀ times₀ network sends draws count t₀ total k₀ state before times t k =
+    (length state ≡ length state₀) × (length before ≡ length before₀) × (length times ≡ length times₀) × (k ≤ total)
 
 abbrev μ-loop : tie.MeasureT-loop
-μ-loop all state₀ before₀ network sends draws count t₀ total k₀ state before t k = total - k
+μ-loop mode state₀ before₀ times₀ network sends draws count t₀ total k₀ state before times t k = total - k
 
 cast-wrapping-add-usize : tie.Need-cast-wrapping-add-usize Inv-loop μ-loop
 cast-wrapping-add-usize c = search needs
@@ -54,14 +54,20 @@ same-length c = search needs
 same-length-2 : tie.Need-same-length-2 Inv-loop μ-loop
 same-length-2 c = search needs
 
-returns : tie.Need-returns Inv-loop μ-loop
-returns c = search needs
-
 same-length-3 : tie.Need-same-length-3 Inv-loop μ-loop
 same-length-3 c = search needs
 
+returns : tie.Need-returns Inv-loop μ-loop
+returns c = search needs
+
 same-length-4 : tie.Need-same-length-4 Inv-loop μ-loop
 same-length-4 c = search needs
+
+same-length-5 : tie.Need-same-length-5 Inv-loop μ-loop
+same-length-5 c = search needs
+
+same-length-6 : tie.Need-same-length-6 Inv-loop μ-loop
+same-length-6 c = search needs
 
 returns-2 : tie.Need-returns-2 Inv-loop μ-loop
 returns-2 c = search needs
@@ -84,7 +90,9 @@ turns-spec =
     loop-again
     same-length
     same-length-2
-    returns
     same-length-3
+    returns
     same-length-4
+    same-length-5
+    same-length-6
     returns-2)
