@@ -25,8 +25,9 @@ use Rattle.model.specs.Events.{refusalThen, runFault, sendFault, runRefusal, se
 use Rattle.theorems.proofs.Networks.{valid-ok}
 use Rattle.theorems.proofs.Refusals.{not-refused}
 use Rattle.machine.specs.declared.step.Change.{Change}
+use Rattle.machine.specs.declared.events.Looked.{Looked}
 use Rattle.machine.specs.declared.store.Seen.{Seen}
-use Rattle.machine.specs.Step.{ofAct, farAt, fourEnds, seenAt, changeOf, Passable, storedState, answerTo, stored}
+use Rattle.machine.specs.Step.{ofAct, farAt, fourEnds, seenAt, changeOf, looked, Passable, storedState, answerTo, stored}
 use Rattle.machine.proofs.Seen.{act-same, four-at, act-passable}
 
 -- ---- the refusals that all events share
@@ -119,6 +120,14 @@ change-seen n xs s code e =
     let far = ends n xs s in
     ap (λ (v : Seen). ofAct n s (v .site) (act n s (v .site) (farAt (v .far)) code)) e
     ∙ ap (ofAct n s x) (act-same n s x (farAt (fourEnds far)) far (λ j h e. four-at far j h) code)
+
+pub looked-seen : (n : Network) (xs : List Site) (s code : ℕ) {v : Seen} → v ≡ seenAt n xs s → {c : Change}
+    → c ≡ ofAct n s (v .site) (act n s (v .site) (farAt (v .far)) code) → record { change = c; site = v .site } ≡ looked n xs s code
+looked-seen n xs s code e f =
+    ap₂ (λ (c : Change) (x : Site). record { change = c; site = x }) (f ∙ change-seen n xs s code e) (ap (λ (v : Seen). v .site) e)
+
+pub looked-change : {v w : Looked} → v ≡ w → v .change ≡ w .change
+looked-change e = ap (λ (u : Looked). u .change) e
 
 -- at a site of a valid network the change can be stored
 pub change-storable : (n : Network) → networkRefusal n ≡ 0 → (xs : List Site) (s code : ℕ) → s < n .sites → {c : Change}

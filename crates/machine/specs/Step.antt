@@ -18,6 +18,7 @@ use Rattle.model.specs.Steps.{Act, Idle, Own, Serve, Pass, setFar, act, ends}
 use Rattle.machine.specs.declared.step.Act.the-variants.{the-data as Did, Idle as didNothing, Own as didOwn}
 use Rattle.machine.specs.declared.step.Act.the-variants.{Serve as didServe, Pass as didPass}
 use Rattle.machine.specs.declared.step.Change.{Change}
+use Rattle.machine.specs.declared.events.Looked.{Looked}
 use Rattle.machine.specs.declared.store.Seen.{Seen}
 
 abbrev pub unchanged : Site → Change
@@ -75,6 +76,10 @@ seenAt n xs s = record { site = siteAt xs s; far = fourEnds (ends n xs s) }
 -- what RUN does at site s
 unfoldable pub changeOf : Network → List Site → ℕ → ℕ → Change
 changeOf n xs s code = ofAct n s (siteAt xs s) (act n s (siteAt xs s) (ends n xs s) code)
+
+-- with the site as it was
+abbrev pub looked : Network → List Site → ℕ → ℕ → Looked
+looked n xs s code = record { change = changeOf n xs s code; site = siteAt xs s }
 
 abbrev pub isIdle : Did → Bool
 isIdle didNothing = true

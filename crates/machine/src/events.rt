@@ -8,7 +8,7 @@ ghost use Rattle.model.specs.Network.{networkRefusal};
 ghost use Rattle.model.specs.Range.{inRange};
 ghost use Rattle.model.specs.Events as spec;
 ghost use Rattle.model.specs.Runs.{trySend};
-ghost use Rattle.machine.specs.Step.{changeOf};
+ghost use Rattle.machine.specs.Step.{looked};
 use crate::inputs::blocking_at;
 use crate::step::Change;
 use crate::step::step;
@@ -71,15 +71,24 @@ pub fn empty_state() -> State
     }
 }
 
+// What RUN does, and its site as it was.
+pub struct Looked {
+    pub change: Change,
+    pub site: Site,
+}
+
 // What RUN does on a state in range of a valid network: the core step on what it sees there.
-pub(crate) fn change_of(network: Network, state: State, s: usize, code: usize) -> Change
+pub(crate) fn change_of(network: Network, state: State, s: usize, code: usize) -> Looked
     requires { ⌜ (networkRefusal network ≡ 0) × (inRange network state ≡ true) × (s < network .sites) ⌝ }
-    ensures { λ r. ⌜ r ≡ changeOf network (state .sites) s code ⌝ }
+    ensures { λ r. ⌜ r ≡ looked network (state .sites) s code ⌝ }
 {
     let seen = seen_at(network, state, s);
     let site = seen.site;
     let far = seen.far;
-    step(network, s, site, far, code)
+    Looked {
+        change: step(network, s, site, far, code),
+        site,
+    }
 }
 
 // RUN on a state in range of a valid network.
@@ -87,10 +96,9 @@ fn run_checked(network: Network, state: State, s: usize, code: usize) -> AfterRu
     requires { ⌜ (networkRefusal network ≡ 0) × (inRange network state ≡ true) × (s < network .sites) ⌝ }
     ensures { λ r. ⌜ r ≡ spec.runs network state s code ⌝ }
 {
-    let seen = seen_at(network, state, s);
-    let site = seen.site;
-    let far = seen.far;
-    let change = step(network, s, site, far, code);
+    let looked = change_of(network, state, s, code);
+    let change = looked.change;
+    let site = looked.site;
     let act = change.act;
     AfterRun {
         answer: answer_to(act, s),

@@ -91,7 +91,8 @@ fn play_run(
         clock = ticked(clock);
         let named = draws::event_of(clock.value, network.sites, network.edition);
         let s = named.site;
-        let change = change_of(network, state, s, named.code);
+        let looked = change_of(network, state, s, named.code);
+        let change = looked.change;
         let act = change.act;
         state = store_change(state, s, change);
         let answer = answer_to(act, s);

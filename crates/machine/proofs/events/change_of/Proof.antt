@@ -1,9 +1,8 @@
-use mathlib.Core.Path.{_∙_}
 use native.Mathlib.Omega.{arith}
 use Rattle.theorems.proofs.Networks.{valid-ok}
 use Rattle.machine.proofs.RangeAt.{range-runnable}
 use Rattle.machine.proofs.Seen.{valid-ends}
-use Rattle.machine.proofs.Single.{change-seen}
+use Rattle.machine.proofs.Single.{looked-seen}
 use Rattle.machine.proofs.events.change_of.Statement.{statement}
 use Rattle.machine.proofs.events.change_of.Tie as tie
 use Rattle.machine.proofs.events.change_of.Reads as reads
@@ -27,7 +26,7 @@ step-requires c κs =
 returns : tie.Need-returns
 returns c =
     let a = c .before .before .before .before .args in
-    c .step .ensures ∙ change-seen (a .network) (a .state .sites) (a .s) (a .code) (c .before .before .before .seen-at .ensures)
+    looked-seen (a .network) (a .state .sites) (a .s) (a .code) (c .before .before .before .seen-at .ensures) (c .step .ensures)
 
 pub change-of-spec : {M : Type 1} → statement M
 change-of-spec = tie.close (tie.spec seen-at-requires step-requires returns)

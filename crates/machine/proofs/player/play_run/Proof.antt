@@ -7,7 +7,7 @@ use Rattle.machine.specs.Progress.{capped-below}
 use Rattle.machine.proofs.ProgressLaws.{stored-sends}
 use Rattle.machine.proofs.PlayerTurns.{Playing, begun, known, total-most, set-most, next-most, accepted-most, pairs-most, network-valid}
 use Rattle.machine.proofs.PlayerTurns.{network-ok, state-in-range, named-below, sent-on, drawn-on, ended}
-use Rattle.machine.proofs.Single.{change-storable, run-done}
+use Rattle.machine.proofs.Single.{change-storable, run-done, looked-change}
 use Rattle.machine.proofs.player.play_run.Statement.{statement}
 use Rattle.machine.proofs.player.play_run.Tie as tie
 use Rattle.machine.proofs.player.play_run.Reads as reads
@@ -137,19 +137,21 @@ change-of-requires c κs =
 
 store-change-requires : tie.Need-store-change-requires Inv-loop μ-loop
 store-change-requires c κs =
-    let k = c .before .before .before in
+    let m = c .before in
+    let k = m .before .before .before in
     let l = k .before .before .before .before .before in
     let n = l .before .before .before .args .network in
-    let e = c .before .event-of in
+    let e = m .before .event-of in
     change-storable n (network-ok (l .loop .inv)) (l .loop .state .sites) (e .result .site) (e .result .code)
-    (named-below (l .loop .inv) (c .before .before .ticked .result .value) (e .ensures)) (c .change-of .ensures)
+    (named-below (l .loop .inv) (m .before .before .ticked .result .value) (e .ensures)) (looked-change (m .change-of .ensures))
 
 answer-to-requires : tie.Need-answer-to-requires Inv-loop μ-loop
 answer-to-requires c κs =
-    let k = c .before .before .before .before in
+    let m = c .before .before in
+    let k = m .before .before .before in
     let at = k .before .before .before .before .before .loop .inv in
-    let e = c .before .before .event-of in
-    omega (arith, named-below at (c .before .before .before .ticked .result .value) (e .ensures), network-valid at .few)
+    let e = m .before .event-of in
+    omega (arith, named-below at (m .before .before .ticked .result .value) (e .ensures), network-valid at .few)
 
 enter-answer-requires : tie.Need-enter-answer-requires Inv-loop μ-loop
 enter-answer-requires c κs = search needs
@@ -160,13 +162,13 @@ loop-less-3 c = omega arith
 loop-again-3 : tie.Need-loop-again-3 Inv-loop μ-loop
 loop-again-3 c =
     let e = c .before .before in
-    let m = e .before .before .before .before in
+    let m = e .before .before .before .before .before in
     let k = m .before .before .before in
     let l = k .before .before .before .before .before in
     let n = l .before .before .before .args .network in
     let named = m .before .event-of in
-    let ran = run-done n (l .loop .state) (named .result .site) (named .result .code) (m .change-of .ensures) (e .before .before .answer-to .ensures)
-    (e .before .before .before .store-change .ensures) refl in
+    let ran = run-done n (l .loop .state) (named .result .site) (named .result .code) (looked-change (m .change-of .ensures))
+    (e .before .before .answer-to .ensures) (e .before .before .before .store-change .ensures) refl in
     drawn-on (l .loop .inv) (k .before .before .before .before .loop-test .taken) (k .before .before .before .capped .ensures)
     (k .before .is-due .ensures) (k .if1 .left) (m .before .before .ticked .ensures) (named .ensures) ran
     (e .enter-answer .ensures .0) (e .enter-answer .ensures .1)
