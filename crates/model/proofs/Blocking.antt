@@ -6,11 +6,11 @@ use mathlib.Core.List.{List, [], _∷_}
 use mathlib.Core.Bool.{Bool, true, false, cond, not, _&&_, _||_, or-true, and-false}
 use native.Mathlib.Decide.{ℕ-discrete}
 use native.Mathlib.Omega.{arith}
-use borrow.Author.Tests.{eqb-true, eqb-false, eq-eqb, ne-eqb}
+use borrow.Author.Tests.{eqb-true, eqb-false, eq-eqb, ne-eqb, lt-ltb}
 use lib.Dec.{eqb}
 use lib.ListN.{set}
 use lib.Seq.{getD-set-other}
-use Rattle.base.specs.Sizes.{outputCount, splitPort, setBits}
+use Rattle.base.specs.Sizes.{inputCount, outputCount, splitPort, setBits}
 use Rattle.base.specs.Bools.{cond-ok, either-way, clash, neither}
 use Rattle.base.specs.All.{any}
 use Rattle.sets.specs.Sets.{has, only, minus, size, lowest, those}
@@ -20,7 +20,7 @@ use Rattle.sets.proofs.LawsSize.{size-minus}
 use Rattle.sets.proofs.LawsThose.{those-same}
 use Rattle.draws.specs.Draws.{restricted}
 use Rattle.model.specs.Types.{Connection, Unicast, Passthru, Phase, Free, Seek, Open, Wait, Done, Last, Aborted, FinAbort}
-use Rattle.model.specs.Types.{Input, Output, Network, noOutput, outOf}
+use Rattle.model.specs.Types.{Input, Output, Site, Network, noOutput, outOf, inAt}
 use Rattle.types.specs.Numbers.{stateNumber}
 use Rattle.model.specs.Network.{choice, listOf, choices, routeOf}
 use Rattle.model.specs.Router.{Choice, Chosen, Unserved, Missing, unchosen, isChosen, isEmpty, serves, firstPort}
@@ -28,6 +28,7 @@ use Rattle.model.specs.Router.{firstEmpty, oneOutput, onPort, gatherFrom
 use Rattle.model.specs.Router.{finds, emptied, blocks, ask, listed, isPort, ways}
 use Rattle.types.specs.Phases.{seeks}
 use Rattle.model.specs.NetInput.{failed, passesOn}
+use Rattle.model.specs.Steps.{blockingAt}
 
 -- ---- what is empty where output j is emptied: j, and what was
 
@@ -279,6 +280,17 @@ seeks-number (FinAbort c r) = refl
 pub passes-idle : (n : Network) (s : ℕ) (y : Input) (os : List Output) → seeks (y .phase) ≡ false → passesOn n s y os ≡ 0
 unfolding passesOn failed
 passes-idle n s y os e = rw e refl
+
+-- what code below 5 names, where the test b holds of a net-input that asks
+pub passes-where : (n : Network) (s : ℕ) (x : Site) (code : ℕ) (b : Bool) → code < inputCount
+    → (seeks (inAt x code .phase) ≡ true → b ≡ true) → cond b (passesOn n s (inAt x code) (x .outputs)) 0 ≡ blockingAt n s x code
+unfolding blockingAt
+passes-where n s x code b hc asks =
+    let y = inAt x code in
+    rw (lt-ltb code 5 hc)
+    (either-way (seeks (y .phase)) (λ e. rw (asks e) refl)
+    (λ e.
+    rw (passes-idle n s y (x .outputs) e) (cond-ok (λ (B : ℕ). B ≡ 0) b 0 0 (λ a. refl) (λ a. refl))))
 
 -- ---- two networks whose routers say the same: the same answer, and with the same tries the same set is passed on
 

@@ -7,15 +7,14 @@ use borrow.Author.Tests.{lt-ltb, le-leb, eq-eqb}
 use lib.Dec.{eqb, ltb, leb}
 use lib.ListN.{length}
 use Rattle.base.specs.Sizes.{inputCount, sitesMost}
-use Rattle.base.specs.Bools.{and, either-way, cond-ok}
+use Rattle.base.specs.Bools.{and}
 use Rattle.sets.specs.Sets.{targets}
 use Rattle.types.specs.Numbers.{stateNumber}
-use Rattle.types.specs.Phases.{seeks}
 use Rattle.types.specs.declared.Network.{Network}
 use Rattle.types.specs.declared.Site.{Site}
 use Rattle.model.specs.Types.{inAt}
 use Rattle.model.specs.Steps.{blockingAt}
-use Rattle.model.proofs.Blocking.{seeks-at, passes-idle, passes-same}
+use Rattle.model.proofs.Blocking.{seeks-at, passes-where, passes-same}
 use Rattle.rules.specs.Router.{seekOnly, askable, passedBy}
 use Rattle.rules.proofs.Asked.{route-same}
 use Rattle.words.specs.Events.{RunAsks, SeekAsks, siteIn}
@@ -35,18 +34,12 @@ askable-by m S s X a b e t =
 -- a net-input in seek can ask; any other passes nothing on
 pub blocking-asked : (edition : ℕ) (m : List ℕ) (S T : ℕ) (c : List ℕ) (s : ℕ) → SeekAsks m S c s → (code : ℕ) → code < inputCount
     → passedBy edition m S T s (inAt (siteIn c s) code) (siteIn c s .outputs) ≡ blockingAt (seekOnly edition S T m) s (siteIn c s) code
-unfolding blockingAt
 blocking-asked edition m S T c s ok code hc =
     let x = siteIn c s in
     let y = inAt x code in
     let p = ok code hc in
-    rw (lt-ltb code 5 hc)
-    (either-way (seeks (y .phase))
-    (λ e.
-    rw (askable-by m S s (y .set) (p .site) (p .few) (p .routes) (p .set (ap stateNumber (seeks-at (y .phase) e)))) refl)
-    (λ e.
-    rw (passes-idle (seekOnly edition S T m) s y (x .outputs) e)
-    (cond-ok (λ (B : ℕ). B ≡ 0) (askable m S s (y .set)) 0 0 (λ a. refl) (λ a. refl))))
+    passes-where (seekOnly edition S T m) s x code (askable m S s (y .set)) hc
+    (λ e. askable-by m S s (y .set) (p .site) (p .few) (p .routes) (p .set (ap stateNumber (seeks-at (y .phase) e))))
 
 -- of a network edition, sites, tries and routes are looked at
 pub blocking-of : (n : Network) (s : ℕ) (x : Site) (code : ℕ)
