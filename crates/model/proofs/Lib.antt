@@ -19,3 +19,4 @@ pub mod BranchCases
 pub mod BranchRuns
 pub mod Blocking
 pub mod BlockingCases
+pub mod ApartCases

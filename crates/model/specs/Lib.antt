@@ -8,6 +8,7 @@ pub mod NetInput
 pub mod Places
 pub mod Steps
 pub mod Events
+pub mod Apart
 pub mod Owing
 pub mod Runs
 pub mod Shapes

@@ -33,7 +33,7 @@ other-at f st u k u′ k′ x ne h = go (ℕ-discrete k′ k)
     go (yes e) = ap f (getD-set-other st u u′ x siteD (λ a. ne a e))
     go (no e) = proj-set f st u u′ x siteD (h e)
 
-in-other : (st : List Site) (u k u′ k′ : ℕ) (y : Input) → (u′ ≡ u → k′ ≡ k → ⊥)
+pub in-other : (st : List Site) (u k u′ k′ : ℕ) (y : Input) → (u′ ≡ u → k′ ≡ k → ⊥)
     → inAt (siteAt (setSite st u (setIn (siteAt st u) k y)) u′) k′ ≡ inAt (siteAt st u′) k′
 in-other st u k u′ k′ y ne =
     other-at (λ (x : Site). inAt x k′) st u k u′ k′ _ ne (getD-set-other (siteAt st u .inputs) k k′ y inputD)

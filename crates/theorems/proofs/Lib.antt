@@ -43,3 +43,7 @@ pub mod CalmPlaces
 pub mod CalmRules
 pub mod Calm
 pub mod Failures
+pub mod FarApart
+pub mod Commute
+pub mod Recordings
+pub mod Orders
