@@ -4,6 +4,7 @@
 //! is the baseline of speed figures. One `State` holds every place in flat arrays and is changed in place.
 //! A place has one number: input `p` of site `s` is place `5 * s + p`, output `p` is place `6 * s + p`.
 
+pub mod apart;
 pub mod archive;
 pub mod coverage;
 pub mod draws;

@@ -1,5 +1,9 @@
 //! The second model's own tests. Expected values are typed from document 01 and its readings.
 
+mod apart;
+mod apart_lists;
+mod apart_pairs;
+mod apart_states;
 mod asked;
 mod bounds;
 mod branches;

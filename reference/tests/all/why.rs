@@ -170,6 +170,6 @@ fn the_program_and_its_words() {
     ] {
         let told = program(words);
         assert_eq!((told.status.code(), told.stdout.len()), (Some(2), 0), "{words:?}");
-        assert_eq!(told.stderr, b"usage: trace [--all | --why] FILE\n");
+        assert_eq!(told.stderr, b"usage: trace [--all | --why | --apart] FILE\n");
     }
 }
