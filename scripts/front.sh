@@ -1,6 +1,6 @@
 #!/bin/sh
-# front.sh: tests the front `fennqualo`, in the repository and installed: its exit statuses, `why`, `over` and `back`,
-# `batch --jobs`, what it says of a build, `install`. Run it after `rt ci` or `rt check` and scripts/exports.sh. Builds
+# front.sh: tests the front `fennqualo`, in the repository and installed: its exit statuses, `why`, `apart`, `over` and
+# `back`, `batch --jobs`, what it says of a build, `install`. Run it after `rt ci` or `rt check` and scripts/exports.sh. Builds
 # are tried in a copy of the front with a program in the place of `rt`; the installed front is a real one. Prints one
 # line. Exit: 0 all as expected, 1 not.
 set -u
@@ -68,7 +68,7 @@ says err 'fennqualo check: no FILE is named'
 expect 0 "check --help" ./fennqualo check --help
 says out 'usage: fennqualo check [--] FILE..'
 expect 0 "trace --help" ./fennqualo trace --help
-says out 'usage: fennqualo trace [--all | --why] [--] FILE'
+says out 'usage: fennqualo trace [--all | --why | --apart] [--] FILE'
 expect 0 "trace" ./fennqualo trace examples/run-r.bin
 expect 1 "trace, refused" ./fennqualo trace "$work/bad"
 expect 0 "version" ./fennqualo version
@@ -114,6 +114,54 @@ expect 0 "why --help" ./fennqualo why --help
 says out 'usage: fennqualo why [--] FILE'
 expect 1 "why, a full disk" sh -c './fennqualo why examples/routes-one.bin >/dev/full'
 expect 1 "why, a closed output" sh -c './fennqualo why examples/routes-one.bin >&-'
+
+# ---- apart
+far=examples/torus-4x4-apart.txt
+expect 0 "apart" ./fennqualo apart examples/torus-4x4.bin
+prints "$(cat "$far")
+"
+expect 0 "apart, sites joined both ways" ./fennqualo apart examples/two-sites.bin
+prints '0 {}
+1 {}
+'
+expect 0 "apart, a single site" ./fennqualo apart examples/run-r.bin
+prints '0 {}
+'
+expect 0 "apart, a name behind --" sh -c 'root=$PWD && cd "$1" && "$root/fennqualo" apart -- --all' sh "$work"
+prints '0 {2}
+1 {3}
+2 {0}
+3 {1}
+'
+expect 1 "apart, refused" ./fennqualo apart "$work/bad"
+prints "$refused"
+expect 1 "apart, an empty file" ./fennqualo apart "$work/empty"
+prints "$refused"
+expect 1 "apart, a file half written" ./fennqualo apart "$work/cut"
+prints "$refused"
+expect 1 "apart, missing" ./fennqualo apart "$work/none"
+says err 'none cannot be read: there is no such file'
+[ ! -s "$work/out" ] || wrong "$what: it prints $(cat "$work/out")"
+expect 1 "apart, a folder" ./fennqualo apart "$work/a folder"
+expect 2 "apart, no file" ./fennqualo apart
+says err 'fennqualo apart: apart takes one file'
+says err 'usage: fennqualo apart [--] FILE'
+expect 2 "apart, two files" ./fennqualo apart examples/routes-one.bin examples/routes-two.bin
+says err 'fennqualo apart: apart takes one file'
+expect 2 "apart --all" ./fennqualo apart --all examples/routes-one.bin
+says err 'fennqualo apart: --all does not go with --apart'
+expect 2 "apart --why" ./fennqualo apart --why examples/routes-one.bin
+says err 'fennqualo apart: --why does not go with --apart'
+says err 'usage: fennqualo apart [--] FILE'
+expect 2 "why --apart" ./fennqualo why --apart examples/routes-one.bin
+says err 'fennqualo why: --why does not go with --apart'
+says err 'usage: fennqualo why [--] FILE'
+expect 2 "apart, an option" ./fennqualo apart --json examples/routes-one.bin
+says err 'fennqualo apart: there is no option --json'
+expect 0 "apart --help" ./fennqualo apart --help
+says out 'usage: fennqualo apart [--] FILE'
+expect 1 "apart, a full disk" sh -c './fennqualo apart examples/routes-one.bin >/dev/full'
+expect 1 "apart, a closed output" sh -c './fennqualo apart examples/routes-one.bin >&-'
 
 # ---- over and back
 . "$root/scripts/desk.sh"
@@ -254,6 +302,8 @@ expect 0 "installed, check" "$work/prefix/bin/fennqualo" check examples/run-r.bi
 expect 0 "installed, trace" "$work/prefix/bin/fennqualo" trace examples/run-r.bin
 expect 0 "installed, why" "$work/prefix/bin/fennqualo" why examples/routes-one.bin
 cmp -s examples/routes-one.txt "$work/out" || wrong "$what: not the lines of examples/routes-one.txt"
+expect 0 "installed, apart" "$work/prefix/bin/fennqualo" apart examples/torus-4x4.bin
+cmp -s "$far" "$work/out" || wrong "$what: not the lines of $far"
 fennqualo=$work/prefix/bin/fennqualo
 moves "installed, over" "$two" over "$one" new.bin
 moves "installed, back" "$one" back "$two" new.bin

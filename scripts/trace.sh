@@ -2,11 +2,12 @@
 # trace.sh: traces the archives of the corpus and the examples, but for those with more than 5,000 draws, by the proved
 # program target/bin/trace (run as scripts/program.sh says) and by the second model, with and without --all, and with --why,
 # and compares all lines. (An event of a trace tests all 64 sites of the state; under an emulator that is a millisecond.)
-# The failed asks of --why have to be those that the trace shows: the tries that fail, and at T draws of a net-input that
-# change nothing. Then it sees that the product's traces of the corpus tell the book: their services in order and their
-# last lines are crates/batch/stdout. Then the program's words: what it says of odd names, and the status that a front gets
-# on descriptor 3; and that crates/trace/stdout and examples/routes-*.txt are the second model's. Prints one line. It needs
-# cargo; nothing is fetched.
+# With --apart nothing is played: these lines are compared for all archives. The failed asks of --why have to be those that
+# the trace shows: the tries that fail, and at T draws of a net-input that change nothing. Then it sees that the product's
+# traces of the corpus tell the book: their services in order and their last lines are crates/batch/stdout. Then the
+# program's words: what it says of odd names, and the status that a front gets on descriptor 3; and that
+# crates/trace/stdout, examples/routes-*.txt and examples/torus-4x4-apart.txt are the second model's. Prints one line. It
+# needs cargo; nothing is fetched.
 # Exit: 0 no difference, 1 a difference (the lines stay in target/trace/), 2 no program.
 set -u
 export LC_ALL=C
@@ -41,23 +42,31 @@ same_asks() {
         END { for (draw in packet) exit 1 }' part=1 "$folder/printed--why" part=2 "$folder/printed--all"
 }
 
+# told WORD: both models print the same of `file` with this word, or with none; it stays in `printed` and the word
+told() {
+    printed=$folder/printed$1
+    "$second" $1 "$file" >"$folder/expected"
+    run "$program" $1 -- "$file" >"$printed" || end 1 "the program failed on $name"
+    cmp -s "$folder/expected" "$printed" ||
+        end 1 "$name $1: $(diff "$folder/expected" "$printed" | grep -c '^[<>]') lines differ in target/trace/"
+}
+
 # the lines of each archive, the plain trace of the corpus kept under its name
+sites=0
 lines=0
 files=0
 longer=0
 failed=0
 for file in "$root"/corpus/*.bin "$root"/examples/*.bin; do
     name=${file##*/}
+    told --apart
+    sites=$((sites + $(grep -c '^[0-9]' "$printed")))
     if [ "$(draws "$file")" -gt 5000 ]; then
         longer=$((longer + 1))
         continue
     fi
     for word in '' --all --why; do
-        printed=$folder/printed$word
-        "$second" $word "$file" >"$folder/expected"
-        run "$program" $word -- "$file" >"$printed" || end 1 "the program failed on $name"
-        cmp -s "$folder/expected" "$printed" ||
-            end 1 "$name $word: $(diff "$folder/expected" "$printed" | grep -c '^[<>]') lines differ in target/trace/"
+        told "$word"
         lines=$((lines + $(wc -l <"$printed")))
     done
     case $file in "$root"/corpus/*) cp "$folder/printed" "$folder/$name.txt" ;; esac
@@ -106,6 +115,7 @@ said() {
 export root
 mkfifo "$folder/fifo" || exit 2
 cp examples/two-sites.bin "$folder/--all" && cp examples/routes-one.bin "$folder/--why" || exit 2
+cp examples/torus-4x4.bin "$folder/--apart" || exit 2
 : >"$folder/empty"
 head -c 100 examples/routes-one.bin >"$folder/half"
 cd "$folder" || exit 2
@@ -138,8 +148,23 @@ said 2 '--all does not go with --why' --why "$root/examples/two-sites.bin" --all
 said 2 'there is no option --wh' --wh "$root/examples/two-sites.bin"
 said 2 'why takes one file' --why
 said 2 'why takes one file' --why a b
+said 0 '' --apart --help
+grep -q '^usage: trace --apart \[--] FILE$' out || end 1 "no usage of --apart: $(cat out)"
+said 0 '' --apart "$root/examples/two-sites.bin"
+[ "$(cat out)" = "$(printf '0 {}\n1 {}')" ] || end 1 "--apart prints of two sites joined both ways: $(cat out)"
+said 0 '' --apart -- --apart
+cmp -s "$root/examples/torus-4x4-apart.txt" out || end 1 "--apart of a file of that name prints other lines"
+said 1 '' --apart empty
+said 1 '' half --apart
+[ "$(cat out)" = 'refused 1' ] || end 1 "--apart prints of half a file: $(cat out)"
+said 1 'missing.bin cannot be read: there is no such file' --apart missing.bin
+said 2 '--all does not go with --apart' --all --apart "$root/examples/two-sites.bin"
+said 2 '--why does not go with --apart' --apart "$root/examples/two-sites.bin" --why
+said 2 'there is no option --apar' --apar "$root/examples/two-sites.bin"
+said 2 'apart takes one file' --apart
+said 2 'apart takes one file' --apart a b
 if [ -c /dev/full ]; then
-    for words in two-sites.bin '--why routes-one.bin'; do
+    for words in two-sites.bin '--why routes-one.bin' '--apart torus-4x4.bin'; do
         (cd "$root/examples" && run "$program" --front 'the desk' $words) 3>status >/dev/full 2>messages
         [ "$(cat status)" = 1 ] || end 1 "status $(cat status) with an output that cannot be written: $words"
         grep -q '^the desk: standard output cannot be written: ' messages || end 1 "no message of a full output: $words"
@@ -153,4 +178,6 @@ cmp -s crates/trace/data/two-sites.bin examples/two-sites.bin || end 1 "crates/t
 for name in routes-one routes-two; do
     "$second" --why "examples/$name.bin" | cmp -s - "examples/$name.txt" || end 1 "examples/$name.txt is not the second model's"
 done
-end 0 "$files archives with and without --all and with --why, $lines lines, $failed of them failed asks, 0 differences, $longer longer ones left alone; the book of each as expected; words and messages"
+name=torus-4x4
+"$second" --apart "examples/$name.bin" | cmp -s - "examples/$name-apart.txt" || end 1 "examples/$name-apart.txt is not the second model's"
+end 0 "$files archives with and without --all and with --why, $lines lines, $failed of them failed asks, 0 differences, $longer longer ones left alone; all $((files + longer)) with --apart, $sites sites; the book of each as expected; words and messages"

@@ -1,8 +1,10 @@
 // Tests of values that a caller hands over, against the model's definitions. Every public function takes anything.
+mod apart;
 mod network;
 mod range;
 mod send;
 
+pub use apart::far_apart;
 pub use network::is_input;
 pub use network::kind_refusal;
 pub use network::network_refusal;

@@ -14,6 +14,7 @@ use Rattle.checks.proofs.ports_by as the-ports-by
 use Rattle.checks.proofs.route_ok as the-route-ok
 use Rattle.checks.proofs.stored_ok as the-stored-ok
 use Rattle.checks.proofs.kind_refusal as the-kind-refusal
+use Rattle.checks.proofs.far_apart as the-far-apart
 
 pub network-refusal-settled : Settles the-network-refusal.ended (λ M. the-network-refusal.clauses) (λ M. the-network-refusal.spec)
 network-refusal-settled = settled (λ κs a x y p q. refl) (λ κs a x y p q i. (same p q i, x .1))
@@ -47,3 +48,6 @@ stored-ok-settled = settled (λ κs a x y p q. refl) (λ κs a x y p q i. (same 
 
 pub kind-refusal-settled : Settles the-kind-refusal.ended (λ M. the-kind-refusal.clauses) (λ M. the-kind-refusal.spec)
 kind-refusal-settled = settled (λ κs a x y p q. refl) (λ κs a x y p q i. (same p q i, x .1))
+
+pub far-apart-settled : Settles the-far-apart.ended (λ M. the-far-apart.clauses) (λ M. the-far-apart.spec)
+far-apart-settled = settled (λ κs a x y p q. refl) (λ κs a x y p q i. (same p q i, x .1))

@@ -1,6 +1,7 @@
-// Tells what happened in a stored run: `trace [--front NAME] [--all | --why] [--] FILE`. docs/TRACE.md has the lines.
-// The run is played by the public single events on lent words, one after the other, each with all its checks. Assumes
-// nothing of the file.
+// Tells what happened in a stored run: `trace [--front NAME] [--all | --why | --apart] [--] FILE`. docs/TRACE.md has
+// the lines. The run is played by the public single events on lent words, one after the other, each with all its checks;
+// with --apart nothing is played. Assumes nothing of the file.
+mod apart;
 mod places;
 mod printed;
 mod run;
@@ -15,6 +16,7 @@ use libc::STDOUT_FILENO;
 struct Asked {
     all: bool,
     why: bool,
+    apart: bool,
     words: Words,
 }
 
@@ -23,6 +25,7 @@ fn asked_from(who: &[u8], first: usize) -> Asked {
     let mut asked = Asked {
         all: false,
         why: false,
+        apart: false,
         words: front::no_words(who, first),
     };
     for i in first..os::arg_count() {
@@ -37,7 +40,7 @@ fn take_argument(who: &[u8], i: usize, asked: Asked) -> Asked {
     take_word(who, i, &room[..n], asked)
 }
 
-// One more word: `--all`, `--why`, or what the programs share.
+// One more word: `--all`, `--why`, `--apart`, or what the programs share.
 fn take_word(who: &[u8], i: usize, word: &[u8], asked: Asked) -> Asked {
     let words = asked.words;
     let mut now = asked;
@@ -49,12 +52,16 @@ fn take_word(who: &[u8], i: usize, word: &[u8], asked: Asked) -> Asked {
         now.why = true;
         return now;
     }
+    if !words.ended && check::same(word, b"--apart") {
+        now.apart = true;
+        return now;
+    }
     let more = front::take_word(who, i, word, words);
     now.words = more;
     now
 }
 
-// What is to be told: failed asks, every draw, or what changed something.
+// What is to be told of a run: failed asks, every draw, or what changed something.
 fn mode_of(asked: Asked) -> u8 {
     if asked.why {
         return run::WHY;
@@ -68,13 +75,16 @@ fn mode_of(asked: Asked) -> u8 {
 // ---- usage
 
 fn print_usage(fd: i32, who: &[u8], asked: Asked) -> bool {
+    if asked.apart && !is_command(who, b" why") {
+        return print_apart_usage(fd, who);
+    }
     if asked.why {
         return print_why_usage(fd, who);
     }
     let begun = front::print_usage(
         fd,
         who,
-        b" [--all | --why] [--] FILE\n",
+        b" [--all | --why | --apart] [--] FILE\n",
         b"Tells what happened in the stored run FILE: a line for each send and for each draw\n",
     );
     begun
@@ -84,8 +94,9 @@ fn print_usage(fd: i32, who: &[u8], asked: Asked) -> bool {
         )
         && io::write_all(
             fd,
-            b"With --why instead where the router failed, and which outputs stood in the way.\n",
+            b"With --why instead where the router failed, and which outputs stood in the way; with\n",
         )
+        && io::write_all(fd, b"--apart which sites of its network are far apart.\n")
 }
 
 fn print_why_usage(fd: i32, who: &[u8]) -> bool {
@@ -106,21 +117,47 @@ fn print_why_usage(fd: i32, who: &[u8]) -> bool {
 
 // Its first line: the front's command `why` takes FILE alone, the program --why before it.
 fn print_why_words(fd: i32, who: &[u8]) -> bool {
-    if is_why(who) {
+    if is_command(who, b" why") {
         return front::print_usage(fd, who, b" [--] FILE\n", b"");
     }
     front::print_usage(fd, who, b" --why [--] FILE\n", b"")
 }
 
-// Whether the name that messages begin with is that of the front's command `why`.
-fn is_why(who: &[u8]) -> bool {
+fn print_apart_usage(fd: i32, who: &[u8]) -> bool {
+    print_apart_words(fd, who)
+        && io::write_all(
+            fd,
+            b"Tells which sites of the network in FILE are far apart, with no channel between them in either\n",
+        )
+        && io::write_all(
+            fd,
+            b"direction: for each site a line with its number and the sites far apart from it. Two RUNs at\n",
+        )
+        && io::write_all(
+            fd,
+            b"such sites give the same final state and the same answers in either order.\n",
+        )
+}
+
+fn print_apart_words(fd: i32, who: &[u8]) -> bool {
+    if is_command(who, b" apart") {
+        return front::print_usage(fd, who, b" [--] FILE\n", b"");
+    }
+    front::print_usage(fd, who, b" --apart [--] FILE\n", b"")
+}
+
+// Whether the name that messages begin with ends with this command of the front.
+fn is_command(who: &[u8], command: &[u8]) -> bool {
     let n = who.len();
-    if n < 4 {
+    let k = command.len();
+    if n < k {
         return false;
     }
-    let from = n - 4;
-    check::same(&who[from..], b" why")
+    let from = n - k;
+    check::same(&who[from..], command)
 }
+
+// ---- wrong use
 
 // Whether the use is wrong, which is said.
 fn is_wrong(who: &[u8], asked: Asked) -> bool {
@@ -128,19 +165,39 @@ fn is_wrong(who: &[u8], asked: Asked) -> bool {
     if words.wrong {
         return true;
     }
-    if asked.all & asked.why {
-        front::say(who, b"--all does not go with --why", b"");
+    if is_mixed(who, asked) {
         return true;
     }
     if words.names != 1 {
-        say_one_file(who, asked.why);
+        say_one_file(who, asked);
         return true;
     }
     false
 }
 
-fn say_one_file(who: &[u8], why: bool) {
-    if why {
+// Whether two options are named that do not go together, which is said.
+fn is_mixed(who: &[u8], asked: Asked) -> bool {
+    if asked.all & asked.why {
+        front::say(who, b"--all does not go with --why", b"");
+        return true;
+    }
+    if asked.all & asked.apart {
+        front::say(who, b"--all does not go with --apart", b"");
+        return true;
+    }
+    if asked.why & asked.apart {
+        front::say(who, b"--why does not go with --apart", b"");
+        return true;
+    }
+    false
+}
+
+fn say_one_file(who: &[u8], asked: Asked) {
+    if asked.apart {
+        front::say(who, b"apart takes one file", b"");
+        return;
+    }
+    if asked.why {
         front::say(who, b"why takes one file", b"");
         return;
     }
@@ -149,8 +206,8 @@ fn say_one_file(who: &[u8], why: bool) {
 
 // ---- the trace
 
-// Traces the run that the bytes hold. Answers the status.
-fn trace_bytes(who: &[u8], bytes: &[u8], mode: u8) -> u64 {
+// Tells of the run that the bytes hold what is asked. Answers the status.
+fn trace_bytes(who: &[u8], bytes: &[u8], asked: Asked) -> u64 {
     let decoded = archive::read(bytes);
     let refusal = decoded.refusal;
     if refusal != 0 {
@@ -159,7 +216,12 @@ fn trace_bytes(who: &[u8], bytes: &[u8], mode: u8) -> u64 {
         }
         return front::FAILED;
     }
-    ended(who, mode, run::trace(decoded.run, mode))
+    let stored = decoded.run;
+    if asked.apart {
+        return status_of(who, apart::print_sites(stored.network));
+    }
+    let mode = mode_of(asked);
+    ended(who, mode, run::trace(stored, mode))
 }
 
 // The last line of a trace, unless it stopped before, which is said. Failed asks have none. Answers the status.
@@ -173,22 +235,30 @@ fn ended(who: &[u8], mode: u8, traced: run::Traced) -> u64 {
         return front::FAILED;
     }
     let is_written = traced.stop != run::NOT_WRITTEN;
-    if is_written && (mode == run::WHY || report::print_line(0, traced.counts)) {
+    status_of(
+        who,
+        is_written && (mode == run::WHY || report::print_line(0, traced.counts)),
+    )
+}
+
+// The status where all lines are printed, or not, which is said.
+fn status_of(who: &[u8], is_printed: bool) -> u64 {
+    if is_printed {
         return front::DONE;
     }
     front::no_output(who);
     front::FAILED
 }
 
-// Traces the file that argument i names. Answers the status.
-fn trace_argument(who: &[u8], i: usize, mode: u8) -> u64 {
+// Tells the same of the file that argument i names. Answers the status.
+fn trace_argument(who: &[u8], i: usize, asked: Asked) -> u64 {
     let mut bytes = io::large_buffer();
     let seen = front::read_argument(who, i, &mut bytes);
     if seen.failed {
         return front::FAILED;
     }
     let n = seen.count;
-    trace_bytes(who, &bytes[..n], mode)
+    trace_bytes(who, &bytes[..n], asked)
 }
 
 // The status of the arguments from number `first` on.
@@ -202,7 +272,7 @@ fn answer(who: &[u8], first: usize) -> u64 {
         print_usage(STDERR_FILENO, who, asked);
         return front::WRONG;
     }
-    trace_argument(who, words.last, mode_of(asked))
+    trace_argument(who, words.last, asked)
 }
 
 fn main() {
