@@ -6,6 +6,7 @@ use mathlib.Core.Bool.{Bool, true, false, not, _&&_}
 use lib.Dec.{eqb, ltb}
 use Rattle.base.specs.Sizes.{portCount}
 use Rattle.base.specs.All.{any}
+use Rattle.types.specs.Numbers.{sentNumbers, ranNumbers}
 use Rattle.model.specs.Types.{State, Network, Sent, Ran}
 use Rattle.model.specs.Network.{channel, joined, endSite}
 use Rattle.model.specs.Events.{Event, Send, Run, ran, sent, after}
@@ -34,10 +35,14 @@ unfoldable pub listsApart : Network → List Event → List Event → Bool
 listsApart n [] fs = true
 listsApart n (e ∷ es) fs = apartFrom n e fs && listsApart n es fs
 
--- what an event is answered, RUN with L7's outputs in the way; and the events of a list, in their order
+-- what an event is answered, RUN with L7's outputs in the way, and its numbers; and the events of a list, in their order
 pub data Answer : Type 0 where
   ToSend : Sent → Answer
   ToRun : Ran → ℕ → Answer
+
+abbrev pub answerNumbers : Answer → List ℕ
+answerNumbers (ToSend w) = sentNumbers w
+answerNumbers (ToRun w B) = ranNumbers w B
 
 abbrev pub answerTo : Network → State → Event → Answer
 answerTo n st (Send s X) = ToSend (sent n st s X .answer)

@@ -13,14 +13,15 @@ use Rattle.sets.specs.Sets.{has, plus, minus, sizeIn, lowest}
 use Rattle.draws.specs.Draws.{drawn, drawnSite, drawnCode}
 use Rattle.theorems.specs.Names.{State, Network, Run as StoredRun}
 use Rattle.model.specs.Types.{noState, siteAt, inAt, outAt, outEntry}
-use Rattle.types.specs.Numbers.{stateNumber, terminatorNumber, sentNumbers, ranNumbers}
+use Rattle.types.specs.Numbers.{stateNumber, terminatorNumber}
 use Rattle.model.specs.Network.{networkRefusal}
 use Rattle.model.specs.Range.{inRange}
 use Rattle.model.specs.Router.{firstPort, gatherFrom, gather, spread, orElse, route}
 use Rattle.model.specs.NetInput.{hears, give, occupy, marksOf, seek, inState, failed, passesOn}
 use Rattle.model.specs.Places.{localOutput, deliver, channelOutput, outQueue, operate, cutAt}
 use Rattle.model.specs.Steps.{netOutput, act, run, blockingAt, enqueue}
-use Rattle.model.specs.Events.{Event, Send, Run, ran, sent, runRefusal, sendRefusal, after, final}
+use Rattle.model.specs.Events.{Event, Send, Run, ran, sent, runRefusal, sendRefusal, final}
+use Rattle.model.specs.Apart.{answerNumbers, answersTo}
 use Rattle.model.specs.Runs.{storedRefusal}
 use Rattle.model.proofs.Made.{net, runOn}
 
@@ -32,14 +33,9 @@ one D = net 1 3 D [] []
 abbrev pub two : Network
 two = net 2 3 8 (4 ∷ noChannel ∷ noChannel ∷ noChannel ∷ 0 ∷ []) (0 ∷ 4096 ∷ 4096 ∷ 0 ∷ [])
 
-abbrev numbers : Network → State → Event → List ℕ
-numbers n st (Send s X) = sentNumbers (sent n st s X .answer)
-numbers n st (Run s code) = let w = ran n st s code in ranNumbers (w .answer) (w .blocking)
-
--- the answers to a list of events
+-- the numbers of the answers to a list of events
 answers : Network → State → List Event → List (List ℕ)
-answers n st [] = []
-answers n st (e ∷ es) = numbers n st e ∷ answers n (after n st e) es
+answers n st es = map answerNumbers (answersTo n st es)
 
 -- codes run at one site
 unfoldable pub at : ℕ → List ℕ → List Event
@@ -103,7 +99,7 @@ table =
     ∷ []
 
 pub examples : map (λ row. row .0) table ≡ map (λ row. row .1) table
-unfolding table drawn seedless look front p5 p6 p7 changed at answers final ran sent runRefusal sendRefusal
+unfolding table drawn seedless look front p5 p6 p7 changed at answers answersTo final ran sent runRefusal sendRefusal
     networkRefusal inRange all any over sum has plus minus sizeIn lowest trailingZeros firstPort gatherFrom gather
     spread orElse route hears give occupy marksOf seek inState localOutput deliver channelOutput outQueue operate
     cutAt netOutput act run blockingAt passesOn failed enqueue storedRefusal

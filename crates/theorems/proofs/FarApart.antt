@@ -57,6 +57,7 @@ module _ (n : Network) where
   abbrev end : ℕ → ℕ → ℕ
   end s j = channel n s (suc j)
 
+  -- what two sites far apart are known by
   pub record Apart (s u : ℕ) : Type 0 where
     pub other : s ≡ u → ⊥
     pub forth : (j : ℕ) → Crosses s j → endSite (end s j) ≡ u → ⊥

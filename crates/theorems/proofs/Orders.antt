@@ -11,7 +11,7 @@ use Rattle.base.specs.All.{all, any}
 use Rattle.base.specs.Over.{over}
 use Rattle.base.specs.Sums.{sum}
 use Rattle.sets.specs.Sets.{has, plus, minus, sizeIn, lowest, those}
-use Rattle.types.specs.Numbers.{stateNumber, sentNumbers, ranNumbers}
+use Rattle.types.specs.Numbers.{stateNumber}
 use Rattle.theorems.specs.Names.{Unicast, Open, tNone, Input, Site, State}
 use Rattle.model.specs.Types.{noSite, noState, siteAt, inAt, withOutQueue, setIn, setOut, setSite}
 use Rattle.model.specs.Network.{networkRefusal}
@@ -21,7 +21,7 @@ use Rattle.model.specs.NetInput.{hears, give, occupy, marksOf, seek, inState, f
 use Rattle.model.specs.Places.{deliver, channelOutput, outQueue}
 use Rattle.model.specs.Steps.{netOutput, act, run, blockingAt, enqueue}
 use Rattle.model.specs.Events.{Event, Send, Run, runRefusal, sendRefusal, ran, sent, final}
-use Rattle.model.specs.Apart.{Answer, ToSend, ToRun, answersTo}
+use Rattle.model.specs.Apart.{answerNumbers, answersTo}
 use Rattle.model.proofs.ApartCases.{fed}
 use Rattle.model.proofs.Shown.{ofInput, out, leaving, outQ}
 
@@ -36,17 +36,13 @@ sending q =
 pub begun : State
 begun = record { sites = setSite (setSite (noState .sites) 0 (sending 0)) 2 (sending 1); counter = 2 }
 
-ofAnswer : Answer → List ℕ
-ofAnswer (ToSend w) = sentNumbers w
-ofAnswer (ToRun w B) = ranNumbers w B
-
 -- what e and then f are answered; net-input 0 of site 0, and 1 and 2 of site 1 after them
 seen : ℕ → Event → Event → List (List ℕ)
 seen edition e f =
     let n = fed edition in
     let xs = final n begun (e ∷ f ∷ []) .sites in
     let inputs = inAt (siteAt xs 0) 0 ∷ inAt (siteAt xs 1) 1 ∷ inAt (siteAt xs 1) 2 ∷ [] in
-    map ofAnswer (answersTo n begun (e ∷ f ∷ [])) ++ map ofInput inputs
+    map answerNumbers (answersTo n begun (e ∷ f ∷ [])) ++ map ofInput inputs
 
 -- the answers 1 and 0; 9; an open net-input of packet 0 on output 1, and a free one
 changed : List ℕ
@@ -86,7 +82,7 @@ orders edition =
     ∷ []
 
 pub orders-read : map (λ e. map (λ row. row .0) (orders e)) (1 ∷ 2 ∷ 3 ∷ []) ≡ map (λ e. map (λ row. row .1) (orders e)) (1 ∷ 2 ∷ 3 ∷ [])
-unfolding orders seen sending begun ofAnswer changed nothing refused onto free answersTo final ran sent runRefusal sendRefusal
+unfolding orders seen sending begun changed nothing refused onto free answersTo final ran sent runRefusal sendRefusal
     networkRefusal inRange all any over sum has plus minus sizeIn lowest those trailingZeros firstPort gatherFrom gather spread branch
     orElse route blocks ask hears give occupy marksOf seek inState failed passesOn deliver channelOutput outQueue netOutput act run
     blockingAt enqueue

@@ -1,5 +1,5 @@
 -- Document 02, L12, of recordings: two lists of events that are pairwise far apart, one behind the other in either order; and a recording
--- that two share, each of whom runs his own events alone. From any state in range, refused events among them. Assumes the arrays'
+-- that two share, each of whom runs their own events alone. From any state in range, refused events among them. Assumes the arrays'
 -- lengths, which the types give.
 use Prim.Native.Nat.{ℕ}
 use mathlib.Core.Path.{_≡_, refl, sym, ap, ap₂, _∙_}
