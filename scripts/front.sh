@@ -91,29 +91,6 @@ expect 0 "why, a name behind --" sh -c 'root=$PWD && cd "$1" && "$root/fennqualo
 cmp -s examples/routes-two.txt "$work/out" || wrong "$what: not the lines of examples/routes-two.txt"
 expect 0 "why, no failed ask" ./fennqualo why examples/two-sites.bin
 prints ''
-expect 1 "why, refused" ./fennqualo why "$work/bad"
-prints "$refused"
-expect 1 "why, an empty file" ./fennqualo why "$work/empty"
-prints "$refused"
-expect 1 "why, a file half written" ./fennqualo why "$work/cut"
-prints "$refused"
-expect 1 "why, missing" ./fennqualo why "$work/none"
-says err 'none cannot be read: there is no such file'
-[ ! -s "$work/out" ] || wrong "$what: it prints $(cat "$work/out")"
-expect 1 "why, a folder" ./fennqualo why "$work/a folder"
-expect 2 "why, no file" ./fennqualo why
-says err 'fennqualo why: why takes one file'
-says err 'usage: fennqualo why [--] FILE'
-expect 2 "why, two files" ./fennqualo why examples/routes-one.bin examples/routes-two.bin
-says err 'fennqualo why: why takes one file'
-expect 2 "why --all" ./fennqualo why --all examples/routes-one.bin
-says err 'fennqualo why: --all does not go with --why'
-expect 2 "why, an option" ./fennqualo why --json examples/routes-one.bin
-says err 'fennqualo why: there is no option --json'
-expect 0 "why --help" ./fennqualo why --help
-says out 'usage: fennqualo why [--] FILE'
-expect 1 "why, a full disk" sh -c './fennqualo why examples/routes-one.bin >/dev/full'
-expect 1 "why, a closed output" sh -c './fennqualo why examples/routes-one.bin >&-'
 
 # ---- apart
 far=examples/torus-4x4-apart.txt
@@ -133,35 +110,37 @@ prints '0 {2}
 2 {0}
 3 {1}
 '
-expect 1 "apart, refused" ./fennqualo apart "$work/bad"
-prints "$refused"
-expect 1 "apart, an empty file" ./fennqualo apart "$work/empty"
-prints "$refused"
-expect 1 "apart, a file half written" ./fennqualo apart "$work/cut"
-prints "$refused"
-expect 1 "apart, missing" ./fennqualo apart "$work/none"
-says err 'none cannot be read: there is no such file'
-[ ! -s "$work/out" ] || wrong "$what: it prints $(cat "$work/out")"
-expect 1 "apart, a folder" ./fennqualo apart "$work/a folder"
-expect 2 "apart, no file" ./fennqualo apart
-says err 'fennqualo apart: apart takes one file'
-says err 'usage: fennqualo apart [--] FILE'
-expect 2 "apart, two files" ./fennqualo apart examples/routes-one.bin examples/routes-two.bin
-says err 'fennqualo apart: apart takes one file'
-expect 2 "apart --all" ./fennqualo apart --all examples/routes-one.bin
-says err 'fennqualo apart: --all does not go with --apart'
 expect 2 "apart --why" ./fennqualo apart --why examples/routes-one.bin
 says err 'fennqualo apart: --why does not go with --apart'
 says err 'usage: fennqualo apart [--] FILE'
 expect 2 "why --apart" ./fennqualo why --apart examples/routes-one.bin
 says err 'fennqualo why: --why does not go with --apart'
 says err 'usage: fennqualo why [--] FILE'
-expect 2 "apart, an option" ./fennqualo apart --json examples/routes-one.bin
-says err 'fennqualo apart: there is no option --json'
-expect 0 "apart --help" ./fennqualo apart --help
-says out 'usage: fennqualo apart [--] FILE'
-expect 1 "apart, a full disk" sh -c './fennqualo apart examples/routes-one.bin >/dev/full'
-expect 1 "apart, a closed output" sh -c './fennqualo apart examples/routes-one.bin >&-'
+
+# ---- why and apart: a file that is turned down or cannot be read, wrong use, an output that cannot be written
+for tells in why apart; do
+    for bad in bad empty cut; do
+        expect 1 "$tells, the file $bad" ./fennqualo "$tells" "$work/$bad"
+        prints "$refused"
+    done
+    expect 1 "$tells, missing" ./fennqualo "$tells" "$work/none"
+    says err 'none cannot be read: there is no such file'
+    [ ! -s "$work/out" ] || wrong "$what: it prints $(cat "$work/out")"
+    expect 1 "$tells, a folder" ./fennqualo "$tells" "$work/a folder"
+    expect 2 "$tells, no file" ./fennqualo "$tells"
+    says err "fennqualo $tells: $tells takes one file"
+    says err "usage: fennqualo $tells [--] FILE"
+    expect 2 "$tells, two files" ./fennqualo "$tells" examples/routes-one.bin examples/routes-two.bin
+    says err "fennqualo $tells: $tells takes one file"
+    expect 2 "$tells --all" ./fennqualo "$tells" --all examples/routes-one.bin
+    says err "fennqualo $tells: --all does not go with --$tells"
+    expect 2 "$tells, an option" ./fennqualo "$tells" --json examples/routes-one.bin
+    says err "fennqualo $tells: there is no option --json"
+    expect 0 "$tells --help" ./fennqualo "$tells" --help
+    says out "usage: fennqualo $tells [--] FILE"
+    expect 1 "$tells, a full disk" sh -c './fennqualo "$1" examples/routes-one.bin >/dev/full' sh "$tells"
+    expect 1 "$tells, a closed output" sh -c './fennqualo "$1" examples/routes-one.bin >&-' sh "$tells"
+done
 
 # ---- over and back
 . "$root/scripts/desk.sh"

@@ -133,36 +133,28 @@ said 2 'there is no option --al' --al "$root/examples/two-sites.bin"
 said 2 'there is no option -a' -a
 said 2 'trace takes one file' --all
 said 2 'trace takes one file' a b
-said 0 '' --why --help
-grep -q '^usage: trace --why \[--] FILE$' out || end 1 "no usage of --why: $(cat out)"
+for tells in why apart; do
+    said 0 '' --$tells --help
+    grep -q "^usage: trace --$tells \\[--] FILE\$" out || end 1 "no usage of --$tells: $(cat out)"
+    said 1 '' --$tells empty
+    said 1 '' half --$tells
+    [ "$(cat out)" = 'refused 1' ] || end 1 "--$tells prints of half a file: $(cat out)"
+    said 1 'missing.bin cannot be read: there is no such file' --$tells missing.bin
+    said 2 "--all does not go with --$tells" --all --$tells "$root/examples/two-sites.bin"
+    said 2 "--all does not go with --$tells" --$tells "$root/examples/two-sites.bin" --all
+    said 2 "there is no option --${tells%?}" --${tells%?} "$root/examples/two-sites.bin"
+    said 2 "$tells takes one file" --$tells
+    said 2 "$tells takes one file" --$tells a b
+done
 said 0 '' --why "$root/examples/two-sites.bin"
 [ ! -s out ] || end 1 "--why prints lines of a run without failed asks: $(cat out)"
 said 0 '' --why -- --why
 cmp -s "$root/examples/routes-one.txt" out || end 1 "--why of a file of that name prints other lines"
-said 1 '' --why empty
-said 1 '' half --why
-[ "$(cat out)" = 'refused 1' ] || end 1 "--why prints of half a file: $(cat out)"
-said 1 'missing.bin cannot be read: there is no such file' --why missing.bin
-said 2 '--all does not go with --why' --all --why "$root/examples/two-sites.bin"
-said 2 '--all does not go with --why' --why "$root/examples/two-sites.bin" --all
-said 2 'there is no option --wh' --wh "$root/examples/two-sites.bin"
-said 2 'why takes one file' --why
-said 2 'why takes one file' --why a b
-said 0 '' --apart --help
-grep -q '^usage: trace --apart \[--] FILE$' out || end 1 "no usage of --apart: $(cat out)"
 said 0 '' --apart "$root/examples/two-sites.bin"
 [ "$(cat out)" = "$(printf '0 {}\n1 {}')" ] || end 1 "--apart prints of two sites joined both ways: $(cat out)"
 said 0 '' --apart -- --apart
 cmp -s "$root/examples/torus-4x4-apart.txt" out || end 1 "--apart of a file of that name prints other lines"
-said 1 '' --apart empty
-said 1 '' half --apart
-[ "$(cat out)" = 'refused 1' ] || end 1 "--apart prints of half a file: $(cat out)"
-said 1 'missing.bin cannot be read: there is no such file' --apart missing.bin
-said 2 '--all does not go with --apart' --all --apart "$root/examples/two-sites.bin"
 said 2 '--why does not go with --apart' --apart "$root/examples/two-sites.bin" --why
-said 2 'there is no option --apar' --apar "$root/examples/two-sites.bin"
-said 2 'apart takes one file' --apart
-said 2 'apart takes one file' --apart a b
 if [ -c /dev/full ]; then
     for words in two-sites.bin '--why routes-one.bin' '--apart torus-4x4.bin'; do
         (cd "$root/examples" && run "$program" --front 'the desk' $words) 3>status >/dev/full 2>messages
