@@ -211,7 +211,7 @@ module _ (n : Network) where
           run-after (Run u d) s back c .0,
         )
 
-    -- either of them RUN
+    -- two events, at least one of them RUN
     pub record Commute (e f : Event) : Type 0 where
       pub state : after n (after n st e) f ≡ after n (after n st f) e
       pub first : answerTo n (after n st f) e ≡ answerTo n st e

@@ -18,9 +18,6 @@ use Rattle.theorems.proofs.RangeKept.{range-kept, shaped-kept}
 use Rattle.theorems.proofs.Commute.{events-commute}
 
 module _ (n : Network) where
-  abbrev heard : Answer → List Answer → List Answer
-  heard a l = a ∷ l
-
   -- one event past a list
   past : (e : Event) (fs : List Event) (st : State) → Shaped st → inRange n st ≡ true → apartFrom n e fs ≡ true
       → (final n (after n st e) fs ≡ after n (final n st fs) e) × (answersTo n (after n st e) fs ≡ answersTo n st fs)
@@ -32,7 +29,7 @@ module _ (n : Network) where
       let c = events-commute n st sh h e f (w .0) in
       let i = past e fs (after n st f) (shaped-kept n st sh f) (range-kept n st sh h f) (w .1) in (
         ap (λ (z : State). final n z fs) (c .state) ∙ i .0,
-        ap₂ heard (c .second) (ap (λ (z : State). answersTo n z fs) (c .state) ∙ i .1),
+        ap₂ _∷_ (c .second) (ap (λ (z : State). answersTo n z fs) (c .state) ∙ i .1),
         i .2 ∙ c .first,
       )
 
@@ -48,7 +45,7 @@ module _ (n : Network) where
       let i = split es fs (after n st e) (shaped-kept n st sh e) (range-kept n st sh h e) (w .1) in (
         i .0 ∙ ap (λ (z : State). final n z es) (p .0),
         i .1 ∙ p .1,
-        ap₂ heard (p .2) (ap (λ (z : State). answersTo n z es) (sym (p .0)) ∙ i .2),
+        ap₂ _∷_ (p .2) (ap (λ (z : State). answersTo n z es) (sym (p .0)) ∙ i .2),
       )
 
   -- ---- a recording that two share
@@ -89,19 +86,19 @@ module _ (n : Network) where
       let w = both (apartFrom n e (ofSecond gs)) (listsApart n (ofFirst gs) (ofSecond gs)) k in
       let p = past e (ofSecond gs) st sh h (w .0) in
       let i = shared gs (after n st e) (shaped-kept n st sh e) (range-kept n st sh h e) (w .1) in
-      (i .0, ap (heard (answerTo n st e)) (i .1), i .2 ∙ p .1)
+      (i .0, ap (λ (l : List Answer). answerTo n st e ∷ l) (i .1), i .2 ∙ p .1)
   shared (inr f ∷ gs) st sh h k =
       let w = second-at (ofFirst gs) f (ofSecond gs) k in
       let p = past f (ofFirst gs) st sh h (w .0) in
       let i = shared gs (after n st f) (shaped-kept n st sh f) (range-kept n st sh h f) (w .1) in (
         i .0 ∙ ap (λ (z : State). final n z (ofSecond gs)) (p .0),
         i .1 ∙ p .1,
-        ap (heard (answerTo n st f)) (i .2),
+        ap (λ (l : List Answer). answerTo n st f ∷ l) (i .2),
       )
 
   -- its answers are those of all its events
   pub shared-answers : (gs : List (Event ⊎ Event)) (st : State) → ofBoth (sharedAnswers n st gs) ≡ answersTo n st (ofBoth gs)
   unfolding answersTo ofBoth sharedAnswers
   shared-answers [] st = refl
-  shared-answers (inl e ∷ gs) st = ap (heard (answerTo n st e)) (shared-answers gs (after n st e))
-  shared-answers (inr f ∷ gs) st = ap (heard (answerTo n st f)) (shared-answers gs (after n st f))
+  shared-answers (inl e ∷ gs) st = ap (λ (l : List Answer). answerTo n st e ∷ l) (shared-answers gs (after n st e))
+  shared-answers (inr f ∷ gs) st = ap (λ (l : List Answer). answerTo n st f ∷ l) (shared-answers gs (after n st f))

@@ -100,7 +100,7 @@ fn print_usage(fd: i32, who: &[u8], asked: Asked) -> bool {
 }
 
 fn print_why_usage(fd: i32, who: &[u8]) -> bool {
-    print_why_words(fd, who)
+    print_words(fd, who, b" why", b" --why [--] FILE\n")
         && io::write_all(
             fd,
             b"Tells where the router failed in the stored run FILE: for each failed ask its draw, site,\n",
@@ -115,16 +115,8 @@ fn print_why_usage(fd: i32, who: &[u8]) -> bool {
         )
 }
 
-// Its first line: the front's command `why` takes FILE alone, the program --why before it.
-fn print_why_words(fd: i32, who: &[u8]) -> bool {
-    if is_command(who, b" why") {
-        return front::print_usage(fd, who, b" [--] FILE\n", b"");
-    }
-    front::print_usage(fd, who, b" --why [--] FILE\n", b"")
-}
-
 fn print_apart_usage(fd: i32, who: &[u8]) -> bool {
-    print_apart_words(fd, who)
+    print_words(fd, who, b" apart", b" --apart [--] FILE\n")
         && io::write_all(
             fd,
             b"Tells which sites of the network in FILE are far apart, with no channel between them in either\n",
@@ -139,11 +131,12 @@ fn print_apart_usage(fd: i32, who: &[u8]) -> bool {
         )
 }
 
-fn print_apart_words(fd: i32, who: &[u8]) -> bool {
-    if is_command(who, b" apart") {
+// The first line of a usage: a command of the front takes FILE alone, the program the words with the option before it.
+fn print_words(fd: i32, who: &[u8], command: &[u8], words: &[u8]) -> bool {
+    if is_command(who, command) {
         return front::print_usage(fd, who, b" [--] FILE\n", b"");
     }
-    front::print_usage(fd, who, b" --apart [--] FILE\n", b"")
+    front::print_usage(fd, who, words, b"")
 }
 
 // Whether the name that messages begin with ends with this command of the front.
