@@ -6,5 +6,5 @@ abbrev pub or_next : ℕ → ℕ → ℕ
 or_next f next = cond (eqb f 0) next f
 
 -- "Success writes its bytes at the front; the rest stays."
-unfoldable pub at_front_lem : List ℕ → List ℕ → List ℕ
-at_front_lem bytes room = bytes ++ drop (length bytes) room
+unfoldable pub at_front : List ℕ → List ℕ → List ℕ
+at_front bytes room = bytes ++ drop (length bytes) room

@@ -2,7 +2,7 @@
 use Rattle.std.specs.Prelude.{◌≡◌, List, [], ◌++◌, ℕ, ◌+◌, ◌≤◌, length, take, drop}
 use Rattle.std.proofs.Common.{sym, ap, ap₂, ◌∙◌, append_assoc, append-nil, add-zero, zero-add, arith, length-append, take-append-drop, length-take-le, take_at, drop-drop}
 use Rattle.std.proofs.Math.Seq.{drop-append-add}
-use Rattle.base.specs.Answers.{at_front_lem}
+use Rattle.base.specs.Answers.{at_front}
 
 -- the list with the bytes xs from place p on
 unfoldable pub put : List ℕ → ℕ → List ℕ → List ℕ
@@ -16,8 +16,8 @@ put_none out p =
     ∙ take-append-drop p out
 
 -- from place 0 on: at the front
-pub put_front : (out xs : List ℕ) → put out 0 xs ≡ at_front_lem xs out
-unfolding put at_front_lem
+pub put_front : (out xs : List ℕ) → put out 0 xs ≡ at_front xs out
+unfolding put at_front
 put_front out xs = ap (λ (k : ℕ). xs ++ drop k out) (zero-add (length xs))
 
 -- one part behind another

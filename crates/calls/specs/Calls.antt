@@ -1,7 +1,7 @@
 -- The calls of the C library: the refusal that each answers, and each lent slice afterwards. Document 01 gives the
 -- player's and the reader's part; the slice for the counts, and the copy, are this library's own. Assumes nothing.
 use Rattle.std.specs.Prelude.{ℕ, cond, List, [], ◌∷◌, eqb, ltb, length}
-use Rattle.base.specs.Answers.{or_next, at_front_lem}
+use Rattle.base.specs.Answers.{or_next, at_front}
 use Rattle.types.specs.declared.Counts.{Counts}
 use Rattle.model.specs.Runs.{played_run, counts_of}
 use Rattle.format.specs.Format.{run_of}
@@ -28,7 +28,7 @@ four_counts c = c.accepted ∷ c.pairs ∷ c.serviced ∷ c.owed ∷ []
 unfoldable pub counts_after : List ℕ → ℕ → List ℕ → List ℕ
 counts_after b room counts =
     cond (eqb (call_refusal b room (length counts)) 0)
-    (at_front_lem (four_counts (counts_of (played_run (run_of b)))) counts)
+    (at_front (four_counts (counts_of (played_run (run_of b)))) counts)
     counts
 
 -- ---- fennqualo_copy: bytes b read and written into so much room
@@ -38,4 +38,4 @@ unfoldable pub copy_refusal : List ℕ → ℕ → ℕ
 copy_refusal b room = or_next (read_refusal b) (cond (ltb room (length b)) 14 0)
 
 unfoldable pub copy_after : List ℕ → List ℕ → List ℕ
-copy_after b out = cond (eqb (copy_refusal b (length out)) 0) (at_front_lem b out) out
+copy_after b out = cond (eqb (copy_refusal b (length out)) 0) (at_front b out) out

@@ -15,7 +15,7 @@ use Rattle.types.specs.Phases.{is_free, connected, splitting, branching, abortin
 use Rattle.draws.specs.Draws.{restricted}
 use Rattle.model.specs.Types.{Phase, Free, Seek, Open, Wait, Done, Last, Aborted, FinAbort}
 use Rattle.model.specs.Types.{Input, Output, InQueue, Site, mark, out_of, in_at, out_at, out_entry, queue_at, in_entry}
-use Rattle.model.specs.Range.{tag_ok, any_mark, any_remote, zero_input, zero_output, zero_in_queue, fed_by_lem, connection_in, input_ok, output_ok}
+use Rattle.model.specs.Range.{tag_ok, any_mark, any_remote, zero_input, zero_output, zero_in_queue, fed_by, connection_in, input_ok, output_ok}
 use Rattle.model.specs.Range.{out_entry_ok, in_entry_ok, out_queue_ok, in_queue_ok, depth_of, site_ok, zero_site}
 use Rattle.checks.specs.Range.{connection_ok, net_places_ok, in_queues_ok}
 
@@ -85,7 +85,7 @@ unmarked edition os i ph bs free none =
     let r = at_rest ph free in
     let split : mark bs split_port ≡ false = any_at (mark bs) split_port output_count (omega arith) none in
     let marks =
-    all_by (λ j. implies (mark bs j) (fed_by_lem i (out_of os j))) output_count
+    all_by (λ j. implies (mark bs j) (fed_by i (out_of os j))) output_count
     (λ j h. implies_by (mark bs j) _ (λ e. absurd (clash (sym e ∙ any_at (mark bs) j output_count h none)))) in
     rw (none, r.0, marks, r.1, r.2, split, r.3) (either_way (restricted edition) (λ e. rw e refl) (λ e. rw e refl))
 
@@ -95,7 +95,7 @@ in_parts edition S T k os i y =
     let bs = y.outputs in
     let ph = y.phase in
     by_parts (leb y.tries T) (tag S k y) (alike (any_mark bs) (connected ph))
-    (all (λ j. implies (mark bs j) (fed_by_lem i (out_of os j))) output_count) (implies (splitting ph) (mark bs 0))
+    (all (λ j. implies (mark bs j) (fed_by i (out_of os j))) output_count) (implies (splitting ph) (mark bs 0))
     (implies (aborting ph) (splitting ph && not (any_remote bs))) (alike (mark bs split_port) (branching ph)) (connection_in edition ph)
 
 pub free_input : (edition S T k : ℕ) (os : List Output) (i : ℕ) (y : Input) → is_free y.phase ≡ true

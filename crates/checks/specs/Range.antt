@@ -4,7 +4,7 @@ use Rattle.base.specs.Sizes.{input_count, output_count, split_port, in_queue_cou
 use Rattle.base.specs.Bools.{implies, alike}
 use Rattle.base.specs.All.{all}
 use Rattle.model.specs.Types.{Input, Output, InQueue, Phase, input_d, in_queue_d, out_of, mark}
-use Rattle.model.specs.Range.{any_mark, any_remote, fed_by_lem, connection_in, input_ok, output_ok, in_queue_ok, depth_of}
+use Rattle.model.specs.Range.{any_mark, any_remote, fed_by, connection_in, input_ok, output_ok, in_queue_ok, depth_of}
 use Rattle.types.specs.Phases.{connected, splitting, branching, aborting}
 
 -- the last two clauses of input_ok, by whether the split output is marked
@@ -15,7 +15,7 @@ branch_ok edition ph b = alike b (branching ph) && connection_in edition ph
 abbrev pub connection_ok : ℕ → List Output → ℕ → Phase → List Bool → Bool
 connection_ok edition os i ph bs =
     alike (any_mark bs) (connected ph)
-    && all (λ j. implies (mark bs j) (fed_by_lem i (out_of os j))) output_count
+    && all (λ j. implies (mark bs j) (fed_by i (out_of os j))) output_count
     && implies (splitting ph) (mark bs 0)
     && implies (aborting ph) (splitting ph && not (any_remote bs))
     && branch_ok edition ph (mark bs split_port)

@@ -13,13 +13,13 @@ use Rattle.format.specs.Format.{run_of}
 use Rattle.format.specs.Refusals.{read_refusal}
 use Rattle.machine.specs.declared.player.PlayAnswer.{PlayAnswer}
 use Rattle.machine.specs.Play.{play_refusal, play_answer, play_book, no_counts}
-use Rattle.base.specs.Answers.{at_front_lem}
+use Rattle.base.specs.Answers.{at_front}
 use Rattle.calls.specs.Calls.{count_places, four_counts, call_refusal, book_after, counts_after}
 
 -- four stores, one after the other
 pub four_stored : (x y z w : ℕ) (out : List ℕ) → count_places ≤ length out
-    → set (set (set (set out 0 x) 1 y) 2 z) 3 w ≡ at_front_lem (x ∷ y ∷ z ∷ w ∷ []) out
-unfolding at_front_lem
+    → set (set (set (set out 0 x) 1 y) 2 z) 3 w ≡ at_front (x ∷ y ∷ z ∷ w ∷ []) out
+unfolding at_front
 four_stored x y z w [] h = absurd (omega arith)
 four_stored x y z w (a ∷ []) h = absurd (omega arith)
 four_stored x y z w (a ∷ b ∷ []) h = absurd (omega arith)
@@ -85,7 +85,7 @@ module _ (b book counts : List ℕ) where
 
     -- played, the counts stored
     pub play_done : (stored : List ℕ) → p.refusal ≡ 0 → count_places ≤ length counts
-        → stored ≡ at_front_lem (four_counts p.counts) counts → Answered 0 after stored
+        → stored ≡ at_front (four_counts p.counts) counts → Answered 0 after stored
     unfolding call_refusal book_after counts_after play_book
     play_done stored z h es =
         let k : play_refusal b (length book) ≡ 0 = sym same_refusal ∙ z in

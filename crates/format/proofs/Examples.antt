@@ -7,7 +7,7 @@ use lib.ListN.{set, take, replicate}
 use Rattle.base.specs.Sizes.{no_channel}
 use Rattle.base.specs.Over.{over}
 use Rattle.base.specs.All.{all}
-use Rattle.base.specs.Answers.{at_front_lem}
+use Rattle.base.specs.Answers.{at_front}
 use Rattle.types.specs.declared.Run.{Run}
 use Rattle.model.specs.Runs.{stored_refusal}
 use Rattle.format.specs.Format.{each, head_bytes, channel_bytes, route_bytes, sends_bytes, encode, network_of, run_of, no_run}
@@ -160,7 +160,7 @@ write_refusals = refl
 
 -- a room of 26 nines: two of them stay
 pub written_r : written run_r (replicate 26 9) ≡ bytes_r ++ (9 ∷ 9 ∷ [])
-unfolding written at_front_lem write_refusal stored_refusal body_refusal all encode each head_bytes channel_bytes route_bytes sends_bytes
+unfolding written at_front write_refusal stored_refusal body_refusal all encode each head_bytes channel_bytes route_bytes sends_bytes
 written_r = refl
 
 -- a room one byte short stays as it was

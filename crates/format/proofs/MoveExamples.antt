@@ -7,7 +7,7 @@ use Prim.Native.Nat.{ℕ}
 use lib.ListN.{set, take, replicate}
 use Rattle.base.specs.Over.{over}
 use Rattle.base.specs.All.{all}
-use Rattle.base.specs.Answers.{at_front_lem}
+use Rattle.base.specs.Answers.{at_front}
 use Rattle.model.specs.Network.{network_under}
 use Rattle.model.specs.Runs.{body_refusal, under}
 use Rattle.model.proofs.Made.{net_in, run_on}
@@ -29,7 +29,7 @@ files = refl
 -- nothing is written
 pub over_rooms : moved 1 2 bytes_r (replicate 37 9) ∷ moved 1 2 bytes_r (replicate 34 9) ∷ []
     ≡ (wide_r ++ 9 ∷ 9 ∷ []) ∷ replicate 34 9 ∷ []
-unfolding moved move_refusal file_under encode each head_bytes channel_bytes route_bytes sends_bytes under network_under at_front_lem
+unfolding moved move_refusal file_under encode each head_bytes channel_bytes route_bytes sends_bytes under network_under at_front
     read_refusal head_then body_refusal run_of network_of over all
 over_rooms = refl
 

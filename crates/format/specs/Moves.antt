@@ -3,7 +3,7 @@
 -- Assumes nothing.
 use Rattle.std.specs.Prelude.{Bool, true, cond, ◌&&◌, List, ℕ, eqb, ltb, leb, length}
 use Rattle.base.specs.Sizes.{first_sites}
-use Rattle.base.specs.Answers.{or_next, at_front_lem}
+use Rattle.base.specs.Answers.{or_next, at_front}
 use Rattle.types.specs.declared.Run.{Run}
 use Rattle.model.specs.Runs.{under}
 use Rattle.format.specs.declared.Written.{Written}
@@ -43,7 +43,7 @@ move_answer from to b room =
 
 -- "Success writes its bytes at the front; the rest stays."
 unfoldable pub moved : ℕ → ℕ → List ℕ → List ℕ → List ℕ
-moved from to b out = cond (eqb (move_refusal from to b (length out)) 0) (at_front_lem (file_under to b) out) out
+moved from to b out = cond (eqb (move_refusal from to b (length out)) 0) (at_front (file_under to b) out) out
 
 -- over: version 1 in, version 2 out; back: the other way
 abbrev pub over_refusal : List ℕ → ℕ → ℕ

@@ -2,7 +2,7 @@
 -- refusal, and what stands beside it. The network's and the run's own tests are the model's.
 use Rattle.std.specs.Prelude.{Bool, cond, ◌&&◌, List, ℕ, eqb, ltb, leb, length}
 use Rattle.types.specs.declared.Run.{Run}
-use Rattle.base.specs.Answers.{or_next, at_front_lem}
+use Rattle.base.specs.Answers.{or_next, at_front}
 use Rattle.model.specs.Network.{kind_then, sizes_ok}
 use Rattle.model.specs.Runs.{body_refusal, stored_refusal}
 use Rattle.format.specs.declared.Decoded.{Decoded}
@@ -55,4 +55,4 @@ write_answer r room =
 
 -- "Success writes its bytes at the front; the rest stays."
 unfoldable pub written : Run → List ℕ → List ℕ
-written r out = cond (eqb (write_refusal r (length out)) 0) (at_front_lem (encode r) out) out
+written r out = cond (eqb (write_refusal r (length out)) 0) (at_front (encode r) out) out

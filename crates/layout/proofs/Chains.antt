@@ -8,7 +8,7 @@ use Rattle.types.specs.declared.Input.{Input}
 use Rattle.types.specs.declared.Output.{Output}
 use Rattle.types.specs.declared.OutQueue.{OutQueue}
 use Rattle.types.specs.declared.Site.{Site}
-use Rattle.model.specs.Types.{site_at, set_site, set_in, set_out_lem, with_out_queue}
+use Rattle.model.specs.Types.{site_at, set_site, set_in, set_out, with_out_queue}
 use Rattle.model.specs.Steps.{set_far}
 use Rattle.layout.specs.Layout.{end_site, end_input}
 use Rattle.layout.specs.Words.{sites_of}
@@ -22,9 +22,9 @@ module _ (c d e : List ℕ) where
         → Stored c e (set_site (sites_of c) s (set_in x i y))
     then_input i y q = then_own c d e s x (λ z. set_in z i y) h p q
 
-    pub then_output : (j : ℕ) (o : Output) → Stored d e (set_site (sites_of d) s (set_out_lem (site_at (sites_of d) s) j o))
-        → Stored c e (set_site (sites_of c) s (set_out_lem x j o))
-    then_output j o q = then_own c d e s x (λ z. set_out_lem z j o) h p q
+    pub then_output : (j : ℕ) (o : Output) → Stored d e (set_site (sites_of d) s (set_out (site_at (sites_of d) s) j o))
+        → Stored c e (set_site (sites_of c) s (set_out x j o))
+    then_output j o q = then_own c d e s x (λ z. set_out z j o) h p q
 
     pub then_out_queue : (oq : OutQueue) → Stored d e (set_site (sites_of d) s (with_out_queue (site_at (sites_of d) s) oq))
         → Stored c e (set_site (sites_of c) s (with_out_queue x oq))
@@ -36,9 +36,9 @@ module _ (c d e : List ℕ) where
 
   -- an output, then the input at the end of its channel: at another site, or at the same
   pub passed_by_lem : (s j b byte : ℕ) (o : Output) (y : Input) → b ≡ byte
-      → Stored c d (set_site (sites_of c) s (set_out_lem (site_at (sites_of c) s) (j + 1) o))
+      → Stored c d (set_site (sites_of c) s (set_out (site_at (sites_of c) s) (j + 1) o))
       → Stored d e (set_site (sites_of d) (end_site b) (set_in (site_at (sites_of d) (end_site b)) (end_input b) y))
-      → Stored c e (set_far (set_site (sites_of c) s (set_out_lem (site_at (sites_of c) s) (suc j) o)) byte y)
+      → Stored c e (set_far (set_site (sites_of c) s (set_out (site_at (sites_of c) s) (suc j) o)) byte y)
   passed_by_lem s j b byte o y f p q =
       rw (← f, ← add-one j, ← add-one (b % 4))
-      (then_far c d e (set_site (sites_of c) s (set_out_lem (site_at (sites_of c) s) (j + 1) o)) (b / 4) (λ z. set_in z (b % 4 + 1) y) p q)
+      (then_far c d e (set_site (sites_of c) s (set_out (site_at (sites_of c) s) (j + 1) o)) (b / 4) (λ z. set_in z (b % 4 + 1) y) p q)

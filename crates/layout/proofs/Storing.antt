@@ -13,7 +13,7 @@ use Rattle.types.specs.declared.Output.{Output}
 use Rattle.types.specs.declared.OutEntry.{OutEntry}
 use Rattle.types.specs.declared.InEntry.{InEntry}
 use Rattle.types.specs.declared.Site.{Site}
-use Rattle.model.specs.Types.{site_at, set_site, set_in, set_out_lem}
+use Rattle.model.specs.Types.{site_at, set_site, set_in, set_out}
 use Rattle.layout.specs.Layout.{outputs_from, leaving_from, counts_from, site_places, arrived_place, count_place, counter_at, word_count, set_index}
 use Rattle.layout.specs.Packed.{input_from, input_word, output_from, output_word, out_entry_from, out_entry_word, in_entry_from, in_entry_word}
 use Rattle.layout.specs.Words.{repacked, set_at, fields_at, site_of, sites_of, canonical}
@@ -53,12 +53,12 @@ module _ (c : List ℕ) (s : ℕ) (hs : s < sites_most) (hl : length c ≡ word_
       (site_input c _ s y.set w i h p ∙ ap (set_in (site_of c s) i) back)
 
   pub stored_output : (j w : ℕ) (o : Output) → j < output_count → (w ≡ output_word o) × (o.packet < 256) × (o.input < 256)
-      → Stored c (placed c s (outputs_from + j) o.set w) (changed (λ x. set_out_lem x j o))
+      → Stored c (placed c s (outputs_from + j) o.set w) (changed (λ x. set_out x j o))
   stored_output j w o h fit =
       let back = ap (output_from o.set) fit.0 ∙ output_back o fit.1 fit.2 in
       let p = wrote_both c s (outputs_from + j) hs (omega arith) hl o.set w in
-      stored c _ s (outputs_from + j) o.set w (λ x. set_out_lem x j o) hs p (λ ok. repacked_output o.set w j h ∙ ap output_word back ∙ sym fit.0)
-      (site_output c _ s o.set w j h p ∙ ap (set_out_lem (site_of c s) j) back)
+      stored c _ s (outputs_from + j) o.set w (λ x. set_out x j o) hs p (λ ok. repacked_output o.set w j h ∙ ap output_word back ∙ sym fit.0)
+      (site_output c _ s o.set w j h p ∙ ap (set_out (site_of c s) j) back)
 
   pub stored_leaving : (m w : ℕ) (u : OutEntry) → m < queue_room → (w ≡ out_entry_word u) × (u.packet < 256)
       → Stored c (placed c s (leaving_from + m) u.set w) (changed (λ x. leaving_set x m u))

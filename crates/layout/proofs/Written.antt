@@ -14,7 +14,7 @@ use Rattle.types.specs.declared.OutEntry.{OutEntry}
 use Rattle.types.specs.declared.InEntry.{InEntry}
 use Rattle.types.specs.declared.InQueue.{InQueue}
 use Rattle.types.specs.declared.Site.{Site}
-use Rattle.model.specs.Types.{set_site, set_in, set_out_lem, set_queue}
+use Rattle.model.specs.Types.{set_site, set_in, set_out, set_queue}
 use Rattle.layout.specs.Layout.{outputs_from, leaving_from, arrived_from, counts_from, site_places, arrived_place, count_place}
 use Rattle.layout.specs.Layout.{counter_at, word_count, set_index, fields_index}
 use Rattle.layout.specs.Packed.{input_from, output_from, out_entry_from, in_entry_from}
@@ -191,7 +191,7 @@ module _ (c d : List ℕ) (s X w : ℕ) where
       (out_count_kept c d s i X w p s (λ e q. omega arith))
       (queues_kept c d s i X w p s (λ q m g l e z. omega arith) (λ q g e z. omega arith))
 
-  pub site_output : (j : ℕ) → j < output_count → Wrote c d s (outputs_from + j) X w → site_of d s ≡ set_out_lem (site_of c s) j (output_from X w)
+  pub site_output : (j : ℕ) → j < output_count → Wrote c d s (outputs_from + j) X w → site_of d s ≡ set_out (site_of c s) j (output_from X w)
   unfolding site_of output_at
   site_output j h p =
       let k = outputs_from + j in

@@ -3,7 +3,7 @@
 use Rattle.std.specs.Prelude.{ℕ, zero, suc, ◌+◌, ◌*◌, ◌/◌, min, cond, List, [], ◌∷◌, ◌++◌, eqb, ltb, length, get_or}
 use Prim.Native.Char.{code}
 use Prim.Native.String.{String, [] as []ˢ, ◌∷◌ as ◌∷ˢ◌}
-use Rattle.base.specs.Answers.{at_front_lem}
+use Rattle.base.specs.Answers.{at_front}
 use Rattle.io.specs.Digits.{last_digits}
 use Rattle.types.specs.declared.Counts.{Counts}
 use Rattle.model.specs.Runs.{Service}
@@ -85,4 +85,4 @@ lines_answer b room = record { services = fitting b room; bytes = length (servic
 
 -- the room with their lines
 unfoldable pub lines_after : List ℕ → List ℕ → List ℕ
-lines_after b room = at_front_lem (service_lines b (fitting b (length room))) room
+lines_after b room = at_front (service_lines b (fitting b (length room))) room

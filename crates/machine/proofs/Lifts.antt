@@ -9,7 +9,7 @@ use Rattle.types.specs.declared.OutQueue.{OutQueue}
 use Rattle.types.specs.declared.InQueue.{InQueue}
 use Rattle.types.specs.declared.Site.{Site}
 use Rattle.types.specs.declared.Network.{Network}
-use Rattle.model.specs.Types.{no_input, set_out_lem, set_queue, with_out_queue}
+use Rattle.model.specs.Types.{no_input, set_out, set_queue, with_out_queue}
 use Rattle.model.specs.Network.{channel}
 use Rattle.model.specs.NetInput.{Turn, Stay, To}
 use Rattle.model.specs.Places.{Work, Rest, Cleared, Service}
@@ -49,7 +49,7 @@ module _ (n : Network) (s : ℕ) (x : Site) where
   -- an output j with the input at the end of its channel
   abbrev onward : ℕ → ChannelTurn → Change
   onward j r =
-      cond r.changed (record { site = set_out_lem x j r.output; input = r.input; channel = channel n s j; act = did_pass }) (unchanged x)
+      cond r.changed (record { site = set_out x j r.output; input = r.input; channel = channel n s j; act = did_pass }) (unchanged x)
 
   pub channel_took : (j : ℕ) (a : Output) (b : Input) (t : Turn Output Input) {r : ChannelTurn} → r ≡ of_channel_turn a b t
       → onward j r ≡ of_act n s x (pass_turn x j t)

@@ -8,7 +8,7 @@ use native.Mathlib.Omega.{arith}
 use borrow.Author.Tests.{le-ltb, eqb-true}
 use lib.Dec.{eqb}
 use lib.ListN.{get_or, length, length-replicate}
-use Rattle.base.specs.Answers.{at_front_lem}
+use Rattle.base.specs.Answers.{at_front}
 use Rattle.base.specs.Bools.{either_way}
 use Rattle.base.specs.Over.{length_over}
 use Rattle.base.specs.Sizes.{sites_most, sends_most}
@@ -94,7 +94,7 @@ entries_book p t (e ∷ l) rest =
 pub book_once : (b lent : List ℕ) → count_of b < 256 → play_refusal b (length lent) ≡ 0 → (p t : ℕ)
     → in_entries p t (play_book b lent) (play_answer b (length lent)).counts.serviced + owed (played_run (run_of b)).state.sites p t
     ≡ bit t (accepted_set (run_of b).network no_state (events (script (run_of b))) p)
-unfolding play_book play_answer at_front_lem
+unfolding play_book play_answer at_front
 book_once b lent byte z p t =
     rw z
     (ap (λ (k : ℕ). k + owed (played_run (run_of b)).state.sites p t) (entries_book p t (played_run (run_of b)).book _)

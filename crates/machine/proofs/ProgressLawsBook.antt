@@ -16,7 +16,7 @@ use Rattle.types.specs.declared.AfterSend.{AfterSend}
 use Rattle.types.specs.declared.Sent.TheVariants.{the_data as Sent, Accepted, Refused as SendRefused}
 use Rattle.types.specs.declared.Ran.TheVariants.{the_data as Ran, Nothing, Changed, Serviced, Refused as RunRefused}
 use Rattle.model.specs.Types.{send_at}
-use Rattle.base.specs.Answers.{at_front_lem}
+use Rattle.base.specs.Answers.{at_front}
 use Rattle.model.specs.Runs.{Service, Played, unplayed, service_bytes, book_bytes, book_room, stored_refusal, entered, try_send, played, played_run}
 use Rattle.machine.specs.Progress.{Progress, due, answered, send_turn, entered_at, drew, drawn_run, draw_turn, turned, progress, room_left}
 use Rattle.machine.proofs.ProgressLaws.{stored_sends, facts}
@@ -123,8 +123,8 @@ module _ (r : Run) (room : List ℕ) (ok : stored_refusal r ≡ 0) (held : lengt
 
 -- ---- the law
 
-filled_front : (l : List Service) (room : List ℕ) → filled l room ≡ at_front_lem (book_bytes l) room
-unfolding at_front_lem
+filled_front : (l : List Service) (room : List ℕ) → filled l room ≡ at_front (book_bytes l) room
+unfolding at_front
 filled_front l room = rw (bytes_length l) refl
 
 pub progress_is : (r : Run) (room : List ℕ) → stored_refusal r ≡ 0 → length r.sends ≡ sends_most
@@ -134,7 +134,7 @@ pub progress_is : (r : Run) (room : List ℕ) → stored_refusal r ≡ 0 → len
     × (p.accepted ≡ (played_run r).accepted)
     × (p.pairs ≡ (played_run r).pairs)
     × (p.serviced ≡ length (played_run r).book)
-    × (p.book ≡ at_front_lem (book_bytes (played_run r).book) room)
+    × (p.book ≡ at_front (book_bytes (played_run r).book) room)
 progress_is r room ok held wide =
     let e = progress_played r room ok held in
     let b = booked r room ok held wide (r.count + r.draws) in (

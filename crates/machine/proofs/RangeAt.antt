@@ -22,7 +22,7 @@ use Rattle.types.specs.Numbers.{state_number}
 use Rattle.types.specs.Phases.{is_free, connected, splitting, branching, aborting, is_none, is_keep}
 use Rattle.model.specs.Types.{in_at, out_at, queue_at, site_at, mark, out_of}
 use Rattle.model.specs.Range.{input_ok, output_ok, out_queue_ok, in_queue_ok, site_ok, zero_site, place_ok, in_range}
-use Rattle.model.specs.Range.{tag_ok, closing_ok, connection_in, depth_of, zero_input, zero_output, any_mark, any_remote, fed_by_lem}
+use Rattle.model.specs.Range.{tag_ok, closing_ok, connection_in, depth_of, zero_input, zero_output, any_mark, any_remote, fed_by}
 use Rattle.theorems.proofs.Networks.{Valid}
 use Rattle.machine.specs.Step.{Runnable}
 
@@ -62,7 +62,7 @@ sought_at E S T k os i y h e =
     let branched = alike (mark y.outputs split_port) (branching y.phase) in
     let own =
     (both6 (leb y.tries T) (pick (is_free y.phase) (zero_input y) tag) (alike (any_mark y.outputs) (connected y.phase))
-    (all (λ j. implies (mark y.outputs j) (fed_by_lem i (out_of os j))) output_count) (implies (splitting y.phase) (mark y.outputs 0))
+    (all (λ j. implies (mark y.outputs j) (fed_by i (out_of os j))) output_count) (implies (splitting y.phase) (mark y.outputs 0))
     (implies (aborting y.phase) (splitting y.phase && not (any_remote y.outputs)))
     (both3 _ branched (connection_in E y.phase) h).0).1 in
     let used = (pick_at (is_free y.phase) (zero_input y) tag own).1 (seek_used y.phase e) in

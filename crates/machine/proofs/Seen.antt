@@ -15,7 +15,7 @@ use Rattle.types.specs.declared.Input.{Input}
 use Rattle.types.specs.declared.Output.{Output}
 use Rattle.types.specs.declared.Site.{Site}
 use Rattle.types.specs.declared.Network.{Network}
-use Rattle.model.specs.Types.{no_input, site_at, in_at, out_at, queue_at, queue_port, is_local, mark, out_of, carries, set_in, set_out_lem, set_queue, with_out_queue}
+use Rattle.model.specs.Types.{no_input, site_at, in_at, out_at, queue_at, queue_port, is_local, mark, out_of, carries, set_in, set_out, set_queue, with_out_queue}
 use Rattle.model.specs.Network.{joined, channel, is_channel, end_port}
 use Rattle.types.specs.Phases.{listening}
 use Rattle.model.specs.NetInput.{Turn, Stay, To, all_ready, hears, ready, in_state, net_input}
@@ -112,7 +112,7 @@ module _ (n : Network) (val : Valid n) (s : ℕ) (x : Site) (hs : s < n.sites) w
 
   local_ok : (m : ℕ) → PassOk (local_at n.depth x m)
   local_ok m =
-      own_ok (λ o q. set_out_lem (set_queue x m q) (queue_port m) o) (local_output n.depth (out_at x (queue_port m)) (queue_at x m))
+      own_ok (λ o q. set_out (set_queue x m q) (queue_port m) o) (local_output n.depth (out_at x (queue_port m)) (queue_at x m))
 
   along : (j : ℕ) (t : Turn Output Input) → channel n s (suc j) < port_count * sites_most → PassOk (pass_turn x (suc j) t)
   along j Stay l h = absurd (clash (sym h))

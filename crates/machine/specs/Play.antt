@@ -2,7 +2,7 @@
 -- Assumes nothing.
 use Rattle.std.specs.Prelude.{ℕ, ◌*◌, ◌≤◌, ◌≡◌, List, cond, eqb, ltb, length, get_or}
 use Rattle.base.specs.Sizes.{sends_most}
-use Rattle.base.specs.Answers.{or_next, at_front_lem}
+use Rattle.base.specs.Answers.{or_next, at_front}
 use Rattle.base.specs.Sums.{upto}
 use Rattle.sets.specs.Sets.{size}
 use Rattle.types.specs.declared.Counts.{Counts}
@@ -37,7 +37,7 @@ play_answer b room =
 
 -- the book of run r in the lent bytes
 abbrev pub book_in : Run → List ℕ → List ℕ
-book_in r room = at_front_lem (book_bytes (played_run r).book) room
+book_in r room = at_front (book_bytes (played_run r).book) room
 
 unfoldable pub play_book : List ℕ → List ℕ → List ℕ
 play_book b room = cond (eqb (play_refusal b (length room)) 0) (book_in (run_of b) room) room

@@ -18,7 +18,7 @@ use Rattle.draws.specs.Draws.{drawn_site, drawn_code}
 use Rattle.types.specs.Numbers.{state_number, connection_number, connection_of}
 use Rattle.model.specs.Types.{Unicast, Passthru, AllRemote, SomeLocal, Handed, Branch, got_end, got_abort, t_none, t_end, t_abort, t_keep}
 use Rattle.model.specs.Types.{Phase, Free, Seek, Open, Wait, Done, Last, Aborted, FinAbort, Input, Output, InEntry, Site, Network}
-use Rattle.model.specs.Types.{no_marks, no_output, no_site, set_in, set_out_lem, set_queue}
+use Rattle.model.specs.Types.{no_marks, no_output, no_site, set_in, set_out, set_queue}
 use Rattle.model.specs.Network.{network_refusal}
 use Rattle.model.specs.Router.{Choice, Chosen, Unserved, first_port, gather_from, gather, spread, branch, or_else, route}
 use Rattle.model.specs.NetInput.{Turn, Stay, To, hears, ready, give, occupy, marks_of, seek, in_state, net_input}
@@ -213,7 +213,7 @@ always = true ∷ true ∷ true ∷ []
 
 -- a site whose split output is this; whose split output's in-queue has these entries
 abbrev split : Output → List Bool
-split o = sited 0 (set_out_lem no_site 5 o)
+split o = sited 0 (set_out no_site 5 o)
 
 abbrev queued : List InEntry → Site
 queued es = set_queue no_site 1 (in_q es)
@@ -222,14 +222,14 @@ queued es = set_queue no_site 1 (in_q es)
 abbrev joined : Phase → List Bool → List Bool
 joined ph bs =
     sited 0
-    (set_in (set_out_lem (set_out_lem (set_out_lem no_site 0 (out 6 3 1 true t_none)) 1 (out 6 2 1 true t_none)) 5 (out 6 1 1 true t_none)) 1
+    (set_in (set_out (set_out (set_out no_site 0 (out 6 3 1 true t_none)) 1 (out 6 2 1 true t_none)) 5 (out 6 1 1 true t_none)) 1
     (record { set = 3; phase = ph; outputs = bs; packet = 6; tries = 0 }))
 
 -- the same without the split output
 abbrev local : Phase → List Bool → List Bool
 local ph bs =
     sited 1
-    (set_in (set_out_lem (set_out_lem no_site 0 (out 6 3 1 true t_none)) 1 (out 6 2 1 true t_none)) 1
+    (set_in (set_out (set_out no_site 0 (out 6 3 1 true t_none)) 1 (out 6 2 1 true t_none)) 1
     (record { set = 3; phase = ph; outputs = bs; packet = 6; tries = 0 }))
 
 abbrev pair : List Bool
@@ -258,7 +258,7 @@ places =
     ∷ (split (out 6 1 5 true t_none), never)
     ∷ (split no_output, always)
     ∷ (split (record { set = 0; terminator = t_end; packet = 0; input = 0; used = false; head = false; closing = false }), never)
-    ∷ (sited 2 (set_out_lem no_site 5 (out 6 1 1 false t_none)), never)
+    ∷ (sited 2 (set_out no_site 5 (out 6 1 1 false t_none)), never)
     -- "and an in-queue for it, depth D", keep-local in it as in the other
     ∷ (sited 0 (queued (arrived 6 1 t_none ∷ [])), third)
     ∷ (sited 1 (queued (arrived 6 3 t_keep ∷ arrived 8 2 t_end ∷ [])), third)
@@ -285,8 +285,8 @@ places =
     ∷ (joined (Aborted Branch) parting, never)
     ∷ (joined (FinAbort Branch got_end) forked, never)
     -- "channels close as in edition 2"
-    ∷ (sited 0 (set_out_lem no_site 1 (shut 6 3 1)), false ∷ true ∷ true ∷ [])
-    ∷ (sited 0 (set_out_lem no_site 0 (shut 6 3 1)), never)
+    ∷ (sited 0 (set_out no_site 1 (shut 6 3 1)), false ∷ true ∷ true ∷ [])
+    ∷ (sited 0 (set_out no_site 0 (shut 6 3 1)), never)
     ∷ []
 
 pub places_read : map (λ row. row.0) places ≡ map (λ row. row.1) places

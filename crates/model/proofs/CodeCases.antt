@@ -14,7 +14,7 @@ use Rattle.base.specs.Sums.{sum}
 use Rattle.sets.specs.Sets.{has, plus, minus, size_in, lowest}
 use Rattle.model.specs.Types.{Unicast, Passthru, SomeLocal, got_end, t_none, t_end, t_abort}
 use Rattle.model.specs.Types.{Phase, Seek, Open, Wait, Done, Aborted}
-use Rattle.model.specs.Types.{Site, Network, no_marks, no_site, site_at, in_at, out_at, queue_at, set_in, set_out_lem, set_queue, with_out_queue}
+use Rattle.model.specs.Types.{Site, Network, no_marks, no_site, site_at, in_at, out_at, queue_at, set_in, set_out, set_queue, with_out_queue}
 use Rattle.types.specs.Numbers.{ran_numbers, answer_of}
 use Rattle.model.specs.Network.{network_refusal}
 use Rattle.model.specs.Router.{first_port, gather_from, gather, spread, or_else, route}
@@ -68,7 +68,7 @@ abbrev seeks : ℕ → Site
 seeks i = set_in no_site i (inp Seek no_marks)
 
 abbrev holds : ℕ → Site
-holds j = set_out_lem no_site j (out 6 3 2 false t_none)
+holds j = set_out no_site j (out 6 3 2 false t_none)
 
 abbrev leaves : Site
 leaves = with_out_queue no_site (out_q (leaving 6 3 false ∷ []))
@@ -78,7 +78,7 @@ arrives = set_queue no_site 0 (in_q (arrived 6 3 t_end ∷ []))
 
 abbrev stalls : Site
 stalls =
-    set_queue (set_in (set_out_lem no_site 0 (out 5 7 3 true t_none)) 3 (inp (Open SomeLocal) alone)) 0 (in_q (arrived 5 7 t_none ∷ []))
+    set_queue (set_in (set_out no_site 0 (out 5 7 3 true t_none)) 3 (inp (Open SomeLocal) alone)) 0 (in_q (arrived 5 7 t_none ∷ []))
 
 pub turns : List (List ℕ × List ℕ)
 turns =
@@ -114,15 +114,15 @@ changed = 0 ∷ 1 ∷ 0 ∷ 0 ∷ 0 ∷ []
 -- states, each connected to its own site's output 0
 abbrev finishing : Phase → Phase → List Site
 finishing one two =
-    set_in (set_out_lem (set_out_lem (set_out_lem no_site 0 (out 5 7 0 true t_none)) 1 (out 5 2 0 true t_none)) 2 (out 5 4 0 true t_none)) 0
+    set_in (set_out (set_out (set_out no_site 0 (out 5 7 0 true t_none)) 1 (out 5 2 0 true t_none)) 2 (out 5 4 0 true t_none)) 0
     (inp (Done SomeLocal got_end) split)
-    ∷ set_in (set_out_lem no_site 0 (out 5 7 2 true t_none)) 2 (inp one alone)
-    ∷ set_in (set_out_lem no_site 0 (out 5 7 1 true t_none)) 1 (inp two alone)
+    ∷ set_in (set_out no_site 0 (out 5 7 2 true t_none)) 2 (inp one alone)
+    ∷ set_in (set_out no_site 0 (out 5 7 1 true t_none)) 1 (inp two alone)
     ∷ []
 
 -- net-input 2 is open, connected to output 1; output 2 has an abort for it
 abbrev looping : Site
-looping = set_in (set_out_lem (set_out_lem no_site 1 (out 5 7 2 true t_none)) 2 (out 6 3 0 true t_abort)) 2 (inp (Open Unicast) first)
+looping = set_in (set_out (set_out no_site 1 (out 5 7 2 true t_none)) 2 (out 6 3 0 true t_abort)) 2 (inp (Open Unicast) first)
 
 pub changes : List (List (List ℕ) × List (List ℕ))
 changes =

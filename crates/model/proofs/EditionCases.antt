@@ -12,7 +12,7 @@ use Rattle.base.specs.Sums.{sum}
 use Rattle.sets.specs.Sets.{has, plus, minus, size_in, lowest}
 use Rattle.types.specs.Numbers.{answer_of}
 use Rattle.model.specs.Types.{Unicast, Passthru, AllRemote, SomeLocal, Handed, t_none, t_end, t_abort, Open, Aborted}
-use Rattle.model.specs.Types.{Output, Site, Network, no_input, no_output, no_site, no_state, set_in, set_out_lem, set_site}
+use Rattle.model.specs.Types.{Output, Site, Network, no_input, no_output, no_site, no_state, set_in, set_out, set_site}
 use Rattle.model.specs.Network.{network_refusal}
 use Rattle.model.specs.Router.{first_port, gather_from, gather, spread, or_else, route}
 use Rattle.model.specs.NetInput.{hears, give, occupy, marks_of, seek, in_state}
@@ -63,7 +63,7 @@ abbrev sited : ℕ → Site → List Bool
 sited s x = place_ok 1 2 3 2 9 s x ∷ place_ok 2 2 3 2 9 s x ∷ []
 
 abbrev marked : ℕ → Output → List Bool
-marked j o = sited 0 (set_out_lem no_site j o)
+marked j o = sited 0 (set_out no_site j o)
 
 -- an output with the mark: in use or not, its head taken or not, its terminator end or none
 abbrev used_free : Output
@@ -90,7 +90,7 @@ always = true ∷ true ∷ []
 
 -- net-input 1 open on output 1, which is this
 abbrev joined_to : Output → Site
-joined_to o = set_in (set_out_lem no_site 1 o) 1 (record { set = 3; phase = Open Unicast; outputs = first; packet = 6; tries = 0 })
+joined_to o = set_in (set_out no_site 1 o) 1 (record { set = 3; phase = Open Unicast; outputs = first; packet = 6; tries = 0 })
 
 pub marks : List (List Bool × List Bool)
 marks =
@@ -106,12 +106,12 @@ marks =
     -- "that are in use": an empty place has no mark, also beyond S sites
     ∷ (marked 1 unused, never)
     ∷ (marked 0 unused, never)
-    ∷ (sited 2 (set_out_lem no_site 1 unused), never)
-    ∷ (sited 2 (set_out_lem no_site 1 (shut 6 3 1)), never)
+    ∷ (sited 2 (set_out no_site 1 unused), never)
+    ∷ (sited 2 (set_out no_site 1 (shut 6 3 1)), never)
     -- "and connected to no input"
     ∷ (sited 0 (joined_to (shut 6 3 1)), never)
     ∷ (sited 0 (joined_to (out 6 3 1 true t_none)), always)
-    ∷ (sited 1 (set_out_lem (joined_to (out 6 3 1 true t_none)) 2 (shut 6 3 1)), second_only)
+    ∷ (sited 1 (set_out (joined_to (out 6 3 1 true t_none)) 2 (shut 6 3 1)), second_only)
     -- as of any place in use: the packet below the counter, the set, the input 0 to 4
     ∷ (marked 1 (shut 9 3 1), never)
     ∷ (marked 1 (shut 6 0 1), never)
@@ -136,7 +136,7 @@ unfolding network_refusal all any
 two_valid = refl
 
 -- the whole state is judged by the network's edition
-pub judged_by : map (λ e. in_range (two e) (record { sites = set_site no_state.sites 1 (set_out_lem no_site 1 (shut 0 1 0)); counter = 1 })) (1 ∷ 2 ∷ [])
+pub judged_by : map (λ e. in_range (two e) (record { sites = set_site no_state.sites 1 (set_out no_site 1 (shut 0 1 0)); counter = 1 })) (1 ∷ 2 ∷ [])
     ≡ false ∷ true ∷ []
 unfolding in_range all any
 judged_by = refl

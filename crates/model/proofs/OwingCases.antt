@@ -10,7 +10,7 @@ use Rattle.sets.specs.Sets.{has, size_in}
 use Rattle.model.specs.Types.{Unicast, Passthru, AllRemote, SomeLocal, Handed, got_end, got_abort}
 use Rattle.model.specs.Types.{Terminator, t_none, t_end, t_abort, t_keep}
 use Rattle.model.specs.Types.{Phase, Seek, Open, Wait, Done, Last, Aborted, FinAbort}
-use Rattle.model.specs.Types.{Site, Run as StoredRun, no_input, no_output, no_site, set_out_lem, set_queue}
+use Rattle.model.specs.Types.{Site, Run as StoredRun, no_input, no_output, no_site, set_out, set_queue}
 use Rattle.model.specs.Owing.{owes_as, owes_input, owes_output, owes_out_entry, owes_in_entry, owed}
 use Rattle.model.specs.Owing.{pairs_as, pairs_input, pairs_output, pairs_out_entry, pairs_in_entry, owed_pairs}
 use Rattle.model.specs.Runs.{book_room}
@@ -62,7 +62,7 @@ crowded =
 
 -- the split output's end for {0}; in its in-queue an end for {0} and what keep-local leaves of {1, 2}
 abbrev parted : Site
-parted = set_queue (set_out_lem no_site 5 (out 5 1 0 true t_end)) 1 (in_q (arrived 5 1 t_end ∷ arrived 5 6 t_keep ∷ []))
+parted = set_queue (set_out no_site 5 (out 5 1 0 true t_end)) 1 (in_q (arrived 5 1 t_end ∷ arrived 5 6 t_keep ∷ []))
 
 pub debts : List (List ℕ × List ℕ)
 debts =

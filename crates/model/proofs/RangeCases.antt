@@ -11,7 +11,7 @@ use Rattle.model.specs.Types.{Unicast, Passthru, AllRemote, SomeLocal, Handed, g
 use Rattle.model.specs.Types.{Terminator, t_none, t_end, t_abort, t_keep}
 use Rattle.model.specs.Types.{Phase, Free, Seek, Open, Wait, Done, Last, Aborted, FinAbort}
 use Rattle.model.specs.Types.{Input, Output, OutEntry, InEntry, Site, State, Network, no_marks, no_input, no_output, no_state}
-use Rattle.model.specs.Types.{site_at, queue_at, with_out_queue, set_in, set_out_lem, set_queue, set_site}
+use Rattle.model.specs.Types.{site_at, queue_at, with_out_queue, set_in, set_out, set_queue, set_site}
 use Rattle.model.specs.Range.{in_range}
 use Rattle.model.proofs.Made.{net}
 
@@ -40,7 +40,7 @@ input : ℕ → Input → Site → Site
 input i y x = set_in x i y
 
 output : ℕ → Output → Site → Site
-output j o x = set_out_lem x j o
+output j o x = set_out x j o
 
 outgoing : ℕ → OutEntry → ℕ → Site → Site
 outgoing m d c x = with_out_queue x (record { entries = set x.outgoing.entries m d; count = c })

@@ -7,7 +7,7 @@ use mathlib.Core.List.{List, [], ◌∷◌, ◌++◌, map}
 use lib.ListN.{set, replicate}
 use Rattle.base.specs.Sizes.{no_channel}
 use Rattle.base.specs.All.{all, any}
-use Rattle.model.specs.Types.{State, Network, no_site, no_state, out_at, out_head, with_out_queue, set_out_lem, set_site, push_out}
+use Rattle.model.specs.Types.{State, Network, no_site, no_state, out_at, out_head, with_out_queue, set_out, set_site, push_out}
 use Rattle.model.specs.Network.{network_refusal}
 use Rattle.model.specs.Range.{in_range}
 use Rattle.model.specs.Events.{Event, Send, Run, run_refusal, send_refusal}
@@ -59,7 +59,7 @@ one = net_with 0 0 1 1 1 (0 ∷ no_channel ∷ no_channel ∷ no_channel ∷ [])
 
 -- not in range: an empty output's head is taken
 bad : State
-bad = record { sites = set_site no_state.sites 0 (set_out_lem no_site 0 (out_head (out_at no_site 0))); counter = 0 }
+bad = record { sites = set_site no_state.sites 0 (set_out no_site 0 (out_head (out_at no_site 0))); counter = 0 }
 
 -- k packets accepted, the last waits at site 0
 waits : ℕ → State

@@ -47,8 +47,8 @@ abbrev pub zero_in_queue : InQueue → Bool
 zero_in_queue iq = eqb iq.count 0 && all (λ m. zero_in_entry (in_entry iq m)) queue_room
 
 -- "each connected output in use, fed by that input and without a terminator"; L6: one that is closing is "connected to no input"
-abbrev pub fed_by_lem : ℕ → Output → Bool
-fed_by_lem i o = awaits o && eqb o.input i
+abbrev pub fed_by : ℕ → Output → Bool
+fed_by i o = awaits o && eqb o.input i
 
 -- L10: connection 6 "is in range here only", in edition 3, "and 3 and 4 are not"
 abbrev pub connection_in : ℕ → Phase → Bool
@@ -60,7 +60,7 @@ input_ok edition S T k os i y =
     leb y.tries T  -- "tries up to T"
     && pick (is_free y.phase) (zero_input y) (tag_ok S k y.packet y.set)
     && alike (any_mark y.outputs) (connected y.phase)  -- "its connected outputs likewise"
-    && all (λ j. implies (mark y.outputs j) (fed_by_lem i (out_of os j))) output_count
+    && all (λ j. implies (mark y.outputs j) (fed_by i (out_of os j))) output_count
     && implies (splitting y.phase) (mark y.outputs 0)  -- "output 0 among them for connections 3 and 4"
     -- "and alone, with one of those two, in abort and fin-abort"
     && implies (aborting y.phase) (splitting y.phase && not (any_remote y.outputs))

@@ -5,7 +5,7 @@ use Rattle.std.specs.Prelude.{ℕ, zero, suc, ◌-◌, List, false, cond, ◌&&�
 use Rattle.base.specs.Sizes.{port_count}
 use Rattle.model.specs.Types.{Input, Output, Site, Network, Ran, Nothing, Changed, Serviced}
 use Rattle.model.specs.Types.{no_input, site_at, in_at, out_at, queue_at, queue_port, with_inputs, with_outputs, with_out_queue}
-use Rattle.model.specs.Types.{set_in, set_out_lem, set_queue, set_site, push_out}
+use Rattle.model.specs.Types.{set_in, set_out, set_queue, set_site, push_out}
 use Rattle.model.specs.Network.{channel, joined, end_site, end_port}
 use Rattle.model.specs.NetInput.{Turn, Stay, To, ready, net_input, passes_on}
 use Rattle.model.specs.Places.{local_output, channel_output, out_queue, Work, Rest, Cleared, Service, operator, timeout}
@@ -31,7 +31,7 @@ own_turn site (To one other) = Own (site one other)
 
 abbrev pub pass_turn : Site → ℕ → Turn Output Input → Act
 pass_turn x j Stay = Idle
-pass_turn x j (To o y) = Pass (set_out_lem x j o) j y
+pass_turn x j (To o y) = Pass (set_out x j o) j y
 
 -- the operator at in-queue m
 abbrev pub work_done : Site → ℕ → Work → Act
@@ -49,7 +49,7 @@ set_both x i y os = with_inputs (with_outputs x os) (set x.inputs i y)
 -- the net-output that fills in-queue m: output 0, or the split output
 abbrev pub local_at : ℕ → Site → ℕ → Act
 local_at D x m =
-    own_turn (λ o iq. set_out_lem (set_queue x m iq) (queue_port m) o) (local_output D (out_at x (queue_port m)) (queue_at x m))
+    own_turn (λ o iq. set_out (set_queue x m iq) (queue_port m) o) (local_output D (out_at x (queue_port m)) (queue_at x m))
 
 -- net-output j of site x, 0 to 4; far j is the input at the end of its channel
 unfoldable pub net_output : Network → ℕ → Site → (ℕ → Input) → ℕ → Act

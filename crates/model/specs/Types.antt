@@ -178,8 +178,8 @@ with_in_queues x iqs = record { inputs = x.inputs; outputs = x.outputs; outgoing
 abbrev pub set_in : Site → ℕ → Input → Site
 set_in x i y = with_inputs x (set x.inputs i y)
 
-abbrev pub set_out_lem : Site → ℕ → Output → Site
-set_out_lem x j o = with_outputs x (set x.outputs j o)
+abbrev pub set_out : Site → ℕ → Output → Site
+set_out x j o = with_outputs x (set x.outputs j o)
 
 abbrev pub set_queue : Site → ℕ → InQueue → Site
 set_queue x m iq = with_in_queues x (set x.incoming m iq)

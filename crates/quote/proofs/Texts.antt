@@ -8,7 +8,7 @@ use lib.Dec.{eqb}
 use lib.ListN.{length, take, length-append}
 use lib.Seq.{take_all}
 use borrow.Author.Tests.{eq-eqb, ne_eqb}
-use Rattle.base.specs.Answers.{at_front_lem}
+use Rattle.base.specs.Answers.{at_front}
 use Rattle.base.specs.Bools.{cond_ok}
 use Rattle.base.specs.Put.{put, put_front}
 use Rattle.io.specs.Counts.{IsPrefixLen as Front}
@@ -80,7 +80,7 @@ refused_most e =
 
 -- what is added from place 0 on, where there is room for it
 whole : {room after xs : List ℕ} {r : ℕ} → Added room 0 xs r after → length xs ≤ length room
-    → (r ≡ length xs) × (after ≡ at_front_lem xs room)
+    → (r ≡ length xs) × (after ≡ at_front xs room)
 whole {room} {xs = xs} a h =
     let here : min 0 (length room) ≡ 0 = omega arith in
     let all : take (length room - 0) xs ≡ xs = take_all (length room - 0) xs (omega arith) in (
@@ -90,13 +90,13 @@ whole {room} {xs = xs} a h =
 
 pub values_whole : (doubled : Bool) (x : Latencies) {room after : List ℕ} {r : ℕ} → text_most ≡ length room
     → x.refusal ≡ 0 → Added room 0 (value_lines doubled x) r after
-    → (r ≡ length (latencies_text doubled x)) × (after ≡ at_front_lem (latencies_text doubled x) room)
+    → (r ≡ length (latencies_text doubled x)) × (after ≡ at_front (latencies_text doubled x) room)
 unfolding latencies_text
 values_whole doubled x l e a = rw (eq-eqb x.refusal 0 e) (whole a (omega (arith, lines_most doubled x)))
 
 pub refusal_whole : (doubled : Bool) (x : Latencies) (counts : Counts) {room after : List ℕ} {r : ℕ}
     → text_most ≡ length room → (x.refusal ≡ 0 → ⊥) → Added room 0 (answer_line x.refusal counts) r after
-    → (r ≡ length (latencies_text doubled x)) × (after ≡ at_front_lem (latencies_text doubled x) room)
+    → (r ≡ length (latencies_text doubled x)) × (after ≡ at_front (latencies_text doubled x) room)
 unfolding latencies_text answer_line
 refusal_whole doubled x counts l e a =
     let t = ne_eqb x.refusal 0 e in rw t (whole (rw t at a) (omega (arith, refused_most x.refusal)))
@@ -105,15 +105,15 @@ refusal_whole doubled x counts l e a =
 
 -- by their latencies
 pub quoted : (doubled : Bool) (numbers room : List ℕ) (x : Latencies) {after : List ℕ} {n : ℕ} → x ≡ latencies_of numbers
-    → (n ≡ length (latencies_text doubled x)) × (after ≡ at_front_lem (latencies_text doubled x) room)
+    → (n ≡ length (latencies_text doubled x)) × (after ≡ at_front (latencies_text doubled x) room)
     → (◌≡◌ {A = Quoted} (record { refusal = x.refusal; count = n }) (quote_of doubled numbers))
-    × (after ≡ at_front_lem (quote_text doubled numbers) room)
+    × (after ≡ at_front (quote_text doubled numbers) room)
 unfolding quote_text quote_of
 quoted doubled numbers room x e h = (rw (h.0, e) refl, rw e at h.1)
 
 -- it can be lent on
 pub quote_counts : (doubled : Bool) (numbers room after : List ℕ) (r : Quoted) → r ≡ quote_of doubled numbers
-    → after ≡ at_front_lem (quote_text doubled numbers) room → Front r.count after
+    → after ≡ at_front (quote_text doubled numbers) room → Front r.count after
 unfolding quote_of
 quote_counts doubled numbers room after r e f =
     front_counts (quote_text doubled numbers) room after r.count (ap (λ (q : Quoted). q.count) e) f

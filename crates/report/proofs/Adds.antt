@@ -8,7 +8,7 @@ use native.Mathlib.Numerals.{add-one}
 use native.Mathlib.Omega.{arith}
 use lib.ListN.{length, get_or, take, drop, length-append, length-drop, length-take}
 use lib.Seq.{length-take-le, take_all, take-append-le, take-append-add, take-append_seam}
-use Rattle.base.specs.Answers.{at_front_lem}
+use Rattle.base.specs.Answers.{at_front}
 use Rattle.base.specs.Put.{put, put_none, put_append}
 use Rattle.io.specs.Counts.{IsPrefixLen}
 use Rattle.io.specs.Digits.{last_digits, IsDigitCount}
@@ -130,8 +130,8 @@ added_start room name p r e = added_none room p r e
 -- ---- what is added
 
 -- a text at the front of a room
-pub front_is : (xs room after : List ℕ) (r : ℕ) → r ≡ length xs → after ≡ at_front_lem xs room → take r after ≡ xs
-unfolding at_front_lem
+pub front_is : (xs room after : List ℕ) (r : ℕ) → r ≡ length xs → after ≡ at_front xs room → take r after ≡ xs
+unfolding at_front
 front_is xs room after r e f = rw (e, f) (take-append_seam xs (drop (length xs) room))
 
 -- a byte has two hexadecimal digits

@@ -9,7 +9,7 @@ use lib.ListN.{length, drop, length-append}
 use Rattle.io.specs.Counts.{IsPrefixLen}
 use Rattle.io.proofs.Counting.{prefix_len_of_le}
 use Rattle.lines.specs.declared.Lines.{Lines}
-use Rattle.base.specs.Answers.{at_front_lem}
+use Rattle.base.specs.Answers.{at_front}
 use Rattle.base.specs.Put.{put_none as none, put_front, put_append}
 use Rattle.lines.specs.Text.{line_at, service_lines, fitting, lines_answer, lines_after}
 use Rattle.report.specs.Put.{Put}
@@ -38,12 +38,12 @@ pub behind_two : (xs ys : List ℕ) {room after : List ℕ} {p r : ℕ} → Put 
 behind_two xs ys a = a.place ∙ omega (arith, length-append xs ys)
 
 -- what is put from place 0 on stands at the front
-pub at_front_lem : {room after xs : List ℕ} {r : ℕ} → Put room 0 xs r after → (r ≡ length xs) × (after ≡ at_front_lem xs room)
+pub at_front_lem : {room after xs : List ℕ} {r : ℕ} → Put room 0 xs r after → (r ≡ length xs) × (after ≡ at_front xs room)
 at_front_lem {room} {xs = xs} a = (a.place ∙ zero-add (length xs), a.bytes ∙ put_front room xs)
 
 -- and can be lent on
-pub front_counts : (xs room after : List ℕ) (r : ℕ) → r ≡ length xs → after ≡ at_front_lem xs room → IsPrefixLen r after
-unfolding at_front_lem
+pub front_counts : (xs room after : List ℕ) (r : ℕ) → r ≡ length xs → after ≡ at_front xs room → IsPrefixLen r after
+unfolding at_front
 front_counts xs room after r e f =
     rw (e, f) (prefix_len_of_le (length xs) (xs ++ drop (length xs) room) (omega (arith, length-append xs (drop (length xs) room))))
 

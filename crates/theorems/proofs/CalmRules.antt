@@ -13,7 +13,7 @@ use Rattle.theorems.specs.Names.{Connection, Handed, got_end, got_abort}
 use Rattle.theorems.specs.Names.{Terminator, t_none, t_end, t_abort, t_keep, Phase, Free, Seek, Open, Wait, Done, Last, Aborted}
 use Rattle.theorems.specs.Names.{FinAbort, Input, Output, OutQueue, InQueue, Site, Network}
 use Rattle.model.specs.Types.{no_input, no_output, in_at, out_at, mark, queue_at, in_entry, queue_port, out_term, out_closing}
-use Rattle.model.specs.Types.{pop_in, push_out, with_out_queue, set_in, set_out_lem, set_queue}
+use Rattle.model.specs.Types.{pop_in, push_out, with_out_queue, set_in, set_out, set_queue}
 use Rattle.types.specs.Phases.{is_free, listening, splits, is_none}
 use Rattle.model.specs.Network.{joined, holds}
 use Rattle.model.specs.Router.{Choice, Chosen, Unserved, unchosen, is_empty, is_chosen}
@@ -116,7 +116,7 @@ module _ (n : Network) (e : restricted n.edition ≡ true) (s : ℕ) (x : Site) 
         (λ a. tt)
 
     landed_calm : (j : ℕ) (r : Turn Output InQueue) → CalmLanding r
-        → CalmAct (own_turn (λ o q. set_out_lem (set_queue x m q) j o) r)
+        → CalmAct (own_turn (λ o q. set_out (set_queue x m q) j o) r)
     landed_calm j Stay h = tt
     landed_calm j (To o q) h = set_out_lem (set_queue_lem ok m q h.1) j o h.0
 

@@ -12,7 +12,7 @@ use Rattle.base.specs.Sizes.{sites_most, input_count, output_count, port_count}
 use Rattle.base.specs.Lists.{proj_set, all_set}
 use Rattle.base.specs.Sums.{sum_set}
 use Rattle.theorems.specs.Names.{Received, Input, Output, Site, Network}
-use Rattle.model.specs.Types.{input_d, site_d, no_output, site_at, in_at, out_at, out_head, set_site, set_in, set_out_lem}
+use Rattle.model.specs.Types.{input_d, site_d, no_output, site_at, in_at, out_at, out_head, set_site, set_in, set_out}
 use Rattle.model.specs.Network.{channel, joined, end_site, end_port}
 use Rattle.types.specs.Phases.{listening, as_terminator}
 use Rattle.model.specs.Types.{received}
@@ -39,7 +39,7 @@ in_other st u k u' k' y ne =
     other_at (λ (x : Site). in_at x k') st u k u' k' _ ne (get_or-set_other (site_at st u).inputs k k' y input_d)
 
 out_other : (st : List Site) (u k u' k' : ℕ) (o : Output) → (u' ≡ u → k' ≡ k → ⊥)
-    → out_at (site_at (set_site st u (set_out_lem (site_at st u) k o)) u') k' ≡ out_at (site_at st u') k'
+    → out_at (site_at (set_site st u (set_out (site_at st u) k o)) u') k' ≡ out_at (site_at st u') k'
 out_other st u k u' k' o ne =
     other_at (λ (x : Site). out_at x k') st u k u' k' _ ne (get_or-set_other (site_at st u).outputs k k' o no_output)
 
@@ -50,7 +50,7 @@ module _ (n : Network) (st : List Site) (inv : Inv n st) (s : ℕ) (hs : s < sit
       ∙ get_or-set_same (site_at st s).inputs k y input_d (omega (arith, (inv.site s hs).ins))
 
   pub out_same : (j : ℕ) (o : Output) → j < output_count
-      → out_at (site_at (set_site st s (set_out_lem (site_at st s) j o)) s) j ≡ o
+      → out_at (site_at (set_site st s (set_out (site_at st s) j o)) s) j ≡ o
   out_same j o hj =
       ap (λ (x : Site). out_at x j) (get_or-set_same st s _ site_d (omega (arith, inv.all_sites)))
       ∙ get_or-set_same (site_at st s).outputs j o no_output (omega (arith, (inv.site s hs).outs))
@@ -113,7 +113,7 @@ module _ (n : Network) (st : List Site) (s j : ℕ) (inv : Inv n st) (hs : s < s
   o = out_at (site_at st s) (suc j)
 
   abbrev headed : Site
-  headed = set_out_lem (site_at st s) (suc j) (out_head o)
+  headed = set_out (site_at st s) (suc j) (out_head o)
 
   headed_link : claim (far_end st (channel n s (suc j))) ≡ tag_out o → Link n (set_site st s headed)
   headed_link hc s' j' hs' hj' hb' =

@@ -11,7 +11,7 @@ use Rattle.base.specs.Bools.{clash, cond_ok, both}
 use Rattle.base.specs.Lists.{proj_set, modify_swap}
 use Rattle.theorems.specs.Names.{Received, got_end, got_abort, Terminator, t_none, t_end, t_abort, t_keep, Free, Input, Output}
 use Rattle.theorems.specs.Names.{Site, Network}
-use Rattle.model.specs.Types.{input_d, site_d, no_output, site_at, in_at, out_at, out_head, out_closing, with_inputs, set_site, set_in, set_out_lem}
+use Rattle.model.specs.Types.{input_d, site_d, no_output, site_at, in_at, out_at, out_head, out_closing, with_inputs, set_site, set_in, set_out}
 use Rattle.model.specs.Network.{holds, channel, joined, end_site, end_port}
 use Rattle.types.specs.Phases.{is_free, listening, is_none, as_terminator}
 use Rattle.model.specs.Types.{received}
@@ -60,8 +60,8 @@ module _ (n : Network) (val : Valid n) (st : List Site) (inv : Inv n st) (s j : 
   o = out_at x (suc j)
 
   -- the input at the end, whatever becomes of the output
-  far_same : (v : Output) → far_end (set_site st s (set_out_lem x (suc j) v)) b ≡ far_end st b
-  far_same v = proj_set (λ (z : Site). in_at z (end_port b)) st s (end_site b) (set_out_lem x (suc j) v) site_d refl
+  far_same : (v : Output) → far_end (set_site st s (set_out x (suc j) v)) b ≡ far_end st b
+  far_same v = proj_set (λ (z : Site). in_at z (end_port b)) st s (end_site b) (set_out x (suc j) v) site_d refl
 
   s16 : s < sites_most
   s16 = omega (arith, val.few)
@@ -73,11 +73,11 @@ module _ (n : Network) (val : Valid n) (st : List Site) (inv : Inv n st) (s j : 
     -- the terminator delivered: first the output becomes v, then the input is told
     term_kept : (r : Received) (v : Output) → due o ≡ true → o.terminator ≡ as_terminator r
         → listening (far_end st b).phase ≡ true → v.terminator ≡ t_none → due v ≡ false
-        → Kept n st (set_far (set_site st s (set_out_lem x (suc j) v)) b (received r (far_end st b))) (λ p t. 0)
+        → Kept n st (set_far (set_site st s (set_out x (suc j) v)) b (received r (far_end st b))) (λ p t. 0)
     term_kept r v hh hk hl bare none =
         let u = end_site b in
         let y = far_end st b in
-        let x₁ = set_out_lem x (suc j) v in
+        let x₁ = set_out x (suc j) v in
         let st₁ = set_site st s x₁ in
         let unfed : (i : ℕ) → Fed i o → ⊥ = λ i. unfed_term (ap is_none hk ∙ terminator_some r) in
         let gone =
@@ -112,7 +112,7 @@ module _ (n : Network) (val : Valid n) (st : List Site) (inv : Inv n st) (s j : 
     -- the head passed on: first the input, then the output's mark
     head_kept : is_free (far_end st b).phase ≡ true
         → let st₁ = set_far st b (seeking o.packet o.set) in
-        Kept n st (set_site st₁ s (set_out_lem (site_at st₁ s) (suc j) (out_head (out_at (site_at st₁ s) (suc j))))) (λ p t. 0)
+        Kept n st (set_site st₁ s (set_out (site_at st₁ s) (suc j) (out_head (out_at (site_at st₁ s) (suc j))))) (λ p t. 0)
     head_kept hf =
         let u = end_site b in
         let k = end_port b in
@@ -146,7 +146,7 @@ module _ (n : Network) (val : Valid n) (st : List Site) (inv : Inv n st) (s j : 
         let l : listening (far_end st b).phase ≡ true = rw (← e) w.1 in
         let v = delivered n.edition o in
         let d = delivered_ok n.edition o in
-        subst (λ (z : Input). Kept n st (set_far (set_site st s (set_out_lem x (suc j) v)) b (received r z)) (λ p t. 0))
+        subst (λ (z : Input). Kept n st (set_far (set_site st s (set_out x (suc j) v)) b (received r z)) (λ p t. 0))
         (sym e) (term_kept w.0 r v hh hk l d.0 d.1))
         (λ h. still n st inv)
 
@@ -158,7 +158,7 @@ module _ (n : Network) (val : Valid n) (st : List Site) (inv : Inv n st) (s j : 
         let v = seeking o.packet o.set in
         subst (λ (l : List Site). Kept n st l (λ p t. 0))
         (sym
-        (modify_swap st s (end_site b) (λ z. set_out_lem z (suc j) (out_head (out_at z (suc j))))
+        (modify_swap st s (end_site b) (λ z. set_out z (suc j) (out_head (out_at z (suc j))))
         (λ z. set_in z (end_port b) v) site_d (λ e a. refl)))
         (head_kept w.0 (rw (← ye w.0) w.1)))
         (λ h. still n st inv)
@@ -176,7 +176,7 @@ module _ (n : Network) (val : Valid n) (st : List Site) (inv : Inv n st) (s j : 
     give_up_ok c =
         cond_ok TurnOk (joined n s (suc j) && is_free y.phase) _ _
         (λ h.
-        let st₁ = set_site st s (set_out_lem x (suc j) no_output) in
+        let st₁ = set_site st s (set_out x (suc j) no_output) in
         let e = ye (both (joined n s (suc j)) (is_free y.phase) h).0 ∙ sym (far_same no_output) in
         let gone =
         good_kept n st s _ inv (λ p t. owes_output s p t o) s16

@@ -21,7 +21,7 @@ use Rattle.theorems.specs.Names.{Seek, Input, Output, OutEntry, Site, State, Net
 use Rattle.model.specs.Types.{no_input, input_d, no_output, no_out_entry, no_in_queue, in_queue_d, no_site, site_d, no_state}
 use Rattle.model.specs.Types.{site_at, in_at, out_of, out_at, mark, queue_port}
 use Rattle.types.specs.Phases.{is_free, connected, splitting, branching, aborting}
-use Rattle.model.specs.Range.{tag_ok, any_mark, any_remote, zero_input, fed_by_lem, connection_in, input_ok, place_ok, in_range}
+use Rattle.model.specs.Range.{tag_ok, any_mark, any_remote, zero_input, fed_by, connection_in, input_ok, place_ok, in_range}
 use Rattle.model.specs.Events.{Event, Send, Run, ran, sent, after, final, answered, set_by, accepted_set, hits, serviced_by, serviced}
 use Rattle.model.specs.Owing.{owed}
 use Rattle.theorems.proofs.Networks.{valid_ok}
@@ -41,7 +41,7 @@ input_tag edition S T k os i y h f =
     let v = both3 _ (alike (mark bs split_port) (branching ph)) (connection_in edition ph) h in
     let w =
     both6 (leb y.tries T) (pick (is_free ph) (zero_input y) used) (alike (any_mark bs) (connected ph))
-    (all (λ j. implies (mark bs j) (fed_by_lem i (out_of os j))) output_count) (implies (splitting ph) (mark bs 0))
+    (all (λ j. implies (mark bs j) (fed_by i (out_of os j))) output_count) (implies (splitting ph) (mark bs 0))
     (implies (aborting ph) (splitting ph && not (any_remote bs))) v.0 in
     (pick_at (is_free ph) (zero_input y) used w.1).1 f
 

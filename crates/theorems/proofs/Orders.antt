@@ -13,7 +13,7 @@ use Rattle.base.specs.Sums.{sum}
 use Rattle.sets.specs.Sets.{has, plus, minus, size_in, lowest, those}
 use Rattle.types.specs.Numbers.{state_number}
 use Rattle.theorems.specs.Names.{Unicast, Open, t_none, Input, Site, State}
-use Rattle.model.specs.Types.{no_site, no_state, site_at, in_at, with_out_queue, set_in, set_out_lem, set_site}
+use Rattle.model.specs.Types.{no_site, no_state, site_at, in_at, with_out_queue, set_in, set_out, set_site}
 use Rattle.model.specs.Network.{network_refusal}
 use Rattle.model.specs.Range.{in_range}
 use Rattle.model.specs.Router.{first_port, gather_from, gather, spread, branch, or_else, route, blocks, ask}
@@ -30,7 +30,7 @@ sending : ℕ → Site
 sending q =
     let marks = false ∷ true ∷ false ∷ false ∷ false ∷ false ∷ [] in
     let y : Input = record { set = 2; phase = Open Unicast; outputs = marks; packet = q; tries = 0 } in
-    set_out_lem (set_in (with_out_queue no_site (out_q (leaving q 2 true ∷ []))) 0 y) 1 (out q 2 0 false t_none)
+    set_out (set_in (with_out_queue no_site (out_q (leaving q 2 true ∷ []))) 0 y) 1 (out q 2 0 false t_none)
 
 -- sites 0 and 2, which both feed site 1, send to it
 pub begun : State

@@ -14,7 +14,7 @@ use Rattle.base.specs.Bools.{clash, cond_ok, either_way}
 use Rattle.base.specs.Lists.{all_set, all_but, rel_set, proj_set}
 use Rattle.base.specs.Sums.{sum_set}
 use Rattle.theorems.specs.Names.{Terminator, t_none, Output, InEntry, InQueue, Site}
-use Rattle.model.specs.Types.{no_output, in_queue_d, in_at, out_at, queue_at, queue_port, out_head, entry_term, set_queue, set_out_lem, push_in}
+use Rattle.model.specs.Types.{no_output, in_queue_d, in_at, out_at, queue_at, queue_port, out_head, entry_term, set_queue, set_out, push_in}
 use Rattle.types.specs.Phases.{is_none}
 use Rattle.model.specs.NetInput.{Turn}
 use Rattle.model.specs.Places.{last_of, last_lacks, end_last, head_in, term_in, local_output}
@@ -29,27 +29,27 @@ use Rattle.theorems.proofs.QueueLaws.{fits_push, fits_set, sum_pushed, push_wait
 module _ (s : ℕ) (x : Site) (j : ℕ) (v : Output) (ok : SiteOk s x) where
   -- v differs in its head at most
   module _ (e : core v ≡ core (out_at x j)) where
-    same_core : (k : ℕ) → core (out_at (set_out_lem x j v) k) ≡ core (out_at x k)
+    same_core : (k : ℕ) → core (out_at (set_out x j v) k) ≡ core (out_at x k)
     same_core k = proj_set core x.outputs j k v no_output e
 
-    core_conn : (i : ℕ) → Conn s i (in_at x i) (out_at (set_out_lem x j v))
+    core_conn : (i : ℕ) → Conn s i (in_at x i) (out_at (set_out x j v))
     core_conn i =
-        conn_frame i (out_at x) (out_at (set_out_lem x j v)) (λ k f. same_core k) s (in_at x i) (ok.conn i)
+        conn_frame i (out_at x) (out_at (set_out x j v)) (λ k f. same_core k) s (in_at x i) (ok.conn i)
 
-    core_quiet : (k : ℕ) → Quiet (out_at (set_out_lem x j v) k)
+    core_quiet : (k : ℕ) → Quiet (out_at (set_out x j v) k)
     core_quiet k h =
         let c = same_core k in
         ap (λ (o : Output). o.terminator) c ∙ ok.quiet k (sym (ap idle c) ∙ h)
 
   -- the output was fed by none, and v has no terminator
   module _ (unfed : (i : ℕ) → Fed i (out_at x j) → ⊥) (bare : v.terminator ≡ t_none) where
-    gone_conn : (i : ℕ) → Conn s i (in_at x i) (out_at (set_out_lem x j v))
+    gone_conn : (i : ℕ) → Conn s i (in_at x i) (out_at (set_out x j v))
     gone_conn i =
-        conn_frame i (out_at x) (out_at (set_out_lem x j v))
+        conn_frame i (out_at x) (out_at (set_out x j v))
         (rel_set (λ a b. Fed i a → core b ≡ core a) x.outputs j v no_output (λ a f. refl) (λ f. absurd (unfed i f)))
         s (in_at x i) (ok.conn i)
 
-    gone_quiet : (k : ℕ) → Quiet (out_at (set_out_lem x j v) k)
+    gone_quiet : (k : ℕ) → Quiet (out_at (set_out x j v) k)
     gone_quiet = all_set (λ k o. Quiet o) x.outputs j v no_output (λ h. bare) ok.quiet
 
 -- an output with a terminator is fed by none
@@ -63,8 +63,8 @@ unfed_closing e f = clash (sym e ∙ f.stays)
 -- ---- output j + 1 alone, which fills no in-queue
 
 module _ (s : ℕ) (x : Site) (j : ℕ) (v : Output) (ok : SiteOk s x) (hj : j < port_count) where
-  one_ok : ((i : ℕ) → Conn s i (in_at x i) (out_at (set_out_lem x (suc j) v)))
-      → ((k : ℕ) → Quiet (out_at (set_out_lem x (suc j) v) k)) → SiteOk s (set_out_lem x (suc j) v)
+  one_ok : ((i : ℕ) → Conn s i (in_at x i) (out_at (set_out x (suc j) v)))
+      → ((k : ℕ) → Quiet (out_at (set_out x (suc j) v) k)) → SiteOk s (set_out x (suc j) v)
   one_ok con quiet =
       record {
         ins = ok.ins;
@@ -78,12 +78,12 @@ module _ (s : ℕ) (x : Site) (j : ℕ) (v : Output) (ok : SiteOk s x) (hj : j <
       }
 
   -- v differs in its head at most
-  pub head_ok : core v ≡ core (out_at x (suc j)) → SiteOk s (set_out_lem x (suc j) v)
+  pub head_ok : core v ≡ core (out_at x (suc j)) → SiteOk s (set_out x (suc j) v)
   head_ok e = one_ok (core_conn s x (suc j) v ok e) (core_quiet s x (suc j) v ok e)
 
   -- v has no terminator and none to come; what the output owed is set aside
   pub gone_good : ((i : ℕ) → Fed i (out_at x (suc j)) → ⊥) → v.terminator ≡ t_none → due v ≡ false
-      → Good s x (set_out_lem x (suc j) v) (λ p t. owes_output s p t (out_at x (suc j)))
+      → Good s x (set_out x (suc j) v) (λ p t. owes_output s p t (out_at x (suc j)))
   gone_good unfed bare none =
       record {
         ok = one_ok (gone_conn s x (suc j) v ok unfed bare) (gone_quiet s x (suc j) v ok unfed bare);
@@ -126,10 +126,10 @@ module _ (s : ℕ) (x : Site) (ok : SiteOk s x) (m : ℕ) (hm : m < in_queue_cou
   lq = omega (arith, ok.queues)
 
   -- the two changed together
-  local_good : (v : Output) (r : InQueue) → Landing r v → ((i : ℕ) → Conn s i (in_at x i) (out_at (set_out_lem x j v)))
-      → ((k : ℕ) → Quiet (out_at (set_out_lem x j v) k))
+  local_good : (v : Output) (r : InQueue) → Landing r v → ((i : ℕ) → Conn s i (in_at x i) (out_at (set_out x j v)))
+      → ((k : ℕ) → Quiet (out_at (set_out x j v) k))
       → ((p t : ℕ) → owes_output s p t v + owes_in_queue s p t r ≡ owes_output s p t o + owes_in_queue s p t q)
-      → Good s x (set_out_lem (set_queue x m r) j v) (λ p t. 0)
+      → Good s x (set_out (set_queue x m r) j v) (λ p t. 0)
   local_good v r new con quiet wt =
       record {
         ok =
@@ -139,7 +139,7 @@ module _ (s : ℕ) (x : Site) (ok : SiteOk s x) (m : ℕ) (hm : m < in_queue_cou
               leaving = ok.leaving;
               queues = length-set x.incoming m r ∙ ok.queues;
               landing =
-                  all_but (λ k iq. k < in_queue_count → Landing iq (out_at (set_out_lem x j v) (queue_port k))) x.incoming m r in_queue_d lq
+                  all_but (λ k iq. k < in_queue_count → Landing iq (out_at (set_out x j v) (queue_port k))) x.incoming m r in_queue_d lq
                   (λ h. subst (Landing r) (sym (get_or-set_same x.outputs j v no_output lo)) new)
                   (λ k ne h.
                   rw (get_or-set_other x.outputs j (queue_port k) v no_output (λ e. ne (omega arith))) (ok.landing k h));
@@ -163,7 +163,7 @@ module _ (s : ℕ) (x : Site) (ok : SiteOk s x) (m : ℕ) (hm : m < in_queue_cou
       }
 
   abbrev TurnOk : Turn Output InQueue → Type 0
-  TurnOk r = OwnOk s x (own_turn (λ o iq. set_out_lem (set_queue x m iq) j o) r)
+  TurnOk r = OwnOk s x (own_turn (λ o iq. set_out (set_queue x m iq) j o) r)
 
   head_in_ok : (D : ℕ) → D ≤ queue_room → TurnOk (head_in D o q)
   head_in_ok D deep =

@@ -14,7 +14,7 @@ use Rattle.base.specs.Bools.{cond_ok, both, both3}
 use Rattle.base.specs.Lists.{all_but}
 use Rattle.theorems.specs.Names.{Input, Output, OutQueue, InQueue, Site, Network}
 use Rattle.model.specs.Types.{input_d, no_output, in_queue_d, in_at, out_of, out_at, queue_at, queue_port, with_out_queue}
-use Rattle.model.specs.Types.{carries, set_in, set_out_lem, set_queue}
+use Rattle.model.specs.Types.{carries, set_in, set_out, set_queue}
 use Rattle.draws.specs.Draws.{restricted}
 use Rattle.model.specs.Network.{joined}
 use Rattle.types.specs.Phases.{is_none}
@@ -119,7 +119,7 @@ module _ (n : Network) (val : Valid n) (s : ℕ) (hs : s < n.sites) (k : ℕ) (x
       j = queue_port m
 
       act : (r : Turn Output InQueue) → TurnIn (λ v q. OutputTo n k (queue_port m) (out_at x (queue_port m)) v × InQueueIn n k m q) r
-          → Decided (own_turn (λ o q. set_out_lem (set_queue x m q) (queue_port m) o) r)
+          → Decided (own_turn (λ o q. set_out (set_queue x m q) (queue_port m) o) r)
       act Stay h = tt
       act (To v q) h =
           record {

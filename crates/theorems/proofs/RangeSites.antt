@@ -15,7 +15,7 @@ use Rattle.base.specs.All.{all, any, all_at, all_by, any_at}
 use Rattle.base.specs.Lists.{beyond, all_set, rel_set}
 use Rattle.theorems.specs.Names.{Input, Output, OutQueue, InQueue, Site, Network}
 use Rattle.model.specs.Shapes.{SiteShaped}
-use Rattle.model.specs.Types.{no_output, input_d, in_queue_d, site_d, site_at, in_at, out_at, mark, queue_at, with_out_queue, set_in, set_out_lem, set_queue, set_site}
+use Rattle.model.specs.Types.{no_output, input_d, in_queue_d, site_d, site_at, in_at, out_at, mark, queue_at, with_out_queue, set_in, set_out, set_queue, set_site}
 use Rattle.draws.specs.Draws.{restricted}
 use Rattle.model.specs.Range.{any_mark, input_ok, output_ok, out_queue_ok, in_queue_ok, depth_of, site_ok, zero_site, place_ok}
 use Rattle.theorems.proofs.Invariant.{Fed}
@@ -163,14 +163,14 @@ module _ (n : Network) (k : ℕ) (x : Site) where
         }
 
     pub out_set : (j : ℕ) (v : Output) → OutputIn n k j v → ((i : ℕ) → Fed i (out_at x j) → Fed i v)
-        → SiteIn n k (set_out_lem x j v)
+        → SiteIn n k (set_out x j v)
     out_set j v h f =
         record {
           inputs = ok.inputs;
           outputs = length-set x.outputs j v ∙ ok.outputs;
           ins =
               λ i.
-              frame (out_at (set_out_lem x j v))
+              frame (out_at (set_out x j v))
               (rel_set (λ a b. Fed i a → Fed i b) x.outputs j v no_output (λ a e. e) (f i)) (ok.ins i);
           outs = all_set (λ m o. OutputIn n k m o) x.outputs j v no_output h ok.outs;
           outgoing = ok.outgoing;

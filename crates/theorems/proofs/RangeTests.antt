@@ -18,7 +18,7 @@ use Rattle.theorems.specs.Names.{Network}
 use Rattle.model.specs.Types.{no_marks, out_of, mark, carries}
 use Rattle.types.specs.Phases.{is_free, connected, splitting, branching, aborting, is_none, is_keep}
 use Rattle.draws.specs.Draws.{restricted}
-use Rattle.model.specs.Range.{tag_ok, any_mark, any_remote, zero_input, zero_output, fed_by_lem, connection_in, input_ok}
+use Rattle.model.specs.Range.{tag_ok, any_mark, any_remote, zero_input, zero_output, fed_by, connection_in, input_ok}
 use Rattle.model.specs.Range.{closing_ok, output_ok}
 use Rattle.theorems.proofs.Invariant.{Fed}
 use Rattle.theorems.proofs.ConnectionLaws.{free_is}
@@ -80,7 +80,7 @@ none_is t_end h = absurd (clash (sym h))
 none_is t_abort h = absurd (clash (sym h))
 none_is t_keep h = absurd (clash (sym h))
 
-fed_at : (i : ℕ) (o : Output) → fed_by_lem i o ≡ true → Fed i o
+fed_at : (i : ℕ) (o : Output) → fed_by i o ≡ true → Fed i o
 fed_at i o h =
     let a = both3 (carries o) (is_none o.terminator) (eqb o.input i) h in
     let b = both o.used (not o.closing) a.0 in
@@ -91,7 +91,7 @@ fed_at i o h =
       stays = not-true o.closing b.1;
     }
 
-fed_by_lem : (i : ℕ) (o : Output) → Fed i o → fed_by_lem i o ≡ true
+fed_by_lem : (i : ℕ) (o : Output) → Fed i o → fed_by i o ≡ true
 fed_by_lem i o h =
     and3 (carries o) (is_none o.terminator) (eqb o.input i)
     (and o.used (not o.closing) h.used (ap not h.stays)) (ap is_none h.bare)
@@ -119,7 +119,7 @@ module _ (n : Network) (k : ℕ) (os : List Output) (i : ℕ) (y : Input) where
   zeros = is_free ph && eqb y.packet 0 && eqb y.set 0
 
   abbrev feeds : ℕ → Bool
-  feeds j = implies (mark bs j) (fed_by_lem i (out_of os j))
+  feeds j = implies (mark bs j) (fed_by i (out_of os j))
 
   abbrev numbers_ok : Bool
   numbers_ok = pick (is_free ph) (zero_input y) (tag_ok n.sites k y.packet y.set)
@@ -161,7 +161,7 @@ module _ (n : Network) (k : ℕ) (os : List Output) (i : ℕ) (y : Input) where
         fed =
             λ j l m.
             fed_at i (out_of os j)
-            (implies_at (mark bs j) (fed_by_lem i (out_of os j)) (all_at feeds j output_count l u.1) m);
+            (implies_at (mark bs j) (fed_by i (out_of os j)) (all_at feeds j output_count l u.1) m);
         zeroth = implies_at (splitting ph) (mark bs 0) w.1;
         sole =
             λ e.
@@ -188,7 +188,7 @@ module _ (n : Network) (k : ℕ) (os : List Output) (i : ℕ) (y : Input) where
       (λ e. tag_by n k y.packet y.set (h.tagged e)))
       (alike_by (any_mark bs) (connected ph) h.marks))
       (all_by feeds output_count
-      (λ j l. implies_by (mark bs j) (fed_by_lem i (out_of os j)) (λ m. fed_by_lem i (out_of os j) (h.fed j l m)))))
+      (λ j l. implies_by (mark bs j) (fed_by i (out_of os j)) (λ m. fed_by_lem i (out_of os j) (h.fed j l m)))))
       (implies_by (splitting ph) (mark bs 0) h.zeroth)
       (implies_by (aborting ph) (splitting ph && not (any_remote bs))
       (λ e. let a = h.sole e in and (splitting ph) (not (any_remote bs)) a.0 (ap not a.1))))

@@ -20,7 +20,7 @@ use Rattle.sets.proofs.LawsSize.{minus_pos, size_within}
 use Rattle.theorems.specs.Names.{Phase, Free, Seek, Open, Wait, Done, Last, Aborted, FinAbort}
 use Rattle.theorems.specs.Names.{Input, Output, Site, Network}
 use Rattle.model.specs.Types.{no_input, site_at, in_at, out_of, out_at, queue_at, queue_port, is_local, carries, with_out_queue, set_in}
-use Rattle.model.specs.Types.{set_out_lem, set_queue}
+use Rattle.model.specs.Types.{set_out, set_queue}
 use Rattle.model.specs.Network.{channel_at, channel, joined, route_of, choices, list_of, channel_ok, channels_ok}
 use Rattle.model.specs.Network.{choice, port_ok, list_ok, route_ok, routes_ok, joins_then}
 use Rattle.types.specs.Phases.{listening}
@@ -56,7 +56,7 @@ work_on x m (Service iq oq q) = tt
 -- in-queue m: its output, and its operator
 local_on : (D : ℕ) (x : Site) (m : ℕ) → OnPort (local_at D x m)
 local_on D x m =
-    own_on (λ o iq. set_out_lem (set_queue x m iq) (queue_port m) o) (local_output D (out_at x (queue_port m)) (queue_at x m))
+    own_on (λ o iq. set_out (set_queue x m iq) (queue_port m) o) (local_output D (out_at x (queue_port m)) (queue_at x m))
 
 operator_on : (D s : ℕ) (x : Site) (m : ℕ) → OnPort (operator_at D s x m)
 operator_on D s x m = work_on x m (operator D s (queue_at x m) x.outgoing)

@@ -17,7 +17,7 @@ use Rattle.types.specs.declared.Network.{Network}
 use Rattle.types.specs.declared.Ran.TheVariants.{the_data as Ran, Nothing, Changed, Serviced}
 use Rattle.types.specs.Phases.{is_none}
 use Rattle.draws.specs.Draws.{restricted}
-use Rattle.model.specs.Types.{in_at, out_of, out_at, queue_at, in_entry, queue_port, set_site, set_in, set_out_lem, set_queue, with_out_queue}
+use Rattle.model.specs.Types.{in_at, out_of, out_at, queue_at, in_entry, queue_port, set_site, set_in, set_out, set_queue, with_out_queue}
 use Rattle.model.specs.Network.{channel, is_channel}
 use Rattle.model.specs.NetInput.{Turn, Stay, To}
 use Rattle.model.specs.Places.{Work, Rest, Cleared, Service, local_output, channel_output, out_queue, operator, timeout, last_lacks, stalled}
@@ -34,7 +34,7 @@ use Rattle.layout.specs.Stored.{Stored}
 use Rattle.words.specs.Events.{Did, DidOwn, DidPass, site_in, end_of}
 use Rattle.rules.specs.Acts.{local_act, queue_act, operator_act, timeout_act}
 use Rattle.layout.specs.Idle.{at_rest}
-use Rattle.words.specs.Events.{local_back_lem, channel_back, queue_back, input_back_lem, work_back}
+use Rattle.words.specs.Events.{local_back, channel_back, queue_back, input_back, work_back}
 use Rattle.words.specs.Marked.{masked, merged_turn, cutting}
 use Rattle.layout.proofs.Chained.{stays}
 use Rattle.layout.proofs.Rests.{local_rests, queue_rests, operator_rests, timeout_rests, channel_rests}
@@ -47,7 +47,7 @@ use Rattle.words.proofs.MarkedStores.{outputs_of_lem, marks_of_lem}
 
 pub local_idle : (D : ℕ) (x : Site) (q : ℕ) → at_rest (out_at x (queue_port q)) ≡ true → local_act D x q ≡ Idle
 local_idle D x q h =
-    ap (own_turn (λ o iq. set_out_lem (set_queue x q iq) (queue_port q) o)) (local_rests D (out_at x (queue_port q)) (queue_at x q) h)
+    ap (own_turn (λ o iq. set_out (set_queue x q iq) (queue_port q) o)) (local_rests D (out_at x (queue_port q)) (queue_at x q) h)
 
 pub queue_idle : (x : Site) → eqb x.outgoing.count 0 ≡ true → queue_act x ≡ Idle
 queue_idle x h = ap (own_turn (λ oq y. set_in (with_out_queue x oq) 0 y)) (queue_rests x.outgoing (in_at x 0) h)
@@ -81,7 +81,7 @@ pass_none edition o y b e = rw e (unjoined edition o y)
 
 -- ---- what a rule's struct says is what the rule decided
 
-pub local_back_lem : (o : Output) (q : InQueue) (t : Turn Output InQueue) → local_back_lem (of_local_turn o q t) ≡ t
+pub local_back_lem : (o : Output) (q : InQueue) (t : Turn Output InQueue) → local_back (of_local_turn o q t) ≡ t
 local_back_lem o q Stay = refl
 local_back_lem o q (To p r) = refl
 
@@ -93,7 +93,7 @@ pub queue_back_lem : (q : OutQueue) (y : Input) (t : Turn OutQueue Input) → qu
 queue_back_lem q y Stay = refl
 queue_back_lem q y (To r z) = refl
 
-pub input_back_lem : (y : Input) (os : List Output) (t : Turn Input (List Output)) → input_back_lem (of_input_turn y os t) ≡ t
+pub input_back_lem : (y : Input) (os : List Output) (t : Turn Input (List Output)) → input_back (of_input_turn y os t) ≡ t
 input_back_lem y os Stay = refl
 input_back_lem y os (To z ps) = refl
 
@@ -108,15 +108,15 @@ module _ (n : Network) (c : List ℕ) (s : ℕ) where
   pub did_nothing : (a : Act) → length c ≡ word_count → a ≡ Idle → Did n c c s Nothing a
   did_nothing a h e = rw e (record { answer = refl; stored = stays c h })
 
-  pub did_own : (d : List ℕ) (x : Site) → Stored c d (set_site (sites_of c) s x) → Did n c d s Changed (Own x)
-  did_own d x p = record { answer = refl; stored = p }
+  pub did_own_lem : (d : List ℕ) (x : Site) → Stored c d (set_site (sites_of c) s x) → Did n c d s Changed (Own x)
+  did_own_lem d x p = record { answer = refl; stored = p }
 
-  pub did_serve : (d : List ℕ) (x : Site) (q : ℕ) → Stored c d (set_site (sites_of c) s x) → Did n c d s (Serviced q s) (Serve x q)
-  did_serve d x q p = record { answer = refl; stored = p }
+  pub did_serve_lem : (d : List ℕ) (x : Site) (q : ℕ) → Stored c d (set_site (sites_of c) s x) → Did n c d s (Serviced q s) (Serve x q)
+  did_serve_lem d x q p = record { answer = refl; stored = p }
 
-  pub did_pass : (d : List ℕ) (x : Site) (j : ℕ) (y : Input) (b : ℕ) → channel n s j ≡ b
+  pub did_pass_lem : (d : List ℕ) (x : Site) (j : ℕ) (y : Input) (b : ℕ) → channel n s j ≡ b
       → Stored c d (set_far (set_site (sites_of c) s x) b y) → Did n c d s Changed (Pass x j y)
-  did_pass d x j y b e p = record { answer = refl; stored = rw e p }
+  did_pass_lem d x j y b e p = record { answer = refl; stored = rw e p }
 
 -- ---- an arm: what its rule decided is stored
 
@@ -127,11 +127,11 @@ module _ (c d : List ℕ) (s : ℕ) (r : Ran) where
   pub local_done : (D q : ℕ) (w : LocalTurn)
       → let o = out_at x (queue_port q) in
       w ≡ of_local_turn o (queue_at x q) (local_output D o (queue_at x q))
-      → DidOwn c d s r (own_turn (λ o iq. set_out_lem (set_queue x q iq) (queue_port q) o) (local_back_lem w)) → DidOwn c d s r (local_act D x q)
+      → DidOwn c d s r (own_turn (λ o iq. set_out (set_queue x q iq) (queue_port q) o) (local_back w)) → DidOwn c d s r (local_act D x q)
   local_done D q w e p n =
       let o = out_at x (queue_port q) in
-      subst (λ (t : Turn Output InQueue). Did n c d s r (own_turn (λ o iq. set_out_lem (set_queue x q iq) (queue_port q) o) t))
-      (ap local_back_lem e ∙ local_back_lem o (queue_at x q) (local_output D o (queue_at x q))) (p n)
+      subst (λ (t : Turn Output InQueue). Did n c d s r (own_turn (λ o iq. set_out (set_queue x q iq) (queue_port q) o) t))
+      (ap local_back e ∙ local_back_lem o (queue_at x q) (local_output D o (queue_at x q))) (p n)
 
   pub channel_done : (edition j b : ℕ) (there : is_channel b ≡ true) (w : ChannelTurn)
       → let o = out_at x (suc j) in
@@ -161,12 +161,12 @@ module _ (c d : List ℕ) (s : ℕ) (r : Ran) where
   pub timeout_done : (edition i : ℕ) (z : Input) (bs : List Bool) → s < sites_most → i < input_count → i ≡ (out_at x 0).input → z ≡ in_at x i
       → bs ≡ cutting z.outputs → (w : InputTurn)
       → w ≡ of_input_turn z (masked bs x.outputs) (timeout edition (queue_at x 0) (masked bs x.outputs) z)
-      → DidOwn c d s r (own_turn (set_both x i) (merged_turn bs x.outputs (input_back_lem w))) → DidOwn c d s r (timeout_act edition x)
+      → DidOwn c d s r (own_turn (set_both x i) (merged_turn bs x.outputs (input_back w))) → DidOwn c d s r (timeout_act edition x)
   timeout_done edition i z bs hs hi e ez eb w f p n =
       let os = x.outputs in
       let iq = queue_at x 0 in
       let own : bs ≡ cutting (in_at x i).outputs = eb ∙ ap (λ (u : Input). cutting u.outputs) ez in
-      let back = ap input_back_lem f ∙ input_back_lem z (masked bs os) (timeout edition iq (masked bs os) z) in
+      let back = ap input_back f ∙ input_back_lem z (masked bs os) (timeout edition iq (masked bs os) z) in
       let rule =
       ap (merged_turn bs os) back
       ∙ ap₂ (λ (m : List Bool) (u : Input). merged_turn m os (timeout edition iq (masked m os) u)) own ez

@@ -35,7 +35,7 @@ use Rattle.layout.specs.Layout.{word_count}
 use Rattle.layout.specs.Words.{sites_of}
 use Rattle.words.specs.Events.{Did, DidOwn, DidReady, DidInput, DidSought, network_by, site_in, end_of}
 use Rattle.layout.specs.Idle.{waits}
-use Rattle.words.specs.Events.{input_back_lem, split_ready, ready_flags, sought, Seekable}
+use Rattle.words.specs.Events.{input_back, split_ready, ready_flags, sought, Seekable}
 use Rattle.words.specs.Marked.{masked, merged_turn, touched, opening, seen}
 use Rattle.rules.specs.Acts.{input_act}
 use Rattle.words.proofs.Acts.{did_nothing, input_back_lem}
@@ -140,18 +140,18 @@ module _ (c : List ℕ) (s i : ℕ) where
 
   module _ (d : List ℕ) (r : Ran) where
     -- what the rule made of the marked outputs is stored, and the rule is t
-    merged_done : (bs : List Bool) (w : InputTurn) (t : Turn Input (List Output)) → merged_turn bs x.outputs (input_back_lem w) ≡ t
-        → DidOwn c d s r (own_turn (set_both x i) (merged_turn bs x.outputs (input_back_lem w))) → DidOwn c d s r (own_turn (set_both x i) t)
+    merged_done : (bs : List Bool) (w : InputTurn) (t : Turn Input (List Output)) → merged_turn bs x.outputs (input_back w) ≡ t
+        → DidOwn c d s r (own_turn (set_both x i) (merged_turn bs x.outputs (input_back w))) → DidOwn c d s r (own_turn (set_both x i) t)
     merged_done bs w t e p n = subst (λ (t : Turn Input (List Output)). Did n c d s r (own_turn (set_both x i) t)) e (p n)
 
     -- a rule moves it
     pub ready_done : (isReady : ℕ → Bool) (z : Input) (bs : List Bool) (w : InputTurn) → s < sites_most → z ≡ y → (state_number y.phase ≡ 1 → ⊥)
         → bs ≡ touched z.phase z.outputs → w ≡ of_input_turn z (masked bs x.outputs) (other_turn z (masked bs x.outputs) isReady)
-        → DidOwn c d s r (own_turn (set_both x i) (merged_turn bs x.outputs (input_back_lem w))) → DidReady c d s r i isReady
+        → DidOwn c d s r (own_turn (set_both x i) (merged_turn bs x.outputs (input_back w))) → DidReady c d s r i isReady
     ready_done isReady z bs w hs ez ne eb e p n =
         let os = x.outputs in
         let own = eb ∙ ap (λ (u : Input). touched u.phase u.outputs) ez in
-        let rule = ap input_back_lem e ∙ input_back_lem z (masked bs os) (other_turn z (masked bs os) isReady)
+        let rule = ap input_back e ∙ input_back_lem z (masked bs os) (other_turn z (masked bs os) isReady)
         ∙ ap (λ (u : Input). other_turn u (masked bs os) isReady) ez ∙ other_is y (masked bs os) isReady n s i ne in
         merged_done bs w (net_input n s i y os isReady)
         (ap (merged_turn bs os) rule
@@ -172,14 +172,14 @@ module _ (c : List ℕ) (s i : ℕ) where
     pub sought_done : (edition : ℕ) (m : List ℕ) (S T : ℕ) (bs : List Bool) (w : InputTurn) → Seekable m S c s i → state_number y.phase ≡ 1
         → let ws = seen edition x.outputs in
         w ≡ of_input_turn y ws (sought edition m S T y ws s i) → bs ≡ opening w.input
-        → DidOwn c d s r (own_turn (set_both x i) (merged_turn bs x.outputs (input_back_lem w))) → DidSought edition m S T c d s r i
+        → DidOwn c d s r (own_turn (set_both x i) (merged_turn bs x.outputs (input_back w))) → DidSought edition m S T c d s r i
     sought_done edition m S T bs w ok e f eb p version D l =
         let n = network_by version edition S D T l m in
         let os = x.outputs in
         let ws = seen edition os in
         let t = sought edition m S T y ws s i in
         merged_done bs w (net_input n s i y os (ready_in n (sites_of c) s))
-        (ap₂ (λ (b : List Bool) (u : InputTurn). merged_turn b os (input_back_lem u)) (eb ∙ ap (λ (u : InputTurn). opening u.input) f) f
+        (ap₂ (λ (b : List Bool) (u : InputTurn). merged_turn b os (input_back u)) (eb ∙ ap (λ (u : InputTurn). opening u.input) f) f
         ∙ opening_turn y ws os t
         ∙ sought_merged T i y ws os (length_seen edition os) (outputs_of_lem c s (omega (arith, ok.site, ok.few))) (own_seen edition os) e
         (asked_by edition m S s ws y.set)

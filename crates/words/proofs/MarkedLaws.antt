@@ -28,7 +28,7 @@ use Rattle.model.specs.NetInput.{Turn, Stay, To, table, give, taken, occupy, mar
 use Rattle.model.specs.Places.{last_lacks, stalled, remote, cut_off, cut_at, timeout}
 use Rattle.layout.proofs.Rows.{get_d_rows, length_rows}
 use Rattle.rules.specs.Turns.{of_input_turn}
-use Rattle.words.specs.Events.{input_back_lem}
+use Rattle.words.specs.Events.{input_back}
 use Rattle.words.specs.Marked.{masked, merged, merged_turn, zeroth, touched, opening, cutting}
 
 -- ---- the outputs one by one
@@ -194,7 +194,7 @@ merged_opening os (To z l) = To z (merged (opening z) l os)
 
 -- as the struct of the code says it
 pub opening_turn : (y : Input) (ws os : List Output) (t : Turned)
-    → merged_turn (opening (of_input_turn y ws t).input) os (input_back_lem (of_input_turn y ws t)) ≡ merged_opening os t
+    → merged_turn (opening (of_input_turn y ws t).input) os (input_back (of_input_turn y ws t)) ≡ merged_opening os t
 opening_turn y ws os Stay = refl
 opening_turn y ws os (To z l) = refl
 

@@ -10,7 +10,7 @@ use Rattle.base.specs.Over.{over, over_none, over_more, over_above}
 use Rattle.base.specs.Sizes.{sites_most, input_count, output_count}
 use Rattle.types.specs.declared.Output.{Output}
 use Rattle.types.specs.declared.Site.{Site}
-use Rattle.model.specs.Types.{no_output, site_d, site_at, in_at, out_of, out_at, mark, set_site, set_out_lem, with_outputs}
+use Rattle.model.specs.Types.{no_output, site_d, site_at, in_at, out_of, out_at, mark, set_site, set_out, with_outputs}
 use Rattle.layout.specs.Layout.{word_count}
 use Rattle.layout.specs.Words.{sites_of}
 use Rattle.layout.specs.Stored.{Stored}
@@ -27,7 +27,7 @@ marks_of_lem c s hs i hi = ((shaped c).site s hs).marks i hi
 
 -- an output stored as it is
 pub none_stored : (c : List ℕ) (s j : ℕ) → length c ≡ word_count
-    → Stored c c (set_site (sites_of c) s (set_out_lem (site_at (sites_of c) s) j (out_at (site_at (sites_of c) s) j)))
+    → Stored c c (set_site (sites_of c) s (set_out (site_at (sites_of c) s) j (out_at (site_at (sites_of c) s) j)))
 none_stored c s j h =
     let x = site_at (sites_of c) s in
     let e = ap (λ (os : List Output). set_site (sites_of c) s (with_outputs x os)) (set-get_or x.outputs j no_output) ∙ set-get_or (sites_of c) s site_d in
@@ -51,13 +51,13 @@ module _ (c : List ℕ) (s : ℕ) (bs : List Bool) (l : List Output) where
 
   pub one_marked : (d e : List ℕ) (k : ℕ) → s < sites_most → k < output_count → Marked d k
       → Stored d e (set_site (sites_of d) s
-      (set_out_lem (site_at (sites_of d) s) k (cond (mark bs k) (out_of l k) (out_at (site_at (sites_of d) s) k))))
+      (set_out (site_at (sites_of d) s) k (cond (mark bs k) (out_of l k) (out_at (site_at (sites_of d) s) k))))
       → Marked e (k + 1)
   one_marked d e k hs hk p q =
       let r = outputs_of_lem c s hs in
       let old = over_above put k x.outputs k no_output (omega arith) in
       let more = over_more put k x.outputs (omega arith) in
-      let t = then_own c d e s (with_outputs x (over put k x.outputs)) (λ z. set_out_lem z k (cond (mark bs k) (out_of l k) (out_at z k))) hs p q in
+      let t = then_own c d e s (with_outputs x (over put k x.outputs)) (λ z. set_out z k (cond (mark bs k) (out_of l k) (out_at z k))) hs p q in
       record {
         size = t.size;
         sites =

@@ -93,8 +93,8 @@ abbrev pub DidPass : List ℕ → List ℕ → ℕ → Ran → ℕ → ℕ → T
 DidPass c d s r j b t = (n : Network) → channel n s (suc j) ≡ b → Did n c d s r (pass_turn (site_in c s) (suc j) t)
 
 -- what a rule decided, read from the struct that its code returns
-abbrev pub local_back_lem : LocalTurn → Turn Output InQueue
-local_back_lem r = cond r.changed (To r.output r.queue) Stay
+abbrev pub local_back : LocalTurn → Turn Output InQueue
+local_back r = cond r.changed (To r.output r.queue) Stay
 
 abbrev pub channel_back : ChannelTurn → Turn Output Input
 channel_back r = cond r.changed (To r.output r.input) Stay
@@ -102,8 +102,8 @@ channel_back r = cond r.changed (To r.output r.input) Stay
 abbrev pub queue_back : QueueTurn → Turn OutQueue Input
 queue_back r = cond r.changed (To r.queue r.input) Stay
 
-abbrev pub input_back_lem : InputTurn → Turn Input (List Output)
-input_back_lem r = cond r.changed (To r.input r.outputs) Stay
+abbrev pub input_back : InputTurn → Turn Input (List Output)
+input_back r = cond r.changed (To r.input r.outputs) Stay
 
 abbrev pub work_back : OperatorTurn → Work
 work_back r = cond r.changed (cond r.serviced (Service r.incoming r.outgoing r.packet) (Cleared r.incoming r.outgoing)) Rest

@@ -1,5 +1,5 @@
 use mathlib.Core.Path.{◌∙◌}
-use Rattle.model.specs.Types.{out_at, queue_at, queue_port, set_out_lem, set_queue}
+use Rattle.model.specs.Types.{out_at, queue_at, queue_port, set_out, set_queue}
 use Rattle.model.specs.Places.{local_output}
 use Rattle.machine.proofs.Lifts.{local_took}
 use borrow.Author.Rules.{rules}
@@ -51,7 +51,7 @@ returns c =
     let j = queue_port a.m in
     let t = local_output a.network.depth (out_at x j) (queue_at x a.m) in
     c.took.ensures
-    ∙ local_took a.network a.s x (λ o q. set_out_lem (set_queue x a.m q) j o) (out_at x j) (queue_at x a.m) t k.local-output.ensures
+    ∙ local_took a.network a.s x (λ o q. set_out (set_queue x a.m q) j o) (out_at x j) (queue_at x a.m) t k.local-output.ensures
 
 pub local-step-spec : {M : Type 1} → statement M
 local-step-spec =

@@ -1,4 +1,4 @@
-use Rattle.words.proofs.Acts.{did_pass, did_nothing}
+use Rattle.words.proofs.Acts.{did_pass_lem, did_nothing}
 use mathlib.Core.Path.{refl}
 use borrow.Author.Rules.{rules}
 use Rattle.words.proofs.puts.put_channel.Statement.{statement}
@@ -17,7 +17,7 @@ same_length c = search rules
 
 -- src/puts.rt:44:9
 returns : tie.Need-returns
-returns c = λ n e. rw c.before.before.before.before.if1.true (did_pass n _ _ _ _ _ _ _ e c.before.before.store-passed.ensures)
+returns c = λ n e. rw c.before.before.before.before.if1.true (did_pass_lem n _ _ _ _ _ _ _ e c.before.before.store-passed.ensures)
 
 -- src/puts.rt:36:1
 returns-2 : tie.Need-returns-2

@@ -1,5 +1,5 @@
 use mathlib.Core.Path.{refl}
-use Rattle.words.proofs.Acts.{did_own, did_nothing}
+use Rattle.words.proofs.Acts.{did_own_lem, did_nothing}
 use borrow.Author.Rules.{rules}
 use Rattle.words.proofs.puts.put_input.Statement.{statement}
 use Rattle.words.proofs.puts.put_input.Tie as tie
@@ -17,7 +17,7 @@ same_length c = search rules
 
 -- src/puts.rt:112:9
 returns : tie.Need-returns
-returns c = λ n. rw c.before.before.before.before.if1.true (did_own n _ _ _ _ c.before.before.IsStore-both.ensures)
+returns c = λ n. rw c.before.before.before.before.if1.true (did_own_lem n _ _ _ _ c.before.before.IsStore-both.ensures)
 
 -- src/puts.rt:94:1
 returns-2 : tie.Need-returns-2

@@ -1,4 +1,4 @@
-use Rattle.words.proofs.Acts.{did_own, did_nothing}
+use Rattle.words.proofs.Acts.{did_own_lem, did_nothing}
 use mathlib.Core.Path.{refl}
 use borrow.Author.Rules.{rules}
 use Rattle.words.proofs.puts.put_queue.Statement.{statement}
@@ -17,7 +17,7 @@ same_length c = search rules
 
 -- src/puts.rt:57:9
 returns : tie.Need-returns
-returns c = λ n. rw c.before.before.before.before.if1.true (did_own n _ _ _ _ c.before.before.store-leaving.ensures)
+returns c = λ n. rw c.before.before.before.before.if1.true (did_own_lem n _ _ _ _ c.before.before.store-leaving.ensures)
 
 -- src/puts.rt:49:1
 returns-2 : tie.Need-returns-2

@@ -1,5 +1,5 @@
 use mathlib.Core.Path.{refl}
-use Rattle.words.proofs.Acts.{did_own, did_serve, did_nothing}
+use Rattle.words.proofs.Acts.{did_own_lem, did_serve_lem, did_nothing}
 use borrow.Author.Rules.{rules}
 use Rattle.words.proofs.puts.put_work.Statement.{statement}
 use Rattle.words.proofs.puts.put_work.Tie as tie
@@ -24,7 +24,7 @@ returns : tie.Need-returns
 returns c =
     let store-queues = c.before.before.before.store-queues in
     let if1 = c.before.before.before.before.before.if1 in
-    λ n. rw (if1.true, c.if2.true) (did_serve n _ _ _ _ _ store-queues.ensures)
+    λ n. rw (if1.true, c.if2.true) (did_serve_lem n _ _ _ _ _ store-queues.ensures)
 
 -- src/puts.rt:87:9
 same-length-2 : tie.Need-same-length-2
@@ -35,7 +35,7 @@ returns-2 : tie.Need-returns-2
 returns-2 c =
     let store-queues = c.before.before.before.store-queues in
     let if1 = c.before.before.before.before.before.if1 in
-    λ n. rw (if1.true, c.if2.false) (did_own n _ _ _ _ store-queues.ensures)
+    λ n. rw (if1.true, c.if2.false) (did_own_lem n _ _ _ _ store-queues.ensures)
 
 -- src/puts.rt:75:1
 returns-3 : tie.Need-returns-3

@@ -6,7 +6,7 @@ use Rattle.base.specs.Sizes.{output_count}
 use Rattle.base.specs.All.{all, all_none, all_next, all_end}
 use Rattle.base.specs.Bools.{implies}
 use Rattle.model.specs.Types.{mark, out_of}
-use Rattle.model.specs.Range.{fed_by_lem}
+use Rattle.model.specs.Range.{fed_by}
 use Rattle.checks.proofs.range.places.marks_ok.Statement.{statement}
 use Rattle.checks.proofs.range.places.marks_ok.Tie as tie
 use Rattle.checks.proofs.range.places.marks_ok.Reads as reads
@@ -15,7 +15,7 @@ use Rattle.checks.proofs.range.places.fed_by_lem.Reads as fed-by-reads
 
 abbrev invariant-loop : tie.invariant-loop
 invariant-loop i outputs marks ok₀ j₀ ok j =
-    (j ≤ output_count) × (ok ≡ all (λ k. implies (mark marks k) (fed_by_lem i (out_of outputs k))) j)
+    (j ≤ output_count) × (ok ≡ all (λ k. implies (mark marks k) (fed_by i (out_of outputs k))) j)
 
 abbrev decreases-loop : tie.decreases-loop
 decreases-loop i outputs marks ok₀ j₀ ok j = output_count - j
