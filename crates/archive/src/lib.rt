@@ -2,6 +2,8 @@
 // format has the bytes and what is answered, crate faults judges lent bytes; proofs/RoundTripBytes.antt and
 // proofs/RoundTripRuns.antt show that reader and writer are inverse: `write_read`, `read_write`, `exactly`;
 // proofs/Moved.antt that the moves are. The public functions take any slice, of any length, and any run.
+#![tactic(auto)]
+
 mod mover;
 mod reader;
 mod writer;

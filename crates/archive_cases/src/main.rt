@@ -2,6 +2,8 @@
 // editions of version 2 (editions).
 // Standard input is the largest archive of version 1, 16 sites and 255 sends, 1,864 bytes; run R stands here. `stdout` is
 // typed from the documents: a line for each case, with the refusal number, 0 for none.
+#![tactic(auto)]
+
 mod editions;
 mod moves;
 mod rings;

@@ -1,5 +1,7 @@
 // The sizes, each once, numbers of one and two bytes made wider, numbers of two, four and eight bytes, and a number less
 // one. specs/Sizes.antt has the same sizes; the rest of specs/ holds the definitions and laws that every crate shares.
+#![tactic(auto)]
+
 ghost use Rattle.std.specs.Prelude.{◌≡◌, ◌<◌, ◌+◌, ◌-◌, ◌*◌};
 
 // Sites of a network at most, and of one of version 1.

@@ -21,7 +21,7 @@ const PLAYED: u8 = 2;
 
 // `zero`: names on standard input end with a 0. Of a slice `skip` names are left out and `left` played. `wants` is the
 // number that the last `--slice` still lacks.
-#[derive(Drop)]
+#[derive(Clone, Copy)]
 pub struct Asked {
     pub services: bool,
     pub zero: bool,
@@ -151,7 +151,7 @@ fn wrong(who: &[u8], text: &[u8], asked: Asked) -> Asked {
 }
 
 // A number in decimal, if it is `good`.
-#[derive(Drop)]
+#[derive(Clone, Copy)]
 struct Number {
     good: bool,
     value: u64,

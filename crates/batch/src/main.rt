@@ -2,6 +2,8 @@
 // with no name those on standard input, one to a line, or with `-0` each ended by a 0. Prints one line a file, by one
 // write, and a last line with the totals; with `--services` each file's services before its line, as `play` does. A
 // name that cannot be opened or read, whatever its length, costs its line. Assumes nothing of the files.
+#![tactic(auto)]
+
 mod asked;
 mod names;
 mod one;
@@ -12,7 +14,7 @@ use libc::{STDERR_FILENO, STDOUT_FILENO};
 use one::{Totals, no_files};
 
 // What came of it: the status, and what was played.
-#[derive(Drop)]
+#[derive(Clone, Copy)]
 struct Outcome {
     status: u64,
     totals: Totals,

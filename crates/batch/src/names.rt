@@ -10,7 +10,7 @@ const ARGUMENT: usize = 131072;
 // Names met so far: `count` bytes of the present one are at the front of the room, and if it is `long`, more than a
 // path can have, those before them are printed already. `skip` names are left out yet, `left` may be played. It is
 // `over` where no name is to come or nothing can be printed any more.
-#[derive(Drop)]
+#[derive(Clone, Copy)]
 struct Names {
     count: usize,
     long: bool,
@@ -33,7 +33,7 @@ fn no_names(asked: Asked) -> Names {
 
 // How names are taken: the byte that ends one, a newline or a 0, which no argument has; whether a carriage return
 // before it is dropped; what is asked for each.
-#[derive(Drop)]
+#[derive(Clone, Copy)]
 struct Manner {
     end: u8,
     line: bool,
@@ -44,7 +44,7 @@ struct Manner {
 // ---- from the arguments
 
 // The arguments so far: their words, sorted again, and those of them that are names.
-#[derive(Drop)]
+#[derive(Clone, Copy)]
 struct Arguments {
     words: Words,
     names: Names,

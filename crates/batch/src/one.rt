@@ -7,7 +7,7 @@ use types::Counts;
 const LINE: usize = 16512;
 
 // Files so far; `lost` if something could not be printed, `cut` if standard input could not be read.
-#[derive(Drop)]
+#[derive(Clone, Copy)]
 pub struct Totals {
     pub files: u64,
     pub played: u64,

@@ -1,6 +1,8 @@
 // RUN, SEND and the player of `machine` once more, each a call under the same contract, and two draws in a row by single
 // RUNs. Nothing that is shipped uses this crate: its must-fail edits are wrong programs that the contracts of `machine`
 // refuse, which here takes seconds.
+#![tactic(auto)]
+
 ghost use Rattle.std.specs.Prelude.{◌≡◌, length};
 ghost use Rattle.model.specs.Events as events;
 ghost use Rattle.machine.specs.Play.{play_answer, play_book};

@@ -1,4 +1,6 @@
 // Tests of values that a caller hands over, against the model's definitions. Every public function takes anything.
+#![tactic(auto)]
+
 mod apart;
 mod network;
 mod range;

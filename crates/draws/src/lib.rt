@@ -1,5 +1,7 @@
 // Draws: the next value of the 32-bit xorshift, and the event that a value names. Both take anything.
 // specs/Draws.antt has the definitions.
+#![tactic(auto)]
+
 ghost use Rattle.std.specs.Prelude.{◌≡◌, ◌*◌, ◌/◌, ◌%◌, ◌≤◌};
 ghost use Rattle.base.specs.Sizes.{sites_most, code_count, split_code_count};
 ghost use Rattle.draws.specs.Draws as spec;
@@ -10,7 +12,7 @@ const THIRTEENTH: usize = 5042;
 const FIFTEENTH: usize = 4370;
 
 // The event RUN (site, code) that a value names; with a refusal other than 0 it names none, and both are 0.
-#[derive(Drop)]
+#[derive(Clone, Copy)]
 pub struct DrawnEvent {
     pub refusal: u8,
     pub site: usize,

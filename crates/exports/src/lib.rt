@@ -4,6 +4,8 @@
 // say what they answer, include/fennqualo.h tells it to C.
 // What no proof can see: a caller in C hands over slices that are there, that do not overlap, and that nobody else
 // changes during the call.
+#![tactic(auto)]
+
 ghost use Rattle.std.specs.Prelude.{◌≡◌, ◌≤◌, length};
 ghost use Rattle.format.specs.Refusals.{read_refusal};
 ghost use Rattle.format.specs.Moves.{move_refusal, moved};

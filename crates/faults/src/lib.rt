@@ -2,6 +2,8 @@
 // format/specs/Faults.antt says what that is, by the model's own tests; proofs/Theorems.antt that it is found there and
 // nowhere else. All is read out of the lent bytes: there is no table of inputs that are fed, no route is unpacked, no run
 // is made. The public functions take any slice, of any length, and any numbers.
+#![tactic(auto)]
+
 ghost use Rattle.std.specs.Prelude.{◌≡◌};
 ghost use Rattle.format.specs.Faults.{fault_of};
 

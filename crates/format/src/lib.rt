@@ -3,6 +3,8 @@
 // from one version to the other, specs/Faults.antt the place of a fault; proofs/Examples.antt and WideExamples.antt compute
 // the first two on document 01's run R, its bounds and an archive for each refusal, proofs/MoveExamples.antt and
 // FaultExamples.antt the others. The code is in the crates archive and faults.
+#![tactic(auto)]
+
 
 // The bytes of the longest archive, which is of version 2.
 pub const LONGEST: usize = 14
@@ -11,14 +13,14 @@ pub const LONGEST: usize = 14
     + 11 * base::SENDS;
 
 // What the reader answers: the run, or the refusal and the all-zero run.
-#[derive(Drop)]
+#[derive(Clone, Copy)]
 pub struct Decoded {
     pub refusal: u8,
     pub run: types::Run,
 }
 
 // What the writer and a move answer: how many bytes they wrote, or the refusal and 0.
-#[derive(Drop)]
+#[derive(Clone, Copy)]
 pub struct Written {
     pub refusal: u8,
     pub length: usize,
@@ -26,7 +28,7 @@ pub struct Written {
 
 // What the reader answers, and the number of the first channel (4 x site + port - 1), route (from-site x S + to-site)
 // or send at fault; 0 where nothing is wrong or the head is.
-#[derive(Drop)]
+#[derive(Clone, Copy)]
 pub struct Fault {
     pub refusal: u8,
     pub place: usize,

@@ -1,6 +1,8 @@
 // What the programs share at their desk: the words that they are called with, the usage and messages, files that are
 // opened safely, lines by patterns, and the line of numbers for the front. What is read and written no contract can say:
 // the functions are proved safe and ending.
+#![tactic(auto)]
+
 mod files;
 mod kind;
 mod message;

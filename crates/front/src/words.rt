@@ -18,7 +18,7 @@ pub const WRONG: u64 = 2;
 
 // How a program was called: whether by the front; how many bytes the name takes that messages begin with; the number of
 // the first word of the program's own.
-#[derive(Drop)]
+#[derive(Clone, Copy)]
 pub struct Called {
     pub fronted: bool,
     pub count: usize,
@@ -73,7 +73,7 @@ pub fn tell_status(fronted: bool, status: u64) {
 
 // The words so far: how many names, which argument the last of them is, whether `--` has come, whether help is asked
 // for, whether the use is wrong. What comes behind a call for help or a wrong word is not looked at.
-#[derive(Drop)]
+#[derive(Clone, Copy)]
 pub struct Words {
     pub names: usize,
     pub last: usize,

@@ -1,6 +1,8 @@
 // Says of each file whether it is an archive, a line each: `inspect [--front NAME] [--help] [--] FILE..`. Of one that is
 // not, the reader's number, and in words what is wrong and where: the byte and what stands there. It assumes nothing of
 // the files; of a longer one it sees the first 65,536 bytes.
+#![tactic(auto)]
+
 mod heads;
 mod held;
 mod items;

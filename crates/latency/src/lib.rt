@@ -1,6 +1,8 @@
 // Uncontended latency, after source document 001, section 2: the cycles that a packet takes which meets no other, to one target,
 // and on average to n targets by multi-unicast, resumable and restricted branch multicast. They are doubled, and so whole. It
 // takes anything. specs/Latency.antt has the formulas.
+#![tactic(auto)]
+
 ghost use Rattle.std.specs.Prelude.{◌≡◌, ◌≤◌};
 ghost use Rattle.latency.specs.Latency as spec;
 ghost use Rattle.latency.specs.Latency.{argument_most};
@@ -12,7 +14,7 @@ pub const ARGUMENT: u64 = 65535;
 pub const OUTSIDE: u8 = 20;
 
 // The latency of a unicast packet and the averages of the three schemes, doubled; with a refusal other than 0 all are 0.
-#[derive(Drop)]
+#[derive(Clone, Copy)]
 pub struct Latencies {
     pub refusal: u8,
     pub unicast: u64,

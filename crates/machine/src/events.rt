@@ -59,7 +59,7 @@ pub fn empty_state() -> State
 }
 
 // What RUN does, and its site as it was.
-#[derive(Drop)]
+#[derive(Clone, Copy)]
 pub struct Looked {
     pub change: Change,
     pub site: Site,

@@ -1,5 +1,7 @@
 // The machine: the core step by value, single SEND and RUN, and the player of stored runs, each proved equal to the definitions
 // of crate model and of specs/.
+#![tactic(auto)]
+
 mod clock;
 mod events;
 mod heard;

@@ -13,7 +13,7 @@ use format::Decoded;
 use types::{Counts, Network, Sent, StoredSend};
 
 // What the player answers: the refusal, or 0 and the counts; with a refusal all counts are zero.
-#[derive(Drop)]
+#[derive(Clone, Copy)]
 pub struct PlayAnswer {
     pub refusal: u8,
     pub counts: Counts,

@@ -12,7 +12,7 @@ use rules::{channel_output, free_input, local_output, operator, out_queue, time_
 use types::{Input, Network, Site};
 
 // What RUN does: nothing; its site changes; the same and a service of a packet; the site and the input at the end of a channel change.
-#[derive(Drop)]
+#[derive(Clone, Copy)]
 pub enum Act {
     Idle,
     Own,
@@ -21,7 +21,7 @@ pub enum Act {
 }
 
 // The act, the site after it, and where a far input changes that input after it, with its channel.
-#[derive(Drop)]
+#[derive(Clone, Copy)]
 pub struct Change {
     pub site: Site,
     pub input: Input,

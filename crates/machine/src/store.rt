@@ -13,7 +13,7 @@ use rules::free_input;
 use types::{Input, Network, Ran, Site, State};
 
 // What RUN sees at a site: the site, and the inputs at the ends of its four channels.
-#[derive(Drop)]
+#[derive(Clone, Copy)]
 pub struct Seen {
     pub site: Site,
     pub far: [Input; base::PORTS],

@@ -9,7 +9,7 @@ pub const OVER: u8 = 1;
 pub const BACK: u8 = 2;
 
 // What the arguments ask for.
-#[derive(Drop)]
+#[derive(Clone, Copy)]
 pub struct Asked {
     pub way: u8,
     pub words: Words,

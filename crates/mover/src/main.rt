@@ -2,6 +2,8 @@
 // sees up to 65,536 bytes, over to version 2 or back to version 1, and writes the moved bytes, and nothing else, to
 // standard output. Of a refused archive it writes nothing: the number stands behind the status in the line for the
 // front, or else on standard error. Assumes nothing of the file.
+#![tactic(auto)]
+
 mod asked;
 
 ghost use Rattle.io.specs.Counts.{IsPrefixLen as Front};
@@ -13,7 +15,7 @@ use libc::{STDERR_FILENO, STDOUT_FILENO};
 use report::Seen;
 
 // How a move ended: the status, and the number of a refusal or 0.
-#[derive(Drop)]
+#[derive(Clone, Copy)]
 struct Ended {
     status: u64,
     refusal: u8,

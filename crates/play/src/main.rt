@@ -1,6 +1,8 @@
 // `play [--front NAME] [--help] [--] [FILE]`: plays the archive in FILE, or on standard input, of which it sees up to
 // 65,536 bytes: prints each service as `draw packet site`, then the counts; of a refused archive only `refused N`. What
 // cannot be read or written is told on standard error. Assumes nothing of the file.
+#![tactic(auto)]
+
 ghost use Rattle.io.specs.Counts.{IsPrefixLen as Front};
 
 use front::Words;

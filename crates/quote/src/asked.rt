@@ -7,7 +7,7 @@ use front::Words;
 const ARGUMENT: usize = 131072;
 
 // What the arguments ask for. Of more than five numbers the first five are kept.
-#[derive(Drop)]
+#[derive(Clone, Copy)]
 pub struct Asked {
     pub doubled: bool,
     pub numbers: [u64; NUMBERS],

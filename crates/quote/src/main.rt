@@ -3,6 +3,8 @@
 // --doubled twice each. Where a word is no whole number of 1 to 65,535 it prints only `refused 20`. Crate latency has
 // the formulas. What is read and written no contract can say: `number` and `text` have contracts, the other functions
 // are proved safe and ending.
+#![tactic(auto)]
+
 mod asked;
 mod number;
 mod text;

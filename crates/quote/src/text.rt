@@ -13,7 +13,7 @@ use types::Counts;
 pub const TEXT: usize = 92;
 
 // The refusal or 0, and how many bytes of text stand at the front of the lent ones.
-#[derive(Drop)]
+#[derive(Clone, Copy)]
 pub struct Quoted {
     pub refusal: u8,
     pub count: usize,

@@ -1,6 +1,8 @@
 // What `play`, `batch` and `rewrite` share: the bytes of an archive, read as far as they are seen, and the lines printed
 // of a played archive. `answer_line`, `service_lines` and `add_..` compose the lines in lent bytes; their contracts settle
 // each byte. What is read and written no contract can say: the functions that do it are proved safe and ending.
+#![tactic(auto)]
+
 mod adding;
 mod text;
 
@@ -23,7 +25,7 @@ pub const ANSWER: usize = 113;
 const SERVICE: usize = 14;
 
 // A reading: how many bytes stand at the front of the lent room; none if it failed.
-#[derive(Drop)]
+#[derive(Clone, Copy)]
 pub struct Seen {
     pub failed: bool,
     pub count: usize,

@@ -1,6 +1,8 @@
 // Reads archives and writes them back: `rewrite NAME..`. Of each file it sees up to 65,536 bytes, and prints one line:
 // `NAME: same L bytes`, `NAME: refused N`, `NAME: DIFFERS` or `NAME: cannot be read`; then a last line with the totals.
 // A test of reader and writer over the corpus; it assumes nothing of the files.
+#![tactic(auto)]
+
 mod one;
 
 use libc::{STDERR_FILENO, STDOUT_FILENO};

@@ -7,7 +7,7 @@ use types::Run;
 const FILL: u8 = 165;
 
 // Files so far; `lost` if something could not be printed.
-#[derive(Drop)]
+#[derive(Clone, Copy)]
 pub struct Totals {
     pub files: u64,
     pub same: u64,

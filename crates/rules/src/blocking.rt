@@ -12,7 +12,7 @@ use crate::router::{Choice, choose, unserved};
 use types::{Input, Network, Output};
 
 // The router's answer: its choice; where nothing serves the outputs in the way, else none.
-#[derive(Drop)]
+#[derive(Clone, Copy)]
 pub struct Answered {
     pub found: Choice,
     pub blocking: u64,

@@ -13,7 +13,7 @@ use crate::terminators::{give_terminators, phase_terminators};
 use types::{Connection, Input, Output, Phase, Terminator};
 
 // What becomes of a net-input and the site's outputs.
-#[derive(Drop)]
+#[derive(Clone, Copy)]
 pub struct InputTurn {
     pub outputs: [Output; base::OUTPUTS],
     pub input: Input,

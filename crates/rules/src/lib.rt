@@ -2,6 +2,8 @@
 // and proved equal to the definitions of crate model: the router, with the outputs in the way where it fails (L7), the
 // net-inputs, the net-outputs, the out-queue, the operator and the timeout.
 // Every public function takes anything.
+#![tactic(auto)]
+
 mod blocking;
 mod branch;
 mod inputs;

@@ -12,7 +12,7 @@ use crate::queues::{end_last, last_lacks, pop_out, push_in, start_front};
 use types::{InEntry, InQueue, Input, OutQueue, Output, Received, Terminator};
 
 // What becomes of output 0 and its in-queue, or the split output and its.
-#[derive(Drop)]
+#[derive(Clone, Copy)]
 pub struct LocalTurn {
     pub queue: InQueue,
     pub output: Output,
@@ -20,7 +20,7 @@ pub struct LocalTurn {
 }
 
 // What becomes of an output 1 to 4 and the input at the end of its channel.
-#[derive(Drop)]
+#[derive(Clone, Copy)]
 pub struct ChannelTurn {
     pub output: Output,
     pub input: Input,
@@ -28,7 +28,7 @@ pub struct ChannelTurn {
 }
 
 // What becomes of the out-queue and net-input 0.
-#[derive(Drop)]
+#[derive(Clone, Copy)]
 pub struct QueueTurn {
     pub queue: OutQueue,
     pub input: Input,

@@ -7,7 +7,7 @@ ghost use Rattle.rules.specs.Router.{of_gathered, search_only, Routed};
 use types::Output;
 
 // The sets chosen for the outputs, and whether every target got an output.
-#[derive(Drop)]
+#[derive(Clone, Copy)]
 pub struct Gathering {
     pub sets: [u64; base::OUTPUTS],
     pub every: bool,

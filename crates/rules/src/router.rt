@@ -12,7 +12,7 @@ use crate::ports::{first_serving, gather_outputs, list_of};
 use types::{Connection, Network, Output};
 
 // What the router says: whether anything serves, the connection, and the set that each output gets; 0 for an output not chosen.
-#[derive(Drop)]
+#[derive(Clone, Copy)]
 pub struct Choice {
     pub sets: [u64; base::OUTPUTS],
     pub connection: Connection,

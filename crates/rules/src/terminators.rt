@@ -8,7 +8,7 @@ use crate::phases::with_terminator;
 use types::{Connection, Output, Phase, Received, Terminator};
 
 // What the table gives: to the other outputs, and to output 0.
-#[derive(Drop)]
+#[derive(Clone, Copy)]
 struct Cell {
     remote: Terminator,
     local: Terminator,

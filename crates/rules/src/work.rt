@@ -8,7 +8,7 @@ use crate::queues::{pop_in, push_out};
 use types::{InEntry, InQueue, OutEntry, OutQueue, Terminator};
 
 // What becomes of both queues, and whether packet was serviced.
-#[derive(Drop)]
+#[derive(Clone, Copy)]
 pub struct OperatorTurn {
     pub incoming: InQueue,
     pub outgoing: OutQueue,

@@ -1,5 +1,7 @@
 // Sets of sites: a set is a u64 whose bit t says whether site t is in it. Every function takes any set and any site
 // number; no site from 64 on is in a set. specs/Sets.antt has the definitions.
+#![tactic(auto)]
+
 ghost use Rattle.std.specs.Prelude.{◌≡◌, cond, ltb, eqb};
 ghost use Rattle.base.specs.Sizes.{set_bits};
 ghost use Rattle.sets.specs.Sets as spec;

@@ -2,6 +2,8 @@
 // each with its own network and state, calls SEND or RUN, and writes `refusal answer packet site`, for a RUN that asks for
 // them the outputs in the way too, and the state handed back. A narrow case is of version 1 and has 16 sites; a wide one says version and edition and has 64. `stdin` and
 // `stdout` are the second model's, by its program `cases`.
+#![tactic(auto)]
+
 mod line;
 mod numbers;
 mod site;
@@ -15,13 +17,13 @@ use site::{FIRST, NUMBERS};
 use text::{Cursor, PIECE};
 use types::{Network, Ran, Sent, State};
 
-#[derive(Drop)]
+#[derive(Clone, Copy)]
 struct ReadNetwork {
     network: Network,
     cursor: Cursor,
 }
 
-#[derive(Drop)]
+#[derive(Clone, Copy)]
 struct ReadState {
     state: State,
     cursor: Cursor,
@@ -34,7 +36,7 @@ fn short_of(n: u64) -> u16
 }
 
 // How a case begins: version and edition, S, T and D.
-#[derive(Drop)]
+#[derive(Clone, Copy)]
 struct Head {
     version: u64,
     edition: u64,

@@ -9,7 +9,7 @@ use crate::site::NUMBERS;
 pub(crate) const PIECE: usize = 4096;
 
 // Where the next byte of the piece is, how many bytes the piece has, and whether the text is at its end.
-#[derive(Drop)]
+#[derive(Clone, Copy)]
 pub(crate) struct Cursor {
     pub at: usize,
     pub end: usize,
@@ -17,13 +17,13 @@ pub(crate) struct Cursor {
 }
 
 // A digit, or 10 for any other byte and the end of the text.
-#[derive(Drop)]
+#[derive(Clone, Copy)]
 struct Digit {
     value: u8,
     cursor: Cursor,
 }
 
-#[derive(Drop)]
+#[derive(Clone, Copy)]
 pub(crate) struct ReadNumber {
     pub value: u64,
     pub cursor: Cursor,

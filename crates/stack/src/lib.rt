@@ -1,6 +1,8 @@
 // For the test of the stack alone (tests/stack/): the reader under a C name. It is called in one place, so that the
 // compiler puts it into the function that C calls. What that one answers may be made of any channel, route and send of
 // the run, so that no array of the run can be left out.
+#![tactic(auto)]
+
 ghost use Rattle.std.specs.Prelude.{◌<◌};
 
 // What k picks of the run, a channel, a route and a send, as the digits of one number below 2^62.

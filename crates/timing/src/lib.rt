@@ -1,6 +1,8 @@
 // For the benchmark alone (bench/): the product's public functions, called so many times, under C names. A caller lends
 // slices and passes numbers; every function takes any of them. What they answer is a number that depends on the work,
 // so that none of it can be left out.
+#![tactic(auto)]
+
 mod archives;
 mod events;
 

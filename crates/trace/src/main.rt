@@ -1,6 +1,8 @@
 // Tells what happened in a stored run: `trace [--front NAME] [--all | --why | --apart] [--] FILE`. docs/TRACE.md has
 // the lines. The run is played by the public single events on lent words, one after the other, each with all its checks;
 // with --apart nothing is played. Assumes nothing of the file.
+#![tactic(auto)]
+
 mod apart;
 mod places;
 mod printed;
@@ -12,7 +14,7 @@ use front::Words;
 use libc::{STDERR_FILENO, STDOUT_FILENO};
 
 // What the arguments ask for.
-#[derive(Drop)]
+#[derive(Clone, Copy)]
 struct Asked {
     all: bool,
     why: bool,

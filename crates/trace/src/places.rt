@@ -5,7 +5,7 @@
 use layout::{ARRIVED_FROM, COUNTS_FROM, LEAVING_FROM, OUTPUTS_FROM, SITE_PLACES};
 
 // A net-input: bit j of the marks is connected output j.
-#[derive(Drop)]
+#[derive(Clone, Copy)]
 pub struct Input {
     pub state: usize,
     pub connection: usize,
@@ -16,7 +16,7 @@ pub struct Input {
 
 // A net-output: its set, whether its head is taken and whether it is closing, its terminator and packet, and the net-input
 // that feeds it.
-#[derive(Drop)]
+#[derive(Clone, Copy)]
 pub struct Output {
     pub set: usize,
     pub head: bool,
@@ -27,7 +27,7 @@ pub struct Output {
 }
 
 // An out-queue: its count, its front, and the set of its last entry.
-#[derive(Drop)]
+#[derive(Clone, Copy)]
 pub struct Leaving {
     pub count: usize,
     pub started: bool,

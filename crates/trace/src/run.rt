@@ -25,7 +25,7 @@ pub const NOT_WRITTEN: u8 = 1;
 pub const REFUSED: u8 = 2;
 
 // A run under way: the next send, the clock of the draws, what was counted, and why it stopped.
-#[derive(Drop)]
+#[derive(Clone, Copy)]
 pub struct Traced {
     pub next: usize,
     pub stop: u8,

@@ -1,6 +1,8 @@
 // The types (document 01, "Network and state", with what L4, L6 and L10 add), and the document's number for each case of an enum.
 // First variants are the zero ones. specs/ has the numbers and what a state and a terminator tell; document 01's other
 // definitions over these types are in crate model.
+#![tactic(auto)]
+
 mod phases;
 
 ghost use Rattle.std.specs.Prelude.{◌≡◌};
@@ -9,7 +11,7 @@ ghost use Rattle.types.specs.Numbers.{state_number, connection_number, received_
 pub use phases::{is_free, is_none, is_split};
 
 // How a net-input is connected to its outputs; 0 is none, which is no variant: free and seek have no connection.
-#[derive(Drop)]
+#[derive(Clone, Copy)]
 pub enum Connection {
     Unicast,
     Passthru,
@@ -20,14 +22,14 @@ pub enum Connection {
 }
 
 // A terminator that a net-input received.
-#[derive(Drop)]
+#[derive(Clone, Copy)]
 pub enum Received {
     End,
     Abort,
 }
 
 // A terminator that an output or an in-queue entry holds.
-#[derive(Drop)]
+#[derive(Clone, Copy)]
 pub enum Terminator {
     None,
     End,
@@ -36,7 +38,7 @@ pub enum Terminator {
 }
 
 // A net-input's state, with the connection and the received terminator of those states that have one.
-#[derive(Drop)]
+#[derive(Clone, Copy)]
 pub enum Phase {
     Free,
     Seek,
@@ -49,7 +51,7 @@ pub enum Phase {
 }
 
 // A net-input. outputs marks the connected ones.
-#[derive(Drop)]
+#[derive(Clone, Copy)]
 pub struct Input {
     pub set: u64,
     pub phase: Phase,
@@ -60,7 +62,7 @@ pub struct Input {
 
 // A net-output. input is the net-input that feeds it; head tells whether its head is taken; closing whether its terminator is
 // delivered and its channel still held.
-#[derive(Drop)]
+#[derive(Clone, Copy)]
 pub struct Output {
     pub set: u64,
     pub terminator: Terminator,
@@ -71,14 +73,14 @@ pub struct Output {
     pub closing: bool,
 }
 
-#[derive(Drop)]
+#[derive(Clone, Copy)]
 pub struct OutEntry {
     pub set: u64,
     pub packet: u8,
     pub started: bool,
 }
 
-#[derive(Drop)]
+#[derive(Clone, Copy)]
 pub struct InEntry {
     pub set: u64,
     pub terminator: Terminator,
@@ -86,20 +88,20 @@ pub struct InEntry {
 }
 
 // A queue: its entries from the front, and how many there are.
-#[derive(Drop)]
+#[derive(Clone, Copy)]
 pub struct OutQueue {
     pub entries: [OutEntry; base::QUEUE],
     pub count: usize,
 }
 
-#[derive(Drop)]
+#[derive(Clone, Copy)]
 pub struct InQueue {
     pub entries: [InEntry; base::QUEUE],
     pub count: usize,
 }
 
 // A site: its net-outputs are 0 to 4 and the split output, its in-queues that of output 0 and that of the split output.
-#[derive(Drop)]
+#[derive(Clone, Copy)]
 pub struct Site {
     pub inputs: [Input; base::INPUTS],
     pub outputs: [Output; base::OUTPUTS],
@@ -107,7 +109,7 @@ pub struct Site {
     pub incoming: [InQueue; base::IN_QUEUES],
 }
 
-#[derive(Drop)]
+#[derive(Clone, Copy)]
 pub struct State {
     pub sites: [Site; base::SITES],
     pub counter: u8,
@@ -115,7 +117,7 @@ pub struct State {
 
 // A network: the stored version and the edition of the rules that it goes by; S, T, D; a channel for each site and port 1 to
 // 4; a route for each from-site and to-site, in rows of S.
-#[derive(Drop)]
+#[derive(Clone, Copy)]
 pub struct Network {
     pub sites: usize,
     pub depth: usize,
@@ -127,7 +129,7 @@ pub struct Network {
 }
 
 // A send as a run stores it: applied before draw number `draw`.
-#[derive(Drop)]
+#[derive(Clone, Copy)]
 pub struct StoredSend {
     pub set: u64,
     pub draw: u16,
@@ -135,7 +137,7 @@ pub struct StoredSend {
 }
 
 // A stored run: the first `count` of its sends.
-#[derive(Drop)]
+#[derive(Clone, Copy)]
 pub struct Run {
     pub network: Network,
     pub seed: u32,
@@ -145,14 +147,14 @@ pub struct Run {
 }
 
 // The answer of SEND: the packet number, or why it is turned down.
-#[derive(Drop)]
+#[derive(Clone, Copy)]
 pub enum Sent {
     Accepted(u8),
     Refused(u8),
 }
 
 // The answer of RUN: 0, 1, 2 with packet and site, or why it is turned down.
-#[derive(Drop)]
+#[derive(Clone, Copy)]
 pub enum Ran {
     Nothing,
     Changed,
@@ -160,14 +162,14 @@ pub enum Ran {
     Refused(u8),
 }
 
-#[derive(Drop)]
+#[derive(Clone, Copy)]
 pub struct AfterSend {
     pub answer: Sent,
     pub state: State,
 }
 
 // RUN's answer, the outputs that stand in the packet's way where the router failed, and the next state.
-#[derive(Drop)]
+#[derive(Clone, Copy)]
 pub struct AfterRun {
     pub answer: Ran,
     pub blocking: u64,
@@ -175,14 +177,14 @@ pub struct AfterRun {
 }
 
 // The same of a RUN that leaves the next state in lent words.
-#[derive(Drop)]
+#[derive(Clone, Copy)]
 pub struct RunAnswer {
     pub answer: Ran,
     pub blocking: u64,
 }
 
 // What the player counts over a run.
-#[derive(Drop)]
+#[derive(Clone, Copy)]
 pub struct Counts {
     pub accepted: usize,
     pub pairs: usize,

@@ -4,6 +4,8 @@
 // packet (blocking); SEND in place (sends); both on any lent words, with their refusals (events, refusals); the owed pairs
 // (owing); the player over words (player).
 // specs/Words.antt says which state words stand for.
+#![tactic(auto)]
+
 mod arms;
 mod blocking;
 mod events;

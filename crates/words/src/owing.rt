@@ -9,7 +9,7 @@ use crate::form::is_state;
 use crate::load::load_site;
 
 // The owed pairs of lent words, or 13.
-#[derive(Drop)]
+#[derive(Clone, Copy)]
 pub struct OwedAnswer {
     pub pairs: usize,
     pub refusal: u8,

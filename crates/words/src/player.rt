@@ -17,7 +17,7 @@ use types::{Counts, Network, Sent, StoredSend};
 
 // Where a run stands beside its state and its book: the packets accepted, their summed set sizes, the services, the next stored send,
 // the run clock.
-#[derive(Drop)]
+#[derive(Clone, Copy)]
 pub struct Tally {
     pub accepted: usize,
     pub pairs: usize,
