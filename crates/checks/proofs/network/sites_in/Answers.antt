@@ -1,0 +1,10 @@
+-- `network::sites_in` meets its contract. Assumes nothing.
+use mathlib.Core.Path.{refl}
+use borrow.Author.Tests.{eq-eqb, ne_eqb}
+use Rattle.checks.proofs.network.sites_in.Goals as goal
+
+pub returns-then-version-eq1 : goal.returns-then-version-eq1
+returns-then-version-eq1 c = rw (eq-eqb _ _ c.if-version-eq1.true) refl
+
+pub returns : goal.returns
+returns c = rw (ne_eqb _ _ c.if-version-eq1.false) refl

@@ -1,0 +1,7 @@
+use mathlib.Core.Path.{refl}
+use Rattle.base.specs.All.{any}
+use Rattle.checks.proofs.range.places.any_mark.Goals as goal
+
+pub returns : goal.returns
+unfolding any
+returns c = refl
