@@ -3,9 +3,4 @@ use mathlib.Core.Path.{refl, ◌∙◌}
 use Rattle.archive.proofs.mover.move_send.Goals as goal
 
 pub returns : goal.returns
-returns c =
-    let put-send = c.put_send in
-    let send_at-send = c.IsSend-at in
-    let send-place = c.send_place in
-    let send-place2 = c.send_place-2 in
-    put-send.ensures ∙ rw (send_at-send.ensures, send-place.ensures, send-place2.ensures) refl
+returns c = c.put_send.ensures ∙ rw (c.send_at-send.ensures, c.send_place.ensures, c.send_place-2.ensures) refl
