@@ -1,0 +1,13 @@
+use Rattle.words.proofs.inputs.readies.Goals as goal
+
+-- src/inputs.rt:77:1
+pub returns : goal.returns
+returns c =
+    rw (
+      c.is_split_ready.ensures,
+      c.is_ready-4.ensures,
+      c.is_ready-3.ensures,
+      c.is_ready-2.ensures,
+      c.is_ready.ensures,
+      c.is_taken-own.ensures,
+    )

@@ -1,0 +1,9 @@
+use Rattle.words.proofs.InputArm.{sought_by}
+use Rattle.words.proofs.inputs.seeking.Goals as goal
+
+-- src/inputs.rt:176:1
+pub returns : goal.returns
+returns c =
+    let a = c.args in
+    sought_by a.edition a.routes.now a.sites a.tries a.s a.i _ _ _ _ _ _
+    c.load_input-input.ensures c.load_seen-outputs.ensures c.route_in-choice.ensures c.seek_turn.ensures

@@ -1,0 +1,8 @@
+use Rattle.layout.proofs.Storing.{stored_output}
+use Rattle.words.proofs.store.store_output.Goals as goal
+
+-- src/store.rt:48:1
+pub returns : goal.returns
+returns c =
+    rw c.store_place.ensures
+    (stored_output _ _ c.requires.0 c.requires.2 _ _ _ c.requires.1 c.output_word-w.ensures)
