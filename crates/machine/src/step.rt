@@ -63,8 +63,8 @@ fn took(site: Site, next: Site, moved: bool) -> Change
 
 // Codes 0 to 4: net-input i.
 fn input_step(network: Network, s: usize, site: Site, far: [Input; base::PORTS], i: usize) -> Change
-    requires fact_1 { Runnable network s site }
-    requires fact_2 { i < input_count }
+    requires runnable { Runnable network s site }
+    requires place { i < input_count }
     ensures { result ≡ of_act network s site (input_act network s site (far_at far) i) }
 {
     let input = site.inputs[i];
@@ -203,8 +203,8 @@ fn output_step(
     far: [Input; base::PORTS],
     j: usize,
 ) -> Change
-    requires fact_1 { Runnable network s site }
-    requires fact_2 { j ≤ port_count }
+    requires runnable { Runnable network s site }
+    requires place { j ≤ port_count }
     ensures { result ≡ of_act network s site (steps.net_output network s site (far_at far) j) }
 {
     if j == 0 {

@@ -40,8 +40,8 @@ fn end_of(site: Site, channel: u16) -> Input
 
 // What RUN sees at site s.
 pub(crate) fn seen_at(network: Network, state: State, s: usize) -> Seen
-    requires fact_1 { s < sites_most }
-    requires fact_2 { EndsWithin network s }
+    requires site { s < sites_most }
+    requires ends { EndsWithin network s }
     ensures { result ≡ seen_at network state.sites s }
 {
     let first = channel_at(network, s, 0);
@@ -106,8 +106,8 @@ fn is_pass(act: Act) -> bool
 
 // The state after a change at site s; where nothing changes it is handed back as it is.
 pub(crate) fn store_change(state: State, s: usize, change: Change) -> State
-    requires fact_1 { s < sites_most }
-    requires fact_2 { Passable change }
+    requires site { s < sites_most }
+    requires passable { Passable change }
     ensures { result ≡ stored_state state s change }
 {
     let act = change.act;

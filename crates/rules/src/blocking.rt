@@ -41,8 +41,8 @@ fn ports_of(list: [usize; base::PORTS]) -> u64
 
 // Output 0 for {s}, else the ports in the list of the lowest target other than s.
 fn ways_of(routes: &[u16], sites: usize, s: usize, set: u64) -> u64
-    requires fact_1 { Routed routes.now sites s }
-    requires fact_2 { (0 < set) × (set < 2 ^ sites) }
+    requires routed { Routed routes.now sites s }
+    requires targets { (0 < set) × (set < 2 ^ sites) }
     ensures { result ≡ those (ways (search_only sites routes.now) s set) output_count }
 {
     if set == sets::only(s) {

@@ -59,8 +59,8 @@ pub(crate) fn first_serving(
 
 // The ports of the route from s to t.
 pub(crate) fn list_of(routes: &[u16], sites: usize, s: usize, t: usize) -> [usize; base::PORTS]
-    requires fact_1 { Routed routes.now sites s }
-    requires fact_2 { t < sites }
+    requires routed { Routed routes.now sites s }
+    requires target { t < sites }
     ensures { result ≡ list_of (search_only sites routes.now) s t }
 {
     ports(routes[s * sites + t])

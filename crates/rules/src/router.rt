@@ -106,8 +106,8 @@ fn way_to(
     outputs: [Output; base::OUTPUTS],
     targets: u64,
 ) -> usize
-    requires fact_1 { Routed routes.now sites s }
-    requires fact_2 { lowest targets < sites }
+    requires routed { Routed routes.now sites s }
+    requires target { lowest targets < sites }
     ensures { (result ≡ first_empty outputs (list_of (search_only sites routes.now) s (lowest targets))) × (result ≤ port_count) }
 {
     let t = sets::lowest(targets);
@@ -125,8 +125,8 @@ fn to_other(
     set: u64,
     targets: u64,
 ) -> Choice
-    requires fact_1 { Routed routes.now sites s }
-    requires fact_2 { lowest targets < sites }
+    requires routed { Routed routes.now sites s }
+    requires target { lowest targets < sites }
     ensures { result ≡ of_choice (to_other (search_only sites routes.now) s outputs connection set (lowest targets)) }
 {
     let p = way_to(routes, sites, s, outputs, targets);
@@ -190,8 +190,8 @@ fn spread_or_pass(
     outputs: [Output; base::OUTPUTS],
     set: u64,
 ) -> Choice
-    requires fact_1 { Routed routes.now sites s }
-    requires fact_2 { lowest (minus s set) < sites }
+    requires routed { Routed routes.now sites s }
+    requires target { lowest (minus s set) < sites }
     ensures { result ≡ of_choice (spread_or_pass (search_only sites routes.now) s outputs set) }
 {
     let others = sets::without(set, s);
@@ -210,8 +210,8 @@ fn branch_or_pass(
     outputs: [Output; base::OUTPUTS],
     set: u64,
 ) -> Choice
-    requires fact_1 { Routed routes.now sites s }
-    requires fact_2 { lowest (minus s set) < sites }
+    requires routed { Routed routes.now sites s }
+    requires target { lowest (minus s set) < sites }
     ensures { result ≡ of_choice (branch_or_pass (search_only sites routes.now) s outputs set) }
 {
     let others = sets::without(set, s);
@@ -228,8 +228,8 @@ fn choose_several(
     outputs: [Output; base::OUTPUTS],
     set: u64,
 ) -> Choice
-    requires fact_1 { Routed routes.now sites s }
-    requires fact_2 { lowest (minus s set) < sites }
+    requires routed { Routed routes.now sites s }
+    requires target { lowest (minus s set) < sites }
     ensures { result ≡ of_choice (several (routes_only edition sites routes.now) s outputs set) }
 {
     if draws::is_restricted(edition) {
@@ -247,8 +247,8 @@ pub(crate) fn choose(
     outputs: [Output; base::OUTPUTS],
     set: u64,
 ) -> Choice
-    requires fact_1 { Routed routes.now sites s }
-    requires fact_2 { (0 < set) × (set < 2 ^ sites) }
+    requires routed { Routed routes.now sites s }
+    requires targets { (0 < set) × (set < 2 ^ sites) }
     ensures { result ≡ of_choice (route (routes_only edition sites routes.now) s outputs set) }
 {
     if set == sets::only(s) {

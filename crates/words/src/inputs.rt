@@ -184,9 +184,9 @@ fn seek_in_place(
     s: usize,
     i: usize,
 ) -> Ran
-    requires fact_1 { i < input_count }
-    requires fact_2 { spec.Seekable routes.now sites words.old s i }
-    requires fact_3 { state_number (in_at (site_in words.old s) i).phase ≡ 1 }
+    requires place { i < input_count }
+    requires seekable { spec.Seekable routes.now sites words.old s i }
+    requires seeks { state_number (in_at (site_in words.old s) i).phase ≡ 1 }
     ensures { spec.DidSought edition routes.now sites tries words.old words.new s result i }
 {
     let turn = seeking(edition, routes, sites, tries, words, s, i);
@@ -206,9 +206,9 @@ pub(crate) fn input_in_place(
     s: usize,
     i: usize,
 ) -> Ran
-    requires fact_1 { (i < input_count) × (length channels.now ≡ end_count) }
-    requires fact_2 { spec.ChannelsWithin channels.now s }
-    requires fact_3 { spec.Seekable routes.now sites words.old s i }
+    requires place { (i < input_count) × (length channels.now ≡ end_count) }
+    requires within { spec.ChannelsWithin channels.now s }
+    requires seekable { spec.Seekable routes.now sites words.old s i }
     ensures { spec.DidAsked edition channels.now routes.now sites tries words.old
         words.new s result i }
 {

@@ -1,0 +1,19 @@
+use mathlib.Core.Path.{refl}
+use Rattle.rules.proofs.Kept.{cut_kept}
+use Rattle.rules.proofs.timeout.cut_phase.Goals as goal
+
+pub returns-in-Open : goal.returns-in-Open
+returns-in-Open c = rw c.in-Open.is refl
+
+pub returns-in-Wait : goal.returns-in-Wait
+returns-in-Wait c = rw c.in-Wait.is refl
+
+pub returns-in-Done : goal.returns-in-Done
+returns-in-Done c = rw c.in-Done.is refl
+
+pub returns-in-Last : goal.returns-in-Last
+returns-in-Last c = rw c.in-Last.is refl
+
+pub returns-in_default : goal.returns-in_default
+returns-in_default c = cut_kept
+    c.args.phase c.in_default.not-Open c.in_default.not-Wait c.in_default.not-Done c.in_default.not-Last
