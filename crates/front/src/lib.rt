@@ -12,7 +12,7 @@ mod words;
 
 pub use desk::Desk;
 pub use files::{no_input, read_argument, read_file, read_input};
-pub use message::{helped, no_output, print, print_usage, say, too_long};
+pub use message::{helped, misused, no_output, print, print_usage, say, too_long};
 pub use pattern::{VALUES, add_word, fill};
 pub use words::{
     Called, DONE, FAILED, WHO, WRONG, Words, arg_count, begin, no_words, take_word, tell,

@@ -3,7 +3,7 @@
 ghost use Rattle.std.specs.Prelude.{◌≤◌, length};
 
 use crate::desk::Desk;
-use crate::words::{DONE, FAILED};
+use crate::words::{DONE, FAILED, WRONG};
 use std::io;
 use std::io::{Error, ErrorKind, Print, Write};
 
@@ -134,8 +134,11 @@ pub fn print(rt: &impl Desk, who: &[u8], text: &[u8]) -> bool {
     }
 }
 
-// Says that standard output cannot be written, and why.
+// Says that standard output cannot be written, and why. Of a pipe whose reader has gone it says nothing.
 pub fn no_output(rt: &impl Desk, who: &[u8], error: Error) {
+    if matches!(error.kind(), ErrorKind::BrokenPipe) {
+        return;
+    }
     say_system(rt, who, b"standard output", b" cannot be written", error);
 }
 
@@ -157,6 +160,13 @@ pub fn print_usage(to: &impl Print, who: &[u8], words: &[u8], meaning: &[u8]) ->
     let end = report::add_bytes(&mut line, named, words);
     to.write_all(&line[..end])?;
     to.write_all(meaning)
+}
+
+// The status of wrong use, whose usage was printed behind a message, or is lost.
+pub fn misused(printed: io::Result<()>) -> u64 {
+    match printed {
+        Ok(()) | Err(_) => WRONG,
+    }
 }
 
 // The status of a call for help, whose usage could be printed or not.

@@ -5,7 +5,6 @@ use Rattle.report.proofs.Adds.{front_is}
 use Rattle.report.proofs.adding.add_answer.Goals as goal
 
 -- the line lies within its room
-
 pub slice_bounds-line-end : goal.slice_bounds-line-end
 slice_bounds-line-end c =
     let n = c.answer_line-n in
