@@ -9,21 +9,21 @@ use Rattle.archive.specs.contracts.write as the-write
 use Rattle.archive.specs.contracts.move_over as the-move-over
 use Rattle.archive.specs.contracts.move_back as the-move-back
 
-pub read_settled : Settles the-read.ended (λ M. the-read.clauses) (λ M. the-read.spec)
+pub read_settled : Settles the-read.ended (λ M 𝓤. the-read.clauses) (λ M 𝓤. the-read.spec)
 read_settled = settled (λ κs a x y p q. refl) (λ κs a x y p q i. (same p q i, x.1))
 
-pub check_settled : Settles the-check.ended (λ M. the-check.clauses) (λ M. the-check.spec)
+pub check_settled : Settles the-check.ended (λ M 𝓤. the-check.clauses) (λ M 𝓤. the-check.spec)
 check_settled = settled (λ κs a x y p q. refl) (λ κs a x y p q i. (same p q i, x.1))
 
 -- the answer, and every byte of the lent `out`
-pub write_settled : Settles the-write.ended (λ M. the-write.clauses) (λ M. the-write.spec)
+pub write_settled : Settles the-write.ended (λ M 𝓤. the-write.clauses) (λ M 𝓤. the-write.spec)
 write_settled = settled (λ κs a. beside value (beside (behind (inputs the-write.ended κs).1.0) value))
     (λ κs a x y p q i. (same p.0 q.0 i, (tt, (same p.1 q.1 i, tt))))
 
-pub move_over_settled : Settles the-move-over.ended (λ M. the-move-over.clauses) (λ M. the-move-over.spec)
+pub move_over_settled : Settles the-move-over.ended (λ M 𝓤. the-move-over.clauses) (λ M 𝓤. the-move-over.spec)
 move_over_settled = settled (λ κs a. beside value (beside (behind (inputs the-move-over.ended κs).1.0) value))
     (λ κs a x y p q i. (same p.0 q.0 i, (tt, (same p.1 q.1 i, tt))))
 
-pub move_back_settled : Settles the-move-back.ended (λ M. the-move-back.clauses) (λ M. the-move-back.spec)
+pub move_back_settled : Settles the-move-back.ended (λ M 𝓤. the-move-back.clauses) (λ M 𝓤. the-move-back.spec)
 move_back_settled = settled (λ κs a. beside value (beside (behind (inputs the-move-back.ended κs).1.0) value))
     (λ κs a x y p q i. (same p.0 q.0 i, (tt, (same p.1 q.1 i, tt))))

@@ -10,20 +10,20 @@ use Rattle.callers.specs.contracts.play_beside as the-play-beside
 use Rattle.callers.specs.contracts.two_draws as the-two-draws
 
 -- the answer and the next state
-pub run_settled : Settles the-run.ended (λ M. the-run.clauses) (λ M. the-run.spec)
+pub run_settled : Settles the-run.ended (λ M 𝓤. the-run.clauses) (λ M 𝓤. the-run.spec)
 run_settled = settled (λ κs a x y p q. refl) (λ κs a x y p q i. (same p q i, x.1))
 
 -- the answer and the next state
-pub send_settled : Settles the_send.ended (λ M. the_send.clauses) (λ M. the_send.spec)
+pub send_settled : Settles the_send.ended (λ M 𝓤. the_send.clauses) (λ M 𝓤. the_send.spec)
 send_settled = settled (λ κs a x y p q. refl) (λ κs a x y p q i. (same p q i, x.1))
 
 -- the answer, and every byte of the lent `book`
-pub play_settled : Settles the-play.ended (λ M. the-play.clauses) (λ M. the-play.spec)
+pub play_settled : Settles the-play.ended (λ M 𝓤. the-play.clauses) (λ M 𝓤. the-play.spec)
 play_settled = settled (λ κs a. beside value (beside (behind (inputs the-play.ended κs).1.0) value))
     (λ κs a x y p q i. (same p.0 q.0 i, (tt, (same p.1 q.1 i, tt))))
 
 -- the answer, every byte of the lent `book`, every byte of the lent `beside`
-pub play_beside_settled : Settles the-play-beside.ended (λ M. the-play-beside.clauses) (λ M. the-play-beside.spec)
+pub play_beside_settled : Settles the-play-beside.ended (λ M 𝓤. the-play-beside.clauses) (λ M 𝓤. the-play-beside.spec)
 play_beside_settled = settled
     (λ κs a.
     let i = inputs the-play-beside.ended κs in
@@ -31,5 +31,5 @@ play_beside_settled = settled
     (λ κs a x y p q i. (same p.0 q.0 i, (tt, (same p.1 q.1 i, (same p.2 q.2 i, tt)))))
 
 -- the second answer and the state after it
-pub two_draws_settled : Settles the-two-draws.ended (λ M. the-two-draws.clauses) (λ M. the-two-draws.spec)
+pub two_draws_settled : Settles the-two-draws.ended (λ M 𝓤. the-two-draws.clauses) (λ M 𝓤. the-two-draws.spec)
 two_draws_settled = settled (λ κs a x y p q. refl) (λ κs a x y p q i. (same p q i, x.1))

@@ -16,38 +16,38 @@ use Rattle.checks.specs.contracts.stored_ok as the-stored-ok
 use Rattle.checks.specs.contracts.kind_refusal as the-kind-refusal
 use Rattle.checks.specs.contracts.far_apart as the-far-apart
 
-pub network_refusal_settled : Settles the-network-refusal.ended (λ M. the-network-refusal.clauses) (λ M. the-network-refusal.spec)
+pub network_refusal_settled : Settles the-network-refusal.ended (λ M 𝓤. the-network-refusal.clauses) (λ M 𝓤. the-network-refusal.spec)
 network_refusal_settled = settled (λ κs a x y p q. refl) (λ κs a x y p q i. (same p q i, x.1))
 
-pub is_in_range_settled : Settles the-is-in-range.ended (λ M. the-is-in-range.clauses) (λ M. the-is-in-range.spec)
+pub is_in_range_settled : Settles the-is-in-range.ended (λ M 𝓤. the-is-in-range.clauses) (λ M 𝓤. the-is-in-range.spec)
 is_in_range_settled = settled (λ κs a x y p q. refl) (λ κs a x y p q i. (same p q i, x.1))
 
-pub place_ok_settled : Settles the-place-ok.ended (λ M. the-place-ok.clauses) (λ M. the-place-ok.spec)
+pub place_ok_settled : Settles the-place-ok.ended (λ M 𝓤. the-place-ok.clauses) (λ M 𝓤. the-place-ok.spec)
 place_ok_settled = settled (λ κs a x y p q. refl) (λ κs a x y p q i. (same p q i, x.1))
 
-pub event_refusal_settled : Settles the-event-refusal.ended (λ M. the-event-refusal.clauses) (λ M. the-event-refusal.spec)
+pub event_refusal_settled : Settles the-event-refusal.ended (λ M 𝓤. the-event-refusal.clauses) (λ M 𝓤. the-event-refusal.spec)
 event_refusal_settled = settled (λ κs a x y p q. refl) (λ κs a x y p q i. (same p q i, x.1))
 
-pub send_fault_settled : Settles the-send-fault.ended (λ M. the-send-fault.clauses) (λ M. the-send-fault.spec)
+pub send_fault_settled : Settles the-send-fault.ended (λ M 𝓤. the-send-fault.clauses) (λ M 𝓤. the-send-fault.spec)
 send_fault_settled = settled (λ κs a x y p q. refl) (λ κs a x y p q i. (same p q i, x.1))
 
-pub sizes_ok_settled : Settles the-sizes-ok.ended (λ M. the-sizes-ok.clauses) (λ M. the-sizes-ok.spec)
+pub sizes_ok_settled : Settles the-sizes-ok.ended (λ M 𝓤. the-sizes-ok.clauses) (λ M 𝓤. the-sizes-ok.spec)
 sizes_ok_settled = settled (λ κs a x y p q. refl) (λ κs a x y p q i. (same p q i, x.1))
 
-pub is_input_settled : Settles the-is-input.ended (λ M. the-is-input.clauses) (λ M. the-is-input.spec)
+pub is_input_settled : Settles the-is-input.ended (λ M 𝓤. the-is-input.clauses) (λ M 𝓤. the-is-input.spec)
 is_input_settled = settled (λ κs a x y p q. refl) (λ κs a x y p q i. (same p q i, x.1))
 
-pub ports_by_settled : Settles the-ports-by.ended (λ M. the-ports-by.clauses) (λ M. the-ports-by.spec)
+pub ports_by_settled : Settles the-ports-by.ended (λ M 𝓤. the-ports-by.clauses) (λ M 𝓤. the-ports-by.spec)
 ports_by_settled = settled (λ κs a x y p q. refl) (λ κs a x y p q i. (same p q i, x.1))
 
-pub route_ok_settled : Settles the-route-ok.ended (λ M. the-route-ok.clauses) (λ M. the-route-ok.spec)
+pub route_ok_settled : Settles the-route-ok.ended (λ M 𝓤. the-route-ok.clauses) (λ M 𝓤. the-route-ok.spec)
 route_ok_settled = settled (λ κs a x y p q. refl) (λ κs a x y p q i. (same p q i, x.1))
 
-pub stored_ok_settled : Settles the-stored-ok.ended (λ M. the-stored-ok.clauses) (λ M. the-stored-ok.spec)
+pub stored_ok_settled : Settles the-stored-ok.ended (λ M 𝓤. the-stored-ok.clauses) (λ M 𝓤. the-stored-ok.spec)
 stored_ok_settled = settled (λ κs a x y p q. refl) (λ κs a x y p q i. (same p q i, x.1))
 
-pub kind_refusal_settled : Settles the-kind-refusal.ended (λ M. the-kind-refusal.clauses) (λ M. the-kind-refusal.spec)
+pub kind_refusal_settled : Settles the-kind-refusal.ended (λ M 𝓤. the-kind-refusal.clauses) (λ M 𝓤. the-kind-refusal.spec)
 kind_refusal_settled = settled (λ κs a x y p q. refl) (λ κs a x y p q i. (same p q i, x.1))
 
-pub far_apart_settled : Settles the-far-apart.ended (λ M. the-far-apart.clauses) (λ M. the-far-apart.spec)
+pub far_apart_settled : Settles the-far-apart.ended (λ M 𝓤. the-far-apart.clauses) (λ M 𝓤. the-far-apart.spec)
 far_apart_settled = settled (λ κs a x y p q. refl) (λ κs a x y p q i. (same p q i, x.1))

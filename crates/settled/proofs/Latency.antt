@@ -5,5 +5,5 @@ use Rattle.settled.specs.Outcomes.{Settles}
 use Rattle.settled.proofs.Shown.{settled, same}
 use Rattle.latency.specs.contracts.uncontended as the-uncontended
 
-pub uncontended_settled : Settles the-uncontended.ended (λ M. the-uncontended.clauses) (λ M. the-uncontended.spec)
+pub uncontended_settled : Settles the-uncontended.ended (λ M 𝓤. the-uncontended.clauses) (λ M 𝓤. the-uncontended.spec)
 uncontended_settled = settled (λ κs a x y p q. refl) (λ κs a x y p q i. (same p q i, x.1))

@@ -11,23 +11,23 @@ use Rattle.types.specs.contracts.is_free as the-is-free
 use Rattle.types.specs.contracts.is_split as the-is-split
 use Rattle.types.specs.contracts.is_none as the-is-none
 
-pub state_number_settled : Settles the-state-number.ended (λ M. the-state-number.clauses) (λ M. the-state-number.spec)
+pub state_number_settled : Settles the-state-number.ended (λ M 𝓤. the-state-number.clauses) (λ M 𝓤. the-state-number.spec)
 state_number_settled = settled (λ κs a x y p q. refl) (λ κs a x y p q i. (same p q i, x.1))
 
-pub connection_number_settled : Settles the-connection-number.ended (λ M. the-connection-number.clauses) (λ M. the-connection-number.spec)
+pub connection_number_settled : Settles the-connection-number.ended (λ M 𝓤. the-connection-number.clauses) (λ M 𝓤. the-connection-number.spec)
 connection_number_settled = settled (λ κs a x y p q. refl) (λ κs a x y p q i. (same p q i, x.1))
 
-pub received_number_settled : Settles the-received-number.ended (λ M. the-received-number.clauses) (λ M. the-received-number.spec)
+pub received_number_settled : Settles the-received-number.ended (λ M 𝓤. the-received-number.clauses) (λ M 𝓤. the-received-number.spec)
 received_number_settled = settled (λ κs a x y p q. refl) (λ κs a x y p q i. (same p q i, x.1))
 
-pub terminator_number_settled : Settles the-terminator-number.ended (λ M. the-terminator-number.clauses) (λ M. the-terminator-number.spec)
+pub terminator_number_settled : Settles the-terminator-number.ended (λ M 𝓤. the-terminator-number.clauses) (λ M 𝓤. the-terminator-number.spec)
 terminator_number_settled = settled (λ κs a x y p q. refl) (λ κs a x y p q i. (same p q i, x.1))
 
-pub is_free_settled : Settles the-is-free.ended (λ M. the-is-free.clauses) (λ M. the-is-free.spec)
+pub is_free_settled : Settles the-is-free.ended (λ M 𝓤. the-is-free.clauses) (λ M 𝓤. the-is-free.spec)
 is_free_settled = settled (λ κs a x y p q. refl) (λ κs a x y p q i. (same p q i, x.1))
 
-pub is_split_settled : Settles the-is-split.ended (λ M. the-is-split.clauses) (λ M. the-is-split.spec)
+pub is_split_settled : Settles the-is-split.ended (λ M 𝓤. the-is-split.clauses) (λ M 𝓤. the-is-split.spec)
 is_split_settled = settled (λ κs a x y p q. refl) (λ κs a x y p q i. (same p q i, x.1))
 
-pub is_none_settled : Settles the-is-none.ended (λ M. the-is-none.clauses) (λ M. the-is-none.spec)
+pub is_none_settled : Settles the-is-none.ended (λ M 𝓤. the-is-none.clauses) (λ M 𝓤. the-is-none.spec)
 is_none_settled = settled (λ κs a x y p q. refl) (λ κs a x y p q i. (same p q i, x.1))

@@ -15,12 +15,12 @@ use Rattle.words.specs.contracts.send as the_send
 use Rattle.words.specs.contracts.write_empty as the-write-empty
 
 -- the answer, and every byte of the lent `book`
-pub play_settled : Settles the-play.ended (λ M. the-play.clauses) (λ M. the-play.spec)
+pub play_settled : Settles the-play.ended (λ M 𝓤. the-play.clauses) (λ M 𝓤. the-play.spec)
 play_settled = settled (λ κs a. beside value (beside (behind (inputs the-play.ended κs).1.0) value))
     (λ κs a x y p q i. (same p.0 q.0 i, (tt, (same p.1 q.1 i, tt))))
 
 -- the answer with the outputs in the way, and every one of the lent `words`
-pub run_settled : Settles the-run.ended (λ M. the-run.clauses) (λ M. the-run.spec)
+pub run_settled : Settles the-run.ended (λ M 𝓤. the-run.clauses) (λ M 𝓤. the-run.spec)
 run_settled =
     settled (λ κs a. beside value (beside (behind (inputs the-run.ended κs).1.0) (beside value (beside value value))))
     (λ κs a x y p q i.
@@ -28,7 +28,7 @@ run_settled =
     let words : RanWords → List ℕ = λ w. w.words in
     (same (ap answer p) (ap answer q) i, (tt, (same (ap words p) (ap words q) i, (tt, (tt, tt))))))
 
-pub send_settled : Settles the_send.ended (λ M. the_send.clauses) (λ M. the_send.spec)
+pub send_settled : Settles the_send.ended (λ M 𝓤. the_send.clauses) (λ M 𝓤. the_send.spec)
 send_settled =
     settled (λ κs a. beside value (beside (behind (inputs the_send.ended κs).1.0) (beside value (beside value value))))
     (λ κs a x y p q i.
@@ -37,9 +37,9 @@ send_settled =
     (same (ap answer p) (ap answer q) i, (tt, (same (ap words p) (ap words q) i, (tt, (tt, tt))))))
 
 -- the answer, and every one of the lent `words`
-pub write_empty_settled : Settles the-write-empty.ended (λ M. the-write-empty.clauses) (λ M. the-write-empty.spec)
+pub write_empty_settled : Settles the-write-empty.ended (λ M 𝓤. the-write-empty.clauses) (λ M 𝓤. the-write-empty.spec)
 write_empty_settled = settled (λ κs a. beside (behind (inputs the-write-empty.ended κs).0) value)
     (λ κs a x y p q i. (same p.0 q.0 i, (same p.1 q.1 i, tt)))
 
-pub owed_settled : Settles the-owed.ended (λ M. the-owed.clauses) (λ M. the-owed.spec)
+pub owed_settled : Settles the-owed.ended (λ M 𝓤. the-owed.clauses) (λ M 𝓤. the-owed.spec)
 owed_settled = settled (λ κs a x y p q. refl) (λ κs a x y p q i. (same p q i, x.1))
