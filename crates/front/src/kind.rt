@@ -36,7 +36,7 @@ fn zero_of(name: &[u8]) -> usize
 
 // The kind of the file of this name, links followed. A name that is too long for a path is cut short, and one with a 0
 // in it ends there: no such name can be opened.
-pub fn kind_of(rt: &impl Files, name: &[u8]) -> Kind {
+pub(crate) fn kind_of(rt: &impl Files, name: &[u8]) -> Kind {
     let end = name.len().min(PATH_MAX - 1);
     let path = &name[..end];
     let n = zero_of(path);
@@ -64,7 +64,7 @@ fn kind_in(is_file: bool, is_folder: bool) -> Kind {
 }
 
 // The path of this name, or why it can be none.
-pub fn path_of(name: &[u8]) -> io::Result<&str> {
+pub(crate) fn path_of(name: &[u8]) -> io::Result<&str> {
     if name.len() >= PATH_MAX {
         return Err(io::Error::from_raw_os_error(TOO_LONG));
     }
