@@ -8,12 +8,14 @@ mod held;
 mod items;
 
 use front::{Desk, Words};
-use std::io::{Print, Result};
+use std::io::{ErrorKind, Print, Result};
 
 // The longest argument that Linux passes, with the 0 that ends it.
 const ARGUMENT: usize = 131072;
 // Room for a line: such an argument with every byte escaped, and the words around it.
 const LINE: usize = 4 * ARGUMENT + 1024;
+// The status of a line whose reader has gone: no more files are looked at.
+const GONE: u64 = 3;
 
 fn main(rt: HostRuntime) {
     let mut name = [0u8; front::WHO];
@@ -71,7 +73,11 @@ fn inspect_all(rt: &impl Desk, who: &[u8], first: usize, name: &mut [u8], line: 
             ended = true;
             continue;
         }
-        if inspect(rt, who, &name[..n], line) != front::DONE {
+        let told = inspect(rt, who, &name[..n], line);
+        if told == GONE {
+            return front::FAILED;
+        }
+        if told != front::DONE {
             status = front::FAILED;
         }
     }
@@ -130,8 +136,12 @@ fn add_head_fault(line: &mut [u8], at: usize, b: &[u8], refusal: u8) -> usize {
 // Ends the line and writes it. Answers this status, or that it could not be written.
 fn printed(rt: &impl Desk, who: &[u8], line: &mut [u8], at: usize, status: u64) -> u64 {
     let end = report::add_bytes(line, at, b"\n");
-    if front::print(rt, who, &line[..end]) {
-        return status;
+    match rt.write_all(&line[..end]) {
+        Ok(()) => status,
+        Err(error) => {
+            let is_gone = matches!(error.kind(), ErrorKind::BrokenPipe);
+            front::no_output(rt, who, error);
+            if is_gone { GONE } else { front::FAILED }
+        }
     }
-    front::FAILED
 }
