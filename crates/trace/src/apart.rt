@@ -2,26 +2,25 @@
 // site from 64 on is in no set.
 use crate::printed::{ROOM, print};
 use front::fill;
+use std::io::{Print, Result};
 use types::Network;
 
-// Prints `S {U,..}` for each site S of the network, with the sites U far apart from it. Answers whether that was done.
-pub fn print_sites(network: Network) -> bool {
+// Prints `S {U,..}` for each site S of the network, with the sites U far apart from it.
+pub fn print_sites(out: &impl Print, network: Network) -> Result<()> {
     let sites = network.sites;
     let mut s: usize = 0;
     while s < sites {
-        if !print_site(network, s) {
-            return false;
-        }
+        print_site(out, network, s)?;
         s += 1;
     }
-    true
+    Ok(())
 }
 
-fn print_site(network: Network, s: usize) -> bool {
+fn print_site(out: &impl Print, network: Network, s: usize) -> Result<()> {
     let set = sites_apart(network, s);
     let mut text = [0u8; ROOM];
     let told = fill(&mut text, 0, b"% {", [s, set as usize, 0, 0, 0, 0]);
-    print(&mut text, told)
+    print(out, &mut text, told)
 }
 
 // The sites of the network that are far apart from site s.

@@ -1,16 +1,16 @@
 // The lines of sends and draws, in the words of docs/TRACE.md: each is composed whole and goes out by one write.
 use crate::told::add_change;
 use front::fill;
-use libc::STDOUT_FILENO;
+use std::io::{Print, Result};
 use types::{Ran, Sent, StoredSend};
 
 // Room for every line: the longest has some 550 bytes, a split to five outputs in a network of 64 sites.
 pub const ROOM: usize = 1024;
 
-// Ends a line and writes it. Answers whether that was done.
-pub fn print(text: &mut [u8], at: usize) -> bool {
+// Ends a line and writes it.
+pub fn print(out: &impl Print, text: &mut [u8], at: usize) -> Result<()> {
     let end = report::add_bytes(text, at, b"\n");
-    io::write_all(STDOUT_FILENO, &text[..end])
+    out.write_all(&text[..end])
 }
 
 // ---- a send
@@ -44,12 +44,18 @@ fn add_sent(text: &mut [u8], at: usize, answer: Sent) -> usize {
     }
 }
 
-// Prints the line of a send and its answer. Answers whether that was done.
-pub fn print_send(k: usize, draws: u16, order: StoredSend, answer: Sent) -> bool {
+// Prints the line of a send and its answer.
+pub fn print_send(
+    out: &impl Print,
+    k: usize,
+    draws: u16,
+    order: StoredSend,
+    answer: Sent,
+) -> Result<()> {
     let mut text = [0u8; ROOM];
     let begun = add_order(&mut text, k, draws, order);
     let sent = add_sent(&mut text, begun, answer);
-    print(&mut text, sent)
+    print(out, &mut text, sent)
 }
 
 // ---- a draw
@@ -72,16 +78,17 @@ fn add_draw(text: &mut [u8], d: u16, site: usize, code: usize) -> usize {
     )
 }
 
-// Prints the line of draw d, which changed nothing. Answers whether that was done.
-pub fn print_idle(d: u16, site: usize, code: usize) -> bool {
+// Prints the line of draw d, which changed nothing.
+pub fn print_idle(out: &impl Print, d: u16, site: usize, code: usize) -> Result<()> {
     let mut text = [0u8; ROOM];
     let begun = add_draw(&mut text, d, site, code);
     let told = report::add_bytes(&mut text, begun, b"nothing");
-    print(&mut text, told)
+    print(out, &mut text, told)
 }
 
-// Prints the line of draw d, which changed something. Answers whether that was done.
+// Prints the line of draw d, which changed something.
 pub fn print_change(
+    out: &impl Print,
     d: u16,
     tries: u8,
     channel: usize,
@@ -90,11 +97,11 @@ pub fn print_change(
     site: usize,
     code: usize,
     answer: Ran,
-) -> bool {
+) -> Result<()> {
     let mut text = [0u8; ROOM];
     let begun = add_draw(&mut text, d, site, code);
     let told = add_change(
         &mut text, begun, tries, channel, before, after, site, code, answer,
     );
-    print(&mut text, told)
+    print(out, &mut text, told)
 }

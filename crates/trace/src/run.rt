@@ -7,6 +7,7 @@ use crate::printed::{print_change, print_idle, print_send};
 use crate::why;
 use layout::WORDS;
 use machine::Clock;
+use std::io::{Print, Result};
 use std::num::wrapping_add_usize;
 use types::{Counts, Network, Ran, Run, Sent, StoredSend};
 
@@ -17,10 +18,9 @@ pub const EVERY: u8 = 1;
 
 pub const WHY: u8 = 2;
 
-// Why a trace goes no further: it does not stop; a line could not be written; RUN refused, which no valid run comes to.
+// Why a trace goes no further: it does not stop; RUN refused, which no valid run comes to. Where a line cannot be
+// written, it ends with that error.
 pub const GOES_ON: u8 = 0;
-
-pub const NOT_WRITTEN: u8 = 1;
 
 pub const REFUSED: u8 = 2;
 
@@ -47,6 +47,7 @@ fn counted_send(counts: Counts, order: StoredSend, answer: Sent) -> Counts {
 
 // SEND as the order says.
 fn send_turn(
+    out: &impl Print,
     network: Network,
     mode: u8,
     draws: u16,
@@ -54,18 +55,20 @@ fn send_turn(
     state: &mut [u64],
     before: &mut [u64],
     t: Traced,
-) -> Traced {
+) -> Result<Traced> {
     let answer = words::send(network, state, base::wide(order.site), order.set);
     copy(state, before);
-    let is_printed = mode == WHY || print_send(t.next, draws, order, answer);
+    if mode != WHY {
+        print_send(out, t.next, draws, order, answer)?;
+    }
     let clock = t.clock;
     let counts = counted_send(t.counts, order, answer);
-    Traced {
+    Ok(Traced {
         next: wrapping_add_usize(t.next, 1),
-        stop: stop_unless(is_printed),
+        stop: GOES_ON,
         clock,
         counts,
-    }
+    })
 }
 
 // ---- a draw
@@ -84,8 +87,9 @@ fn channel_of(channels: [u16; base::PORTS * base::SITES], s: usize, code: usize)
     0
 }
 
-// Prints the line that a draw's answer asks for, and keeps the words for the next event. Answers why the trace stops.
+// Prints the line that a draw's answer asks for, and keeps the words for the next event.
 fn tell_draw(
+    out: &impl Print,
     network: Network,
     mode: u8,
     d: u16,
@@ -94,19 +98,23 @@ fn tell_draw(
     answer: Ran,
     state: &[u64],
     before: &mut [u64],
-) -> u8 {
+) -> Result<()> {
     if let Ran::Nothing = answer {
-        return stop_unless(mode != EVERY || print_idle(d, site, code));
+        if mode == EVERY {
+            print_idle(out, d, site, code)?;
+        }
+        return Ok(());
     }
     let channel = channel_of(network.channels, site, code);
     let tries = network.tries;
-    let is_printed = print_change(d, tries, channel, before, state, site, code, answer);
+    print_change(out, d, tries, channel, before, state, site, code, answer)?;
     copy(state, before);
-    stop_unless(is_printed)
+    Ok(())
 }
 
 // Tells of a draw what the mode asks for; `outputs` are those in the way of a failed ask. Answers why the trace stops.
 fn tell(
+    out: &impl Print,
     network: Network,
     mode: u8,
     d: u16,
@@ -117,18 +125,16 @@ fn tell(
     state: &[u64],
     before: &mut [u64],
     times: &mut [usize],
-) -> u8 {
+) -> Result<u8> {
     if let Ran::Refused(_) = answer {
-        return REFUSED;
+        return Ok(REFUSED);
     }
     if mode == WHY {
-        return stop_unless(why::tell(d, site, code, outputs, state, times));
+        why::tell(out, d, site, code, outputs, state, times)?;
+    } else {
+        tell_draw(out, network, mode, d, site, code, answer, state, before)?;
     }
-    tell_draw(network, mode, d, site, code, answer, state, before)
-}
-
-fn stop_unless(is_printed: bool) -> u8 {
-    if is_printed { GOES_ON } else { NOT_WRITTEN }
+    Ok(GOES_ON)
 }
 
 // What is counted after an answer of RUN.
@@ -142,13 +148,14 @@ fn counted_run(counts: Counts, answer: Ran) -> Counts {
 
 // The draw, and RUN as it names.
 fn draw_turn(
+    out: &impl Print,
     network: Network,
     mode: u8,
     state: &mut [u64],
     before: &mut [u64],
     times: &mut [usize],
     t: Traced,
-) -> Traced {
+) -> Result<Traced> {
     let clock = t.clock;
     let ticked = machine::ticked(clock);
     let named = draws::event_of(ticked.value, network.sites, network.edition);
@@ -158,15 +165,15 @@ fn draw_turn(
     let answer = ran.answer;
     let outputs = ran.blocking;
     let stop = tell(
-        network, mode, clock.draw, site, code, answer, outputs, state, before, times,
-    );
+        out, network, mode, clock.draw, site, code, answer, outputs, state, before, times,
+    )?;
     let counts = counted_run(t.counts, answer);
-    Traced {
+    Ok(Traced {
         next: t.next,
         stop,
         clock: ticked,
         counts,
-    }
+    })
 }
 
 // ---- the run
@@ -185,6 +192,7 @@ fn copy(from: &[u64], to: &mut [u64]) {
 // One turn: the next send if it is due, else the next draw, else nothing. `before` has the words of `state`; where only
 // failed asks are told, it is not looked at.
 fn turn(
+    out: &impl Print,
     network: Network,
     mode: u8,
     draws: u16,
@@ -194,15 +202,15 @@ fn turn(
     before: &mut [u64],
     times: &mut [usize],
     t: Traced,
-) -> Traced {
+) -> Result<Traced> {
     let clock = t.clock;
     if (t.next < count) & (order.draw == clock.draw) {
-        return send_turn(network, mode, draws, order, state, before, t);
+        return send_turn(out, network, mode, draws, order, state, before, t);
     }
     if clock.draw < draws {
-        return draw_turn(network, mode, state, before, times, t);
+        return draw_turn(out, network, mode, state, before, times, t);
     }
-    t
+    Ok(t)
 }
 
 // The number of the next send, or 0 where there is none.
@@ -213,7 +221,14 @@ fn place_of(next: usize) -> usize
 }
 
 // As many turns as there are sends and draws.
-fn turns(run: Run, mode: u8, state: &mut [u64], before: &mut [u64], times: &mut [usize]) -> Traced {
+fn turns(
+    out: &impl Print,
+    run: Run,
+    mode: u8,
+    state: &mut [u64],
+    before: &mut [u64],
+    times: &mut [usize],
+) -> Result<Traced> {
     let network = run.network;
     let sends = run.sends;
     let draws = run.draws;
@@ -237,23 +252,25 @@ fn turns(run: Run, mode: u8, state: &mut [u64], before: &mut [u64], times: &mut 
     while k < total {
         let place = place_of(t.next);
         let order = sends[place];
-        t = turn(network, mode, draws, count, order, state, before, times, t);
+        t = turn(
+            out, network, mode, draws, count, order, state, before, times, t,
+        )?;
         if t.stop != GOES_ON {
             break;
         }
         k += 1;
     }
-    t
+    Ok(t)
 }
 
 // Traces a run from the empty state, the pairs that are owed at its end counted. Behind failed asks it prints how often
 // each output stood in the way.
-pub fn trace(run: Run, mode: u8) -> Traced {
+pub fn trace(out: &impl Print, run: Run, mode: u8) -> Result<Traced> {
     let mut state = [0u64; WORDS];
     words::write_empty(&mut state);
     let mut before = state;
     let mut times = [0usize; why::PLACES];
-    let mut t = turns(run, mode, &mut state, &mut before, &mut times);
+    let mut t = turns(out, run, mode, &mut state, &mut before, &mut times)?;
     let left = words::owed(&state);
     if (left.refusal != 0) & (t.stop == GOES_ON) {
         t.stop = REFUSED;
@@ -262,7 +279,7 @@ pub fn trace(run: Run, mode: u8) -> Traced {
     counts.owed = left.pairs;
     t.counts = counts;
     if (mode == WHY) & (t.stop == GOES_ON) {
-        t.stop = stop_unless(why::print_times(&mut times));
+        why::print_times(out, &mut times)?;
     }
-    t
+    Ok(t)
 }

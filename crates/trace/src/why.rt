@@ -4,6 +4,7 @@
 use crate::places;
 use crate::printed::{ROOM, print};
 use front::fill;
+use std::io::{Print, Result};
 use std::num::wrapping_add_usize;
 
 // The outputs of all sites.
@@ -12,17 +13,25 @@ pub const PLACES: usize = base::OUTPUTS * base::SITES;
 // ---- a failed ask
 
 // Prints the line of a failed ask of net-input i of site s, with these outputs in its way, and counts them. Where there
-// are none, nothing failed. Answers whether that was done.
-pub fn tell(d: u16, s: usize, i: usize, outputs: u64, state: &[u64], times: &mut [usize]) -> bool {
+// are none, nothing failed.
+pub fn tell(
+    out: &impl Print,
+    d: u16,
+    s: usize,
+    i: usize,
+    outputs: u64,
+    state: &[u64],
+    times: &mut [usize],
+) -> Result<()> {
     if outputs == 0 {
-        return true;
+        return Ok(());
     }
     count_outputs(times, s, outputs);
     let input = places::input_at(state, s, i);
     let values = [d as usize, s, i, input.packet, outputs as usize, 0];
     let mut text = [0u8; ROOM];
     let told = fill(&mut text, 0, b"% % % % {", values);
-    print(&mut text, told)
+    print(out, &mut text, told)
 }
 
 // Counts these outputs of site s.
@@ -47,8 +56,8 @@ fn count_output(times: &mut [usize], s: usize, outputs: u64, j: usize) {
 // ---- how often
 
 // Prints `output J of site S: N` for each output that was counted, the most often first, among equals the lower place.
-// What is printed is counted no more. Answers whether that was done.
-pub fn print_times(times: &mut [usize]) -> bool {
+// What is printed is counted no more.
+pub fn print_times(out: &impl Print, times: &mut [usize]) -> Result<()> {
     let mut k: usize = 0;
     while k < times.len() {
         let place = most(times);
@@ -56,19 +65,17 @@ pub fn print_times(times: &mut [usize]) -> bool {
         if n == 0 {
             break;
         }
-        if !print_place(place, n) {
-            return false;
-        }
+        print_place(out, place, n)?;
         k += 1;
     }
-    true
+    Ok(())
 }
 
-fn print_place(place: usize, n: usize) -> bool {
+fn print_place(out: &impl Print, place: usize, n: usize) -> Result<()> {
     let values = [place % base::OUTPUTS, place / base::OUTPUTS, n, 0, 0, 0];
     let mut text = [0u8; ROOM];
     let told = fill(&mut text, 0, b"output % of site %: %", values);
-    print(&mut text, told)
+    print(out, &mut text, told)
 }
 
 // The first place with the most.
