@@ -27,8 +27,7 @@ fn put_counts(counts: Counts, out: &mut [u64])
 }
 
 // The reader's refusal, 1 to 8 or 17; 0 for an archive.
-#[unsafe(no_mangle)]
-pub extern "C" fn fennqualo_check(bytes: &[u8]) -> u8
+pub fn fennqualo_check(bytes: &[u8]) -> u8
     ensures { result ≡ read_refusal bytes.now }
 {
     archive::check(bytes)
@@ -36,8 +35,7 @@ pub extern "C" fn fennqualo_check(bytes: &[u8]) -> u8
 
 // Plays an archive: its services at the front of the book, packets accepted, pairs, services and owed pairs at the
 // front of the counts. Refusals 1 to 8, 14 for a book too short, then 14 for a slice of counts too short.
-#[unsafe(no_mangle)]
-pub extern "C" fn fennqualo_play(bytes: &[u8], book: &mut [u8], counts: &mut [u64]) -> u8
+pub fn fennqualo_play(bytes: &[u8], book: &mut [u8], counts: &mut [u64]) -> u8
     ensures { (result ≡ call_refusal bytes.now (length book.old) (length counts.old))
         × (book.new ≡ book_after bytes.now book.old (length counts.old))
         × (counts.new ≡ counts_after bytes.now (length book.old) counts.old) }
@@ -73,8 +71,7 @@ fn put_bytes(bytes: &[u8], out: &mut [u8])
 
 // Copies an archive to the front of the room. The writer would give the same bytes for its run (`write_read`), so no run is
 // made. Refusals 1 to 8, then 14 for a room too short.
-#[unsafe(no_mangle)]
-pub extern "C" fn fennqualo_copy(bytes: &[u8], out: &mut [u8]) -> u8
+pub fn fennqualo_copy(bytes: &[u8], out: &mut [u8]) -> u8
     ensures { (result ≡ copy_refusal bytes.now (length out.old))
         × (out.new ≡ copy_after bytes.now out.old) }
 {
@@ -91,8 +88,7 @@ pub extern "C" fn fennqualo_copy(bytes: &[u8], out: &mut [u8]) -> u8
 
 // Moves an archive of version 1 over to version 2, to the front of the room; the moved file begins with its length.
 // Refusals 1, 2 where the version is not 1, 3 to 8, then 14 for a room too short.
-#[unsafe(no_mangle)]
-pub extern "C" fn fennqualo_over(bytes: &[u8], out: &mut [u8]) -> u8
+pub fn fennqualo_over(bytes: &[u8], out: &mut [u8]) -> u8
     ensures { (result ≡ move_refusal 1 2 bytes.now (length out.old))
         × (out.new ≡ moved 1 2 bytes.now out.old) }
 {
@@ -102,8 +98,7 @@ pub extern "C" fn fennqualo_over(bytes: &[u8], out: &mut [u8]) -> u8
 
 // Moves an archive of version 2 back to version 1 in the same way: 1, 2 where the version is not 2, 17, 3 to 8, 15 where it
 // has more than 16 sites or an edition other than 1, then 14.
-#[unsafe(no_mangle)]
-pub extern "C" fn fennqualo_back(bytes: &[u8], out: &mut [u8]) -> u8
+pub fn fennqualo_back(bytes: &[u8], out: &mut [u8]) -> u8
     ensures { (result ≡ move_refusal 2 1 bytes.now (length out.old))
         × (out.new ≡ moved 2 1 bytes.now out.old) }
 {
