@@ -7,7 +7,7 @@
 mod adding;
 mod text;
 
-ghost use Rattle.std.specs.Prelude.{min, ◌≡◌, length, IfOk};
+ghost use Rattle.std.specs.Prelude.{min, ◌≡◌, OnErr, length, IfOk};
 ghost use Rattle.io.specs.Counts.{IsPrefixLen as Front};
 ghost use Rattle.base.specs.Answers.{at_front};
 ghost use Rattle.lines.specs.Text.{answer_line, lines_answer, lines_after};
@@ -75,9 +75,10 @@ pub(crate) fn least(a: usize, b: usize) -> usize
 // ---- reading and writing
 
 // Reads until the room is full or the input ends, and answers how many bytes stand at the front of the room. A read
-// that fails makes the whole reading fail.
+// that fails makes the whole reading fail, with that read's own error: of the room only its length is known then.
 pub fn read_seen(from: &mut impl Read, room: &mut [u8]) -> Result<usize>
-    ensures { IfOk result (λ count. Front count room.new) }
+    ensures ok { IfOk result (λ count. Front count room.new) }
+    ensures err { OnErr result (length room.new ≡ length room.old) }
 {
     let mut count = 0usize;
     while count < room.len() {
