@@ -9,6 +9,9 @@ use Rattle.base.specs.Sizes.{set_bits}
 use Rattle.sets.proofs.Laws.{shifted_out}
 use Rattle.sets.proofs.within.Goals as goal
 
+pub overflow_shr-result : goal.overflow_shr-result
+overflow_shr-result c = omega arith
+
 pub returns-then-sites-lt-SET : goal.returns-then-sites-lt-SET
 returns-then-sites-lt-SET c = shifted_out c.args.sites c.args.set
 
