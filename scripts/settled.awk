@@ -1,4 +1,4 @@
-# Of scripts/settled.sh: reads the libraries' code, their proofs/Lib.antt and the theorems, and holds each public
+# Of scripts/settled.sh: reads the libraries' code, their specs/Lib.antt and the theorems, and holds each public
 # function to its theorem. Public is each `pub fn`, `pub const fn` and `pub extern "C" fn`, also in an `impl` or a `mod`;
 # what is `pub(crate)` is not. Handed in: the names of the libraries, of those without a function, the exceptions.
 
@@ -76,7 +76,7 @@ function functions(file,    crate, n, w, i, j, one) {
     }
 }
 
-# by_hand["CRATE::NAME"]: modules of proofs/ that the checker did not make
+# by_hand["CRATE::NAME"]: modules of specs/ that the checker did not make
 function modules(file,    n, w, i) {
     n = split(text[file], w)
     for (i = 1; i < n; i++) if (w[i] == "mod") by_hand[crate_of(file) "::" w[i + 1]] = 1
@@ -90,14 +90,14 @@ function theorems(file,    n, w, i, k, word, plain, bound, told) {
         gsub(/[{},()]/, "", word)
         told[word]++
         if (w[i] != "use") continue
-        if (index(w[i + 1], "Rattle·settled·specs.specs.Outcomes.{Settles") == 1) plain = 1
+        if (index(w[i + 1], "Rattle.settled.specs.Outcomes.{Settles") == 1) plain = 1
         if (w[i + 2] == "as") bound[w[i + 3]] = w[i + 1]
     }
     if ("module" in told) plain = 0
     for (i = 1; i <= n; i++) {
-        if (w[i] !~ /-settled$/ || w[i + 1] != ":") continue
+        if (w[i] !~ /_settled$/ || w[i + 1] != ":") continue
         word = w[i - 1]
-        for (k = i; k < i + 12 && k <= n; k++) word = word " " w[k]
+        for (k = i; k < i + 14 && k <= n; k++) word = word " " w[k]
         if (!plain) {
             problem(file ": `Settles` is not that of specs/Outcomes.antt, or a theorem stands in a module of the file")
             return
@@ -107,25 +107,24 @@ function theorems(file,    n, w, i, k, word, plain, bound, told) {
 }
 
 # One theorem, its words up to the proof's first: it has to be that of a function, over the contract that
-# bound[the-NAME] gives. told: how often a word stands in the file.
+# bound[the_NAME] gives. told: how often a word stands in the file.
 function theorem(file, name, words, bound, told,    own, want, path, crate, n, part, one) {
-    own = "the-" name
-    want = "pub " name "-settled : Settles " own ".ended (λ M. " own ".clauses) (λ M. " own ".spec) " name "-settled ="
+    own = "the_" name
+    want = "pub " name "_settled : Settles " own ".ended (λ M 𝓤. " own ".clauses) (λ M 𝓤. " own ".spec) " name "_settled ="
     if (words != want) {
         problem(file ": wanted `" want " ..`, found `" words " ..`")
         return
     }
-    gsub(/-/, "_", name)
     path = bound[own]
-    n = index(path, ".proofs.")
-    if (told[own] != 1 || index(path, "Rattle·") != 1 || n == 0) {
-        problem(file ": no one line `use Rattle·CRATE.proofs." name " as " own "`")
+    n = index(path, ".specs.contracts.")
+    if (told[own] != 1 || index(path, "Rattle.") != 1 || n == 0) {
+        problem(file ": no one line `use Rattle.CRATE.specs.contracts." name " as " own "`")
         return
     }
-    crate = substr(path, length("Rattle·") + 1, n - length("Rattle·") - 1)
-    n = split(substr(path, n + length(".proofs.")), part, ".")
+    crate = substr(path, length("Rattle.") + 1, n - length("Rattle.") - 1)
+    n = split(substr(path, n + length(".specs.contracts.")), part, ".")
     one = crate "::" name
-    if (part[n] != name || (crate "::" part[1]) in by_hand)
+    if (part[n] != name || (crate "::contracts") in by_hand)
         problem(file ": " own " is `" path "`, not the function " name)
     else if (!(one in public)) problem(file ": " one " is no public function")
     else if (!(path in cited)) {

@@ -1,10 +1,9 @@
 #!/bin/sh
 # Every public function of the libraries has a theorem that its contract settles its outcome (docs/CONTRACTS.md): in a
 # file of crates/settled/proofs, over the function's own contract,
-#     use Rattle·CRATE.proofs.NAME as the-NAME
-#     pub NAME-settled : Settles the-NAME.ended (λ M. the-NAME.clauses) (λ M. the-NAME.spec)
-# (MODULES.NAME where it stands in modules; - for _ behind `the-` and in the theorem's name). Says how many it saw, or
-# what is wrong. That the theorems hold, that every file there is checked and every crate listed is `rt check`'s part.
+#     use Rattle.CRATE.specs.contracts.NAME as the_NAME
+#     pub NAME_settled : Settles the_NAME.ended (λ M 𝓤. the_NAME.clauses) (λ M 𝓤. the_NAME.spec)
+# (MODULES.NAME where it stands in modules). Says how many it saw, or what is wrong. That the theorems hold, that every file there is checked and every crate listed is `rt check`'s part.
 set -eu
 cd "$(dirname "$0")/.."
 
@@ -12,7 +11,8 @@ cd "$(dirname "$0")/.."
 #   settled   the theorems; it has no code
 #   timing    for the benchmark alone: it calls the public functions so many times, and nothing that is shipped uses it
 #   stack     for the test of the stack alone: the reader, called once
-unseen="settled timing stack"
+#   exports_c the functions of exports under their C names
+unseen="settled timing stack exports_c"
 
 # Libraries without a function, types, definitions and theorems alone; they are looked at all the same.
 bare="model theorems layout format lines calls"
@@ -21,7 +21,7 @@ bare="model theorems layout format lines calls"
 # `front` that is all of them: the program's arguments, messages, files and the line of numbers; and the patterns that
 # `inspect`, `trace` and `batch` fill, whose words are tested, not proved.
 exceptions="report::read_seen report::print_services report::print_line report::print_refusal"
-exceptions="$exceptions front::begin front::no_words front::word_at front::take_word front::words_of front::tell"
+exceptions="$exceptions front::begin front::arg_count front::misused front::no_words front::word_at front::take_word front::words_of front::tell"
 exceptions="$exceptions front::tell_status front::say front::too_long front::print front::no_output"
 exceptions="$exceptions front::print_usage front::helped front::fill front::add_word"
 exceptions="$exceptions front::read_file front::read_argument front::read_input front::no_input"
@@ -47,7 +47,7 @@ done
 
 files=$(for crate in $libraries; do
     find "crates/$crate/src" -name '*.rt'
-    find "crates/$crate" -path '*/proofs/Lib.antt'
+    find "crates/$crate" -path '*/specs/Lib.antt'
 done)
 LC_ALL=C awk -v libraries="$libraries" -v bare="$bare" -v exceptions="$exceptions" -f scripts/settled.awk \
     $files crates/settled/proofs/*.antt

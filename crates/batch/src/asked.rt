@@ -1,5 +1,5 @@
 // What a batch is asked for: its options, in any order, and how many names its words have.
-use front::Words;
+use front::{Desk, Words};
 
 // The options of batch's own.
 pub const NO_OPTION: u8 = 0;
@@ -48,18 +48,18 @@ fn nothing_asked(words: Words) -> Asked {
 }
 
 // What the arguments from number `first` on ask for.
-pub fn asked_of(who: &[u8], first: usize) -> Asked {
-    let mut asked = nothing_asked(front::no_words(who, first));
-    for i in first..os::arg_count() {
-        asked = take_argument(who, i, asked);
+pub fn asked_of(rt: &impl Desk, who: &[u8], first: usize) -> Asked {
+    let mut asked = nothing_asked(front::no_words(rt, who, first));
+    for i in first..front::arg_count(rt) {
+        asked = take_argument(rt, who, i, asked);
     }
-    whole(who, asked)
+    whole(rt, who, asked)
 }
 
-fn take_argument(who: &[u8], i: usize, asked: Asked) -> Asked {
+fn take_argument(rt: &impl Desk, who: &[u8], i: usize, asked: Asked) -> Asked {
     let mut room = io::buffer();
-    let n = front::word_at(i, &mut room);
-    take_word(who, i, &room[..n], asked)
+    let n = front::word_at(rt, i, &mut room);
+    take_word(rt, who, i, &room[..n], asked)
 }
 
 // The number of an option of batch's own, or NO_OPTION; there is none behind `--`.
@@ -83,18 +83,18 @@ pub fn option_of(ended: bool, word: &[u8]) -> u8 {
 }
 
 // One word more.
-fn take_word(who: &[u8], i: usize, word: &[u8], asked: Asked) -> Asked {
+fn take_word(rt: &impl Desk, who: &[u8], i: usize, word: &[u8], asked: Asked) -> Asked {
     let words = asked.words;
     let mut now = asked;
     if words.help | words.wrong {
         return now;
     }
     if asked.wants != NONE {
-        return take_number(who, word, asked);
+        return take_number(rt, who, word, asked);
     }
     let option = option_of(words.ended, word);
     if option == NO_OPTION {
-        let more = front::take_word(who, i, word, words);
+        let more = front::take_word(rt, who, i, word, words);
         now.words = more;
         return now;
     }
@@ -110,11 +110,11 @@ fn take_word(who: &[u8], i: usize, word: &[u8], asked: Asked) -> Asked {
 }
 
 // A number of `--slice A B`.
-fn take_number(who: &[u8], word: &[u8], asked: Asked) -> Asked {
+fn take_number(rt: &impl Desk, who: &[u8], word: &[u8], asked: Asked) -> Asked {
     let mut now = asked;
     let number = number_of(word);
     if !number.good {
-        return wrong(who, b"--slice wants two numbers", asked);
+        return wrong(rt, who, b"--slice wants two numbers", asked);
     }
     if asked.wants == SKIPPED {
         now.skip = number.value;
@@ -127,22 +127,27 @@ fn take_number(who: &[u8], word: &[u8], asked: Asked) -> Asked {
 }
 
 // Behind the last word: whether the words fit together.
-fn whole(who: &[u8], asked: Asked) -> Asked {
+fn whole(rt: &impl Desk, who: &[u8], asked: Asked) -> Asked {
     let words = asked.words;
     if words.help | words.wrong {
         return asked;
     }
     if asked.wants != NONE {
-        return wrong(who, b"--slice wants two numbers", asked);
+        return wrong(rt, who, b"--slice wants two numbers", asked);
     }
     if asked.slice & (words.names > 0) {
-        return wrong(who, b"--slice takes its names from standard input", asked);
+        return wrong(
+            rt,
+            who,
+            b"--slice takes its names from standard input",
+            asked,
+        );
     }
     asked
 }
 
-fn wrong(who: &[u8], text: &[u8], asked: Asked) -> Asked {
-    front::say(who, text, b"");
+fn wrong(rt: &impl Desk, who: &[u8], text: &[u8], asked: Asked) -> Asked {
+    front::say(rt, who, text, b"");
     let mut words = asked.words;
     words.wrong = true;
     let mut now = asked;

@@ -9,9 +9,9 @@ mod names;
 mod one;
 
 use asked::Asked;
-use front::VALUES;
-use libc::{STDERR_FILENO, STDOUT_FILENO};
+use front::{Desk, VALUES};
 use one::{Totals, no_files};
+use std::io::{Print, Result};
 
 // What came of it: the status, and what was played.
 #[derive(Clone, Copy)]
@@ -20,29 +20,28 @@ struct Outcome {
     totals: Totals,
 }
 
-fn main() {
+fn main(rt: HostRuntime) {
     let mut name = [0u8; front::WHO];
-    let called = front::begin(b"batch", &mut name);
+    let called = front::begin(&rt, b"batch", &mut name);
     let n = called.count;
-    let outcome = answer(&name[..n], called.first);
+    let outcome = answer(&rt, &name[..n], called.first);
     tell(called.fronted, outcome);
 }
 
 // What is asked from argument `first` on.
-fn answer(who: &[u8], first: usize) -> Outcome {
-    let asked = asked::asked_of(who, first);
+fn answer(rt: &impl Desk, who: &[u8], first: usize) -> Outcome {
+    let asked = asked::asked_of(rt, who, first);
     let words = asked.words;
     if words.wrong {
-        print_usage(STDERR_FILENO, who);
-        return without_files(front::WRONG);
+        return without_files(front::misused(print_usage(&rt.messages(), who)));
     }
     if words.help {
-        return without_files(front::helped(who, print_usage(STDOUT_FILENO, who)));
+        return without_files(front::helped(rt, who, print_usage(rt, who)));
     }
     if words.names > 0 {
-        return ended(who, asked, names::from_arguments(who, first, asked));
+        return ended(rt, who, asked, names::from_arguments(rt, who, first, asked));
     }
-    ended(who, asked, names::from_input(who, asked))
+    ended(rt, who, asked, names::from_input(rt, who, asked))
 }
 
 fn without_files(status: u64) -> Outcome {
@@ -53,11 +52,11 @@ fn without_files(status: u64) -> Outcome {
 }
 
 // Prints the totals, unless this is a slice or nothing can be printed any more.
-fn ended(who: &[u8], asked: Asked, totals: Totals) -> Outcome {
+fn ended(rt: &impl Desk, who: &[u8], asked: Asked, totals: Totals) -> Outcome {
     if asked.slice | totals.lost {
         return with_files(totals, totals.lost);
     }
-    let is_printed = print_totals(who, totals);
+    let is_printed = print_totals(rt, who, totals);
     with_files(totals, !is_printed)
 }
 
@@ -70,37 +69,34 @@ fn with_files(totals: Totals, lost: bool) -> Outcome {
     }
 }
 
-fn print_usage(fd: i32, who: &[u8]) -> bool {
-    let begun = front::print_usage(
-        fd,
+fn print_usage(to: &impl Print, who: &[u8]) -> Result<()> {
+    front::print_usage(
+        to,
         who,
         b" [--services] [-0] [--slice A B] [--unplayed] [--] [NAME..]\n",
         b"Plays the archives of these names, or of those on standard input, one to a line.\n",
-    );
-    begun && print_options(fd)
+    )?;
+    print_options(to)
 }
 
-fn print_options(fd: i32) -> bool {
-    let services = io::write_all(
-        fd,
+// Each line is tried; of those that fail the last one's error is answered.
+fn print_options(to: &impl Print) -> Result<()> {
+    let services = to.write_all(
         b"  --services   prints the services of each too, before its line\n",
     );
-    let zero = io::write_all(
-        fd,
+    let zero = to.write_all(
         b"  -0           a name on standard input ends with a 0, not with its line\n",
     );
-    let slice = io::write_all(
-        fd,
+    let slice = to.write_all(
         b"  --slice A B  leaves out A names of standard input and plays the next B; no totals\n",
     );
-    let unplayed = io::write_all(
-        fd,
+    let unplayed = to.write_all(
         b"  --unplayed   opens nothing, and says `not played` of each name\n",
     );
-    services & zero & slice & unplayed
+    unplayed.and(slice).and(zero).and(services)
 }
 
-fn print_totals(who: &[u8], totals: Totals) -> bool {
+fn print_totals(rt: &impl Desk, who: &[u8], totals: Totals) -> bool {
     let mut line = [0u8; 128];
     let n = front::fill(
         &mut line,
@@ -109,7 +105,7 @@ fn print_totals(who: &[u8], totals: Totals) -> bool {
         numbers_of(totals),
     );
     let end = report::add_bytes(&mut line, n, b"\n");
-    front::print(who, &line[..end])
+    front::print(rt, who, &line[..end])
 }
 
 // The files, and those that were played, refused and unreadable.

@@ -1,8 +1,8 @@
 // The names of a batch, from the arguments or from standard input, each played as it comes.
 use crate::asked::{Asked, NO_OPTION, option_of};
 use crate::one::{Totals, long_name, no_files, play_file, print_part, tell_unplayed};
-use front::Words;
-use libc::STDIN_FILENO;
+use front::{Desk, Words};
+use std::io::{Error, Read};
 
 // The longest argument that Linux passes, with the 0 that ends it.
 const ARGUMENT: usize = 131072;
@@ -51,7 +51,7 @@ struct Arguments {
 }
 
 // Plays the files that the arguments name, from number `first` on.
-pub fn from_arguments(who: &[u8], first: usize, asked: Asked) -> Totals {
+pub fn from_arguments(rt: &impl Desk, who: &[u8], first: usize, asked: Asked) -> Totals {
     let manner = Manner {
         end: 0,
         line: false,
@@ -59,13 +59,13 @@ pub fn from_arguments(who: &[u8], first: usize, asked: Asked) -> Totals {
         unplayed: asked.unplayed,
     };
     let mut arguments = Arguments {
-        words: front::no_words(who, first),
+        words: front::no_words(rt, who, first),
         names: no_names(asked),
     };
     let mut argument = [0u8; ARGUMENT];
     let mut name = io::buffer();
-    for i in first..os::arg_count() {
-        arguments = take_argument(who, i, &mut argument, &mut name, manner, arguments);
+    for i in first..front::arg_count(rt) {
+        arguments = take_argument(rt, who, i, &mut argument, &mut name, manner, arguments);
     }
     let names = arguments.names;
     names.totals
@@ -73,6 +73,7 @@ pub fn from_arguments(who: &[u8], first: usize, asked: Asked) -> Totals {
 
 // Argument i; of one longer than the room only its first bytes are known.
 fn take_argument(
+    rt: &impl Desk,
     who: &[u8],
     i: usize,
     argument: &mut [u8],
@@ -82,11 +83,11 @@ fn take_argument(
 ) -> Arguments {
     let words = arguments.words;
     let names = arguments.names;
-    let n = front::word_at(i, argument);
+    let n = front::word_at(rt, i, argument);
     if option_of(words.ended, &argument[..n]) != NO_OPTION {
         return arguments;
     }
-    let more = front::take_word(who, i, &argument[..n], words);
+    let more = front::take_word(rt, who, i, &argument[..n], words);
     if more.names == words.names {
         return Arguments {
             words: more,
@@ -95,33 +96,35 @@ fn take_argument(
     }
     Arguments {
         words: more,
-        names: play_argument(who, &argument[..n], name, manner, names),
+        names: play_argument(rt, who, &argument[..n], name, manner, names),
     }
 }
 
 fn play_argument(
+    rt: &impl Desk,
     who: &[u8],
     argument: &[u8],
     name: &mut [u8],
     manner: Manner,
     names: Names,
 ) -> Names {
-    let all = take_chunk(who, argument, name, manner, names);
-    end_name(who, name, manner, all)
+    let all = take_chunk(rt, who, argument, name, manner, names);
+    end_name(rt, who, name, manner, all)
 }
 
 // ---- from standard input
 
 // Plays the files that standard input names. The last name may lack its end. A proved loop has to end, and nothing says
 // that the input does, so the turns are counted down from a number that no run uses up.
-pub fn from_input(who: &[u8], asked: Asked) -> Totals {
+pub fn from_input(rt: &impl Desk, who: &[u8], asked: Asked) -> Totals {
+    let mut input = rt.reader();
     let mut name = io::buffer();
     let mut names = no_names(asked);
     let manner = manner_of(asked);
     let mut turns = u64::MAX;
     while turns > 0 {
         turns -= 1;
-        names = read_some(who, &mut name, manner, names);
+        names = read_some(rt, who, &mut input, &mut name, manner, names);
         if names.over {
             break;
         }
@@ -139,22 +142,25 @@ fn manner_of(asked: Asked) -> Manner {
 }
 
 // Reads once, and plays the names that are complete.
-fn read_some(who: &[u8], name: &mut [u8], manner: Manner, names: Names) -> Names {
+fn read_some(
+    rt: &impl Desk,
+    who: &[u8],
+    input: &mut impl Read,
+    name: &mut [u8],
+    manner: Manner,
+    names: Names,
+) -> Names {
     let mut chunk = io::buffer();
-    let got = libc::read(STDIN_FILENO, &mut chunk);
-    if got < 0 {
-        return cut(who, names);
+    match input.read(&mut chunk) {
+        Ok(0) => end_input(rt, who, name, manner, names),
+        Ok(n) => take_chunk(rt, who, &chunk[..n], name, manner, names),
+        Err(error) => cut(rt, who, names, error),
     }
-    let n = io::count(got, &chunk);
-    if n == 0 {
-        return end_input(who, name, manner, names);
-    }
-    take_chunk(who, &chunk[..n], name, manner, names)
 }
 
 // Standard input cannot be read, or not further.
-fn cut(who: &[u8], names: Names) -> Names {
-    front::no_input(who);
+fn cut(rt: &impl Desk, who: &[u8], names: Names, error: Error) -> Names {
+    front::no_input(rt, who, error);
     let mut totals = names.totals;
     totals.cut = true;
     let mut now = names;
@@ -163,9 +169,9 @@ fn cut(who: &[u8], names: Names) -> Names {
     now
 }
 
-fn end_input(who: &[u8], name: &[u8], manner: Manner, names: Names) -> Names {
+fn end_input(rt: &impl Desk, who: &[u8], name: &[u8], manner: Manner, names: Names) -> Names {
     if (names.count > 0) | names.long {
-        let mut now = end_name(who, name, manner, names);
+        let mut now = end_name(rt, who, name, manner, names);
         now.over = true;
         return now;
     }
@@ -176,26 +182,40 @@ fn end_input(who: &[u8], name: &[u8], manner: Manner, names: Names) -> Names {
 
 // ---- byte by byte
 
-fn take_chunk(who: &[u8], chunk: &[u8], name: &mut [u8], manner: Manner, names: Names) -> Names {
+fn take_chunk(
+    rt: &impl Desk,
+    who: &[u8],
+    chunk: &[u8],
+    name: &mut [u8],
+    manner: Manner,
+    names: Names,
+) -> Names {
     let mut now = names;
     for i in 0..chunk.len() {
-        now = take_byte(who, chunk[i], name, manner, now);
+        now = take_byte(rt, who, chunk[i], name, manner, now);
     }
     now
 }
 
-fn take_byte(who: &[u8], byte: u8, name: &mut [u8], manner: Manner, names: Names) -> Names {
+fn take_byte(
+    rt: &impl Desk,
+    who: &[u8],
+    byte: u8,
+    name: &mut [u8],
+    manner: Manner,
+    names: Names,
+) -> Names {
     if names.over {
         return names;
     }
     if byte == manner.end {
-        return end_name(who, name, manner, names);
+        return end_name(rt, who, name, manner, names);
     }
-    add_byte(byte, name, spilled(who, name, names))
+    add_byte(byte, name, spilled(rt, who, name, names))
 }
 
 // A full room is printed, to be filled anew: so long a name cannot be read.
-fn spilled(who: &[u8], name: &[u8], names: Names) -> Names {
+fn spilled(rt: &impl Desk, who: &[u8], name: &[u8], names: Names) -> Names {
     if names.count < name.len() {
         return names;
     }
@@ -205,7 +225,7 @@ fn spilled(who: &[u8], name: &[u8], names: Names) -> Names {
     if names.skip > 0 {
         return now;
     }
-    let totals = print_part(who, name, names.totals);
+    let totals = print_part(rt, who, name, names.totals);
     now.totals = totals;
     now.over = totals.lost;
     now
@@ -223,7 +243,7 @@ fn add_byte(byte: u8, name: &mut [u8], names: Names) -> Names {
 }
 
 // The present name is complete.
-fn end_name(who: &[u8], name: &[u8], manner: Manner, names: Names) -> Names {
+fn end_name(rt: &impl Desk, who: &[u8], name: &[u8], manner: Manner, names: Names) -> Names {
     let mut now = names;
     if names.over {
         return now;
@@ -236,22 +256,29 @@ fn end_name(who: &[u8], name: &[u8], manner: Manner, names: Names) -> Names {
         return now;
     }
     let word = front_of(name, trimmed(name, names.count, manner.line));
-    let totals = play_name(who, word, names.long, manner, names.totals);
-    let left = std::num::wrapping_sub_u64(names.left, 1);
+    let totals = play_name(rt, who, word, names.long, manner, names.totals);
+    let left = names.left.wrapping_sub(1);
     now.left = left;
     now.totals = totals;
     now.over = totals.lost | (left == 0);
     now
 }
 
-fn play_name(who: &[u8], word: &[u8], long: bool, manner: Manner, totals: Totals) -> Totals {
+fn play_name(
+    rt: &impl Desk,
+    who: &[u8],
+    word: &[u8],
+    long: bool,
+    manner: Manner,
+    totals: Totals,
+) -> Totals {
     if manner.unplayed {
-        return tell_unplayed(who, word, totals);
+        return tell_unplayed(rt, who, word, totals);
     }
     if long {
-        return long_name(who, word, totals);
+        return long_name(rt, who, word, totals);
     }
-    play_file(who, word, manner.services, totals)
+    play_file(rt, who, word, manner.services, totals)
 }
 
 // The number of bytes without the carriage return at the end of a line.

@@ -1,6 +1,6 @@
 // One file of a batch: read, played, and told in one line, which goes out by one write. The totals go in by value and
 // come back.
-use std::num::wrapping_add_u64;
+use front::Desk;
 use types::Counts;
 
 // Room for a line: a name of 4,096 bytes at its longest, and an answer.
@@ -29,74 +29,80 @@ pub fn no_files() -> Totals {
 }
 
 // Plays the file of this name.
-pub fn play_file(who: &[u8], name: &[u8], services: bool, totals: Totals) -> Totals {
+pub fn play_file(
+    rt: &impl Desk,
+    who: &[u8],
+    name: &[u8],
+    services: bool,
+    totals: Totals,
+) -> Totals {
     let mut bytes = io::large_buffer();
-    let seen = front::read_file(who, name, &mut bytes);
+    let seen = front::read_file(rt, who, name, &mut bytes);
     if seen.failed {
-        return tell(who, name, b": cannot be read\n", totals);
+        return tell(rt, who, name, b": cannot be read\n", totals);
     }
     let n = seen.count;
     let mut book = [0u8; report::BOOK];
     let played = words::play(&bytes[..n], &mut book);
     let counts = played.counts;
     let shown = if services { counts.serviced } else { 0 };
-    if !report::print_services(&book, shown) {
-        front::no_output(who);
+    if let Err(error) = report::print_services(rt, &book, shown) {
+        front::no_output(rt, who, error);
         return counted(totals, played.refusal, false);
     }
-    let is_printed = print_answer(who, name, played.refusal, counts);
+    let is_printed = print_answer(rt, who, name, played.refusal, counts);
     counted(totals, played.refusal, is_printed)
 }
 
 // The last part of a name that is longer than a path can be.
-pub fn long_name(who: &[u8], name: &[u8], totals: Totals) -> Totals {
-    front::too_long(who);
-    tell(who, name, b": cannot be read\n", totals)
+pub fn long_name(rt: &impl Desk, who: &[u8], name: &[u8], totals: Totals) -> Totals {
+    front::too_long(rt, who);
+    tell(rt, who, name, b": cannot be read\n", totals)
 }
 
-pub fn tell_unplayed(who: &[u8], name: &[u8], totals: Totals) -> Totals {
-    tell(who, name, b": not played\n", totals)
+pub fn tell_unplayed(rt: &impl Desk, who: &[u8], name: &[u8], totals: Totals) -> Totals {
+    tell(rt, who, name, b": not played\n", totals)
 }
 
 // Prints a part of a long name.
-pub fn print_part(who: &[u8], name: &[u8], totals: Totals) -> Totals {
+pub fn print_part(rt: &impl Desk, who: &[u8], name: &[u8], totals: Totals) -> Totals {
     let mut line = [0u8; LINE];
     let end = report::add_name(&mut line, 0, name);
-    let is_printed = front::print(who, &line[..end]);
+    let is_printed = front::print(rt, who, &line[..end]);
     let mut now = totals;
     now.lost = totals.lost | !is_printed;
     now
 }
 
 // The line of a name of which nothing was played.
-fn tell(who: &[u8], name: &[u8], words: &[u8], totals: Totals) -> Totals {
+fn tell(rt: &impl Desk, who: &[u8], name: &[u8], words: &[u8], totals: Totals) -> Totals {
     let mut line = [0u8; LINE];
     let named = report::add_name(&mut line, 0, name);
     let end = report::add_bytes(&mut line, named, words);
-    let is_printed = front::print(who, &line[..end]);
+    let is_printed = front::print(rt, who, &line[..end]);
     let mut now = totals;
-    now.files = wrapping_add_u64(totals.files, 1);
-    now.unreadable = wrapping_add_u64(totals.unreadable, 1);
+    now.files = totals.files.wrapping_add(1);
+    now.unreadable = totals.unreadable.wrapping_add(1);
     now.lost = totals.lost | !is_printed;
     now
 }
 
-fn print_answer(who: &[u8], name: &[u8], refusal: u8, counts: Counts) -> bool {
+fn print_answer(rt: &impl Desk, who: &[u8], name: &[u8], refusal: u8, counts: Counts) -> bool {
     let mut line = [0u8; LINE];
     let named = report::add_name(&mut line, 0, name);
     let behind = report::add_bytes(&mut line, named, b": ");
     let end = report::add_answer(&mut line, behind, refusal, counts);
-    front::print(who, &line[..end])
+    front::print(rt, who, &line[..end])
 }
 
 fn counted(totals: Totals, refusal: u8, is_printed: bool) -> Totals {
     let mut now = totals;
-    now.files = wrapping_add_u64(totals.files, 1);
+    now.files = totals.files.wrapping_add(1);
     now.lost = totals.lost | !is_printed;
     if refusal == 0 {
-        now.played = wrapping_add_u64(totals.played, 1);
+        now.played = totals.played.wrapping_add(1);
         return now;
     }
-    now.refused = wrapping_add_u64(totals.refused, 1);
+    now.refused = totals.refused.wrapping_add(1);
     now
 }

@@ -2,6 +2,5 @@
 // on run R in proofs/Examples.antt. The code is in crate exports; here, without code, a must-fail edit takes seconds.
 #![tactic(auto)]
 
-
 // The places of a slice that the counts of a run take.
 pub const COUNTS: usize = 4;

@@ -5,7 +5,6 @@
 // FaultExamples.antt the others. The code is in the crates archive and faults.
 #![tactic(auto)]
 
-
 // The bytes of the longest archive, which is of version 2.
 pub const LONGEST: usize = 14
     + 2 * base::PORTS * base::SITES

@@ -3,16 +3,18 @@
 // the functions are proved safe and ending.
 #![tactic(auto)]
 
+mod desk;
 mod files;
 mod kind;
 mod message;
 mod pattern;
 mod words;
 
+pub use desk::Desk;
 pub use files::{no_input, read_argument, read_file, read_input};
-pub use message::{helped, no_output, print, print_usage, say, too_long};
+pub use message::{helped, misused, no_output, print, print_usage, say, too_long};
 pub use pattern::{VALUES, add_word, fill};
 pub use words::{
-    Called, DONE, FAILED, WHO, WRONG, Words, begin, no_words, take_word, tell, tell_status,
-    word_at, words_of,
+    Called, DONE, FAILED, WHO, WRONG, Words, arg_count, begin, no_words, take_word, tell,
+    tell_status, word_at, words_of,
 };

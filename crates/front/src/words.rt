@@ -3,7 +3,10 @@
 // the options, and a word that begins with `-` before it, if it has a second byte, is one.
 ghost use Rattle.io.specs.Counts.{IsPrefixLen as Front};
 
+use crate::desk::Desk;
 use crate::message::say;
+use std::env::FillError;
+use std::rt::Env;
 
 // Room for the name that messages begin with.
 pub const WHO: usize = 64;
@@ -26,13 +29,13 @@ pub struct Called {
 }
 
 // Puts the name that messages begin with at the front of the room: NAME, or else the program's own.
-pub fn begin(program: &[u8], who: &mut [u8; WHO]) -> Called
+pub fn begin(rt: &impl Env, program: &[u8], who: &mut [u8; WHO]) -> Called
     ensures { Front result.count who.new }
 {
-    let fronted = is_word(1, b"--front");
+    let fronted = is_word(rt, 1, b"--front");
     let first = if fronted { 3 } else { 1 };
     if fronted {
-        let given = os::arg(2, who);
+        let given = argument(rt, 2, who);
         if given > 0 {
             return Called {
                 fronted: fronted,
@@ -49,11 +52,41 @@ pub fn begin(program: &[u8], who: &mut [u8; WHO]) -> Called
     }
 }
 
+// Puts argument i at the front of the room. Answers how many bytes it has, 0 where there is none or it does not fit.
+fn argument(rt: &impl Env, i: usize, room: &mut [u8]) -> usize
+    ensures { Front result room.new }
+{
+    match rt.arg(i, room) {
+        Ok(n) => n,
+        Err(_) => 0,
+    }
+}
+
+// How many arguments there are, the program's own name among them.
+pub fn arg_count(rt: &impl Env) -> usize {
+    for i in 0..usize::MAX {
+        if !has_argument(rt, i) {
+            return i;
+        }
+    }
+    usize::MAX
+}
+
+fn has_argument(rt: &impl Env, i: usize) -> bool {
+    let mut room = [0u8; 1];
+    match rt.arg(i, &mut room) {
+        Err(FillError::NotPresent) => false,
+        Ok(_) | Err(FillError::TooLong) => true,
+    }
+}
+
 // Whether argument i is this word, of at most 16 bytes.
-fn is_word(i: usize, word: &[u8]) -> bool {
+fn is_word(rt: &impl Env, i: usize, word: &[u8]) -> bool {
     let mut room = [0u8; 16];
-    let n = os::arg(i, &mut room);
-    os::errno() == 0 && check::same(&room[..n], word)
+    match rt.arg(i, &mut room) {
+        Ok(n) => check::same(&room[..n], word),
+        Err(_) => false,
+    }
 }
 
 // Writes the line of numbers, if the front asked for it.
@@ -83,10 +116,10 @@ pub struct Words {
 }
 
 // No word yet. `--front` without a name is wrong.
-pub fn no_words(who: &[u8], first: usize) -> Words {
-    let wrong = os::arg_count() < first;
+pub fn no_words(rt: &impl Desk, who: &[u8], first: usize) -> Words {
+    let wrong = arg_count(rt) < first;
     if wrong {
-        say(who, b"--front wants a name", b"");
+        say(rt, who, b"--front wants a name", b"");
     }
     Words {
         names: 0,
@@ -98,14 +131,14 @@ pub fn no_words(who: &[u8], first: usize) -> Words {
 }
 
 // Puts argument i at the front of the room, or of one that is too long its first bytes. Answers how many they are.
-pub fn word_at(i: usize, room: &mut [u8]) -> usize
+pub fn word_at(rt: &impl Env, i: usize, room: &mut [u8]) -> usize
     ensures { Front result room.new }
 {
-    let n = os::arg(i, room);
-    if os::errno() == libc::ENAMETOOLONG {
-        return io::count(isize::MAX, room);
+    match rt.arg(i, room) {
+        Ok(n) => n,
+        Err(FillError::TooLong) => room.len(),
+        Err(FillError::NotPresent) => 0,
     }
-    n
 }
 
 // Whether a word that comes behind these is an option.
@@ -120,13 +153,13 @@ fn is_option(words: Words, word: &[u8]) -> bool {
 }
 
 // The words with one more, argument i: a name, `--`, `--help`, or an option that there is not.
-pub fn take_word(who: &[u8], i: usize, word: &[u8], words: Words) -> Words {
+pub fn take_word(rt: &impl Desk, who: &[u8], i: usize, word: &[u8], words: Words) -> Words {
     let mut now = words;
     if words.help || words.wrong {
         return now;
     }
     if !is_option(words, word) {
-        now.names = std::num::wrapping_add_usize(words.names, 1);
+        now.names = words.names.wrapping_add(1);
         now.last = i;
         return now;
     }
@@ -138,22 +171,22 @@ pub fn take_word(who: &[u8], i: usize, word: &[u8], words: Words) -> Words {
         now.help = true;
         return now;
     }
-    say(who, b"there is no option ", word);
+    say(rt, who, b"there is no option ", word);
     now.wrong = true;
     now
 }
 
 // The words from argument `first` on of a program that has no options of its own.
-pub fn words_of(who: &[u8], first: usize) -> Words {
-    let mut words = no_words(who, first);
-    for i in first..os::arg_count() {
-        words = take_argument(who, i, words);
+pub fn words_of(rt: &impl Desk, who: &[u8], first: usize) -> Words {
+    let mut words = no_words(rt, who, first);
+    for i in first..arg_count(rt) {
+        words = take_argument(rt, who, i, words);
     }
     words
 }
 
-fn take_argument(who: &[u8], i: usize, words: Words) -> Words {
+fn take_argument(rt: &impl Desk, who: &[u8], i: usize, words: Words) -> Words {
     let mut room = io::buffer();
-    let n = word_at(i, &mut room);
-    take_word(who, i, &room[..n], words)
+    let n = word_at(rt, i, &mut room);
+    take_word(rt, who, i, &room[..n], words)
 }

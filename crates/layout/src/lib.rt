@@ -2,7 +2,6 @@
 // places have nothing to do (specs/), and the laws of all these (proofs/). The numbers of the layout are here for the code, which is crate words.
 #![tactic(auto)]
 
-
 // The first place of a site's outputs, of its out-queue, of its in-queues, of its counts; the places of a site.
 pub const OUTPUTS_FROM: usize = base::INPUTS;
 

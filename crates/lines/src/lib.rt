@@ -2,7 +2,6 @@
 // has the code.
 #![tactic(auto)]
 
-
 // Lines of services: how many there are, and how many bytes they take.
 #[derive(Clone, Copy)]
 pub struct Lines {

@@ -1,5 +1,5 @@
 // The words that `mover` is called with: the first name among them is the way, the second the file.
-use front::Words;
+use front::{Desk, Words};
 
 // The ways; NOWHERE stands for every other word, and for none.
 pub const NOWHERE: u8 = 0;
@@ -16,27 +16,27 @@ pub struct Asked {
 }
 
 // The arguments from number `first` on.
-pub fn asked_from(who: &[u8], first: usize) -> Asked {
+pub fn asked_from(rt: &impl Desk, who: &[u8], first: usize) -> Asked {
     let mut asked = Asked {
         way: NOWHERE,
-        words: front::no_words(who, first),
+        words: front::no_words(rt, who, first),
     };
-    for i in first..os::arg_count() {
-        asked = take_argument(who, i, asked);
+    for i in first..front::arg_count(rt) {
+        asked = take_argument(rt, who, i, asked);
     }
     asked
 }
 
-fn take_argument(who: &[u8], i: usize, asked: Asked) -> Asked {
+fn take_argument(rt: &impl Desk, who: &[u8], i: usize, asked: Asked) -> Asked {
     let mut room = io::buffer();
-    let n = front::word_at(i, &mut room);
-    take_word(who, i, &room[..n], asked)
+    let n = front::word_at(rt, i, &mut room);
+    take_word(rt, who, i, &room[..n], asked)
 }
 
 // One more word: the first name is the way, and one that is neither is said.
-fn take_word(who: &[u8], i: usize, word: &[u8], asked: Asked) -> Asked {
+fn take_word(rt: &impl Desk, who: &[u8], i: usize, word: &[u8], asked: Asked) -> Asked {
     let words = asked.words;
-    let more = front::take_word(who, i, word, words);
+    let more = front::take_word(rt, who, i, word, words);
     if words.names == 0 && more.names == 1 {
         return Asked {
             way: way_of(word),
@@ -60,17 +60,17 @@ fn way_of(word: &[u8]) -> u8 {
 }
 
 // Whether the use is wrong, which is said.
-pub fn is_wrong(who: &[u8], asked: Asked) -> bool {
+pub fn is_wrong(rt: &impl Desk, who: &[u8], asked: Asked) -> bool {
     let words = asked.words;
     if words.wrong {
         return true;
     }
     if asked.way == NOWHERE {
-        front::say(who, b"the first word is over or back", b"");
+        front::say(rt, who, b"the first word is over or back", b"");
         return true;
     }
     if words.names > 2 {
-        front::say(who, b"mover takes one file", b"");
+        front::say(rt, who, b"mover takes one file", b"");
         return true;
     }
     false

@@ -10,9 +10,9 @@ ghost use Rattle.io.specs.Counts.{IsPrefixLen as Front};
 
 use archive::Written;
 use asked::Asked;
-use front::Words;
-use libc::{STDERR_FILENO, STDOUT_FILENO};
+use front::{Desk, Words};
 use report::Seen;
+use std::io::{Print, Result};
 
 // How a move ended: the status, and the number of a refusal or 0.
 #[derive(Clone, Copy)]
@@ -21,15 +21,15 @@ struct Ended {
     refusal: u8,
 }
 
-fn main() {
+fn main(rt: HostRuntime) {
     let mut name = [0u8; front::WHO];
-    let called = front::begin(b"mover", &mut name);
+    let called = front::begin(&rt, b"mover", &mut name);
     let n = called.count;
-    let ended = answer(&name[..n], called.first);
+    let ended = answer(&rt, &name[..n], called.first);
     if called.fronted {
         tell(ended);
     } else {
-        say_refusal(&name[..n], ended.refusal);
+        say_refusal(&rt, &name[..n], ended.refusal);
     }
 }
 
@@ -44,27 +44,26 @@ fn tell(ended: Ended) {
 }
 
 // Says a refusal, if there is one.
-fn say_refusal(who: &[u8], refusal: u8) {
+fn say_refusal(rt: &impl Desk, who: &[u8], refusal: u8) {
     if refusal == 0 {
         return;
     }
     let mut number = [0u8; 8];
     let end = report::add_number(&mut number, 0, refusal as u64);
-    front::say(who, b"refused ", &number[..end]);
+    front::say(rt, who, b"refused ", &number[..end]);
 }
 
 // What is asked from argument `first` on.
-fn answer(who: &[u8], first: usize) -> Ended {
-    let asked = asked::asked_from(who, first);
+fn answer(rt: &impl Desk, who: &[u8], first: usize) -> Ended {
+    let asked = asked::asked_from(rt, who, first);
     let words = asked.words;
     if words.help {
-        return without_refusal(front::helped(who, print_usage(STDOUT_FILENO, who)));
+        return without_refusal(front::helped(rt, who, print_usage(rt, who)));
     }
-    if asked::is_wrong(who, asked) {
-        print_usage(STDERR_FILENO, who);
-        return without_refusal(front::WRONG);
+    if asked::is_wrong(rt, who, asked) {
+        return without_refusal(front::misused(print_usage(&rt.messages(), who)));
     }
-    move_archive(who, asked.way, words)
+    move_archive(rt, who, asked.way, words)
 }
 
 fn without_refusal(status: u64) -> Ended {
@@ -74,20 +73,20 @@ fn without_refusal(status: u64) -> Ended {
     }
 }
 
-fn print_usage(fd: i32, who: &[u8]) -> bool {
-    let begun = front::print_usage(
-        fd,
+fn print_usage(to: &impl Print, who: &[u8]) -> Result<()> {
+    front::print_usage(
+        to,
         who,
         b" [--] over|back [FILE]\n",
         b"Moves the archive in FILE, or on standard input, over to version 2 or back to version 1,\n",
-    );
-    begun && io::write_all(fd, b"and writes the moved bytes to standard output.\n")
+    )?;
+    to.write_all(b"and writes the moved bytes to standard output.\n")
 }
 
 // Reads the archive, moves it and writes what came of it.
-fn move_archive(who: &[u8], way: u8, words: Words) -> Ended {
+fn move_archive(rt: &impl Desk, who: &[u8], way: u8, words: Words) -> Ended {
     let mut bytes = io::large_buffer();
-    let seen = read_archive(who, words, &mut bytes);
+    let seen = read_archive(rt, who, words, &mut bytes);
     if seen.failed {
         return without_refusal(front::FAILED);
     }
@@ -100,17 +99,17 @@ fn move_archive(who: &[u8], way: u8, words: Words) -> Ended {
             refusal: written.refusal,
         };
     }
-    without_refusal(put_out(who, &room, written.length))
+    without_refusal(put_out(rt, who, &room, written.length))
 }
 
 // Reads the file that is named behind the way, or standard input.
-fn read_archive(who: &[u8], words: Words, bytes: &mut [u8]) -> Seen
+fn read_archive(rt: &impl Desk, who: &[u8], words: Words, bytes: &mut [u8]) -> Seen
     ensures { Front result.count bytes.new }
 {
     if words.names == 1 {
-        return front::read_input(who, bytes);
+        return front::read_input(rt, who, bytes);
     }
-    front::read_argument(who, words.last, bytes)
+    front::read_argument(rt, who, words.last, bytes)
 }
 
 fn moved(way: u8, bytes: &[u8], room: &mut [u8]) -> Written {
@@ -121,8 +120,8 @@ fn moved(way: u8, bytes: &[u8], room: &mut [u8]) -> Written {
 }
 
 // Writes the first `count` bytes of the room, which has them. Answers the status.
-fn put_out(who: &[u8], room: &[u8], count: usize) -> u64 {
-    if count <= room.len() && front::print(who, &room[..count]) {
+fn put_out(rt: &impl Desk, who: &[u8], room: &[u8], count: usize) -> u64 {
+    if count <= room.len() && front::print(rt, who, &room[..count]) {
         return front::DONE;
     }
     front::FAILED

@@ -5,72 +5,63 @@
 
 ghost use Rattle.io.specs.Counts.{IsPrefixLen as Front};
 
-use front::Words;
-use libc::{STDERR_FILENO, STDOUT_FILENO};
+use front::{Desk, Words};
 use report::Seen;
+use std::io::{Print, Result};
+use types::Counts;
 
-fn main() {
+fn main(rt: HostRuntime) {
     let mut name = [0u8; front::WHO];
-    let called = front::begin(b"play", &mut name);
+    let called = front::begin(&rt, b"play", &mut name);
     let n = called.count;
-    let status = answer(&name[..n], called.first);
+    let status = answer(&rt, &name[..n], called.first);
     front::tell_status(called.fronted, status);
 }
 
 // What is asked from argument `first` on. Answers the status.
-fn answer(who: &[u8], first: usize) -> u64 {
-    let words = front::words_of(who, first);
+fn answer(rt: &impl Desk, who: &[u8], first: usize) -> u64 {
+    let words = front::words_of(rt, who, first);
     if words.help {
-        return front::helped(who, print_usage(STDOUT_FILENO, who));
+        return front::helped(rt, who, print_usage(rt, who));
     }
-    if is_wrong(who, words) {
-        print_usage(STDERR_FILENO, who);
-        return front::WRONG;
+    if is_wrong(rt, who, words) {
+        return front::misused(print_usage(&rt.messages(), who));
     }
-    play(who, words)
+    play(rt, who, words)
 }
 
-fn is_wrong(who: &[u8], words: Words) -> bool {
+fn is_wrong(rt: &impl Desk, who: &[u8], words: Words) -> bool {
     if words.wrong {
         return true;
     }
     if words.names > 1 {
-        front::say(who, b"play takes one file", b"");
+        front::say(rt, who, b"play takes one file", b"");
         return true;
     }
     false
 }
 
-fn print_usage(fd: i32, who: &[u8]) -> bool {
-    let begun = front::print_usage(
-        fd,
+fn print_usage(to: &impl Print, who: &[u8]) -> Result<()> {
+    front::print_usage(
+        to,
         who,
         b" [--] [FILE]\n",
         b"Plays the archive in FILE, or on standard input: a line `draw packet site` for each\n",
-    );
-    begun
-        && io::write_all(
-            fd,
-            b"service, then `accepted A pairs P serviced V owed O`; or only `refused N`.\n",
-        )
+    )?;
+    to.write_all(b"service, then `accepted A pairs P serviced V owed O`; or only `refused N`.\n")
 }
 
-fn play(who: &[u8], words: Words) -> u64 {
+fn play(rt: &impl Desk, who: &[u8], words: Words) -> u64 {
     let mut bytes = io::large_buffer();
-    let seen = read_archive(who, words, &mut bytes);
+    let seen = read_archive(rt, who, words, &mut bytes);
     if seen.failed {
         return front::FAILED;
     }
     let n = seen.count;
     let mut book = [0u8; report::BOOK];
     let played = machine::play(&bytes[..n], &mut book);
-    let counts = played.counts;
-    if !report::print_services(&book, counts.serviced) {
-        front::no_output(who);
-        return front::FAILED;
-    }
-    if !report::print_line(played.refusal, counts) {
-        front::no_output(who);
+    if let Err(error) = print_played(rt, &book, played.refusal, played.counts) {
+        front::no_output(rt, who, error);
         return front::FAILED;
     }
     if played.refusal == 0 {
@@ -80,12 +71,18 @@ fn play(who: &[u8], words: Words) -> u64 {
     }
 }
 
+// The services of the book, then the line of the answer.
+fn print_played(out: &impl Print, book: &[u8], refusal: u8, counts: Counts) -> Result<()> {
+    report::print_services(out, book, counts.serviced)?;
+    report::print_line(out, refusal, counts)
+}
+
 // Reads the file that is named, or standard input.
-fn read_archive(who: &[u8], words: Words, bytes: &mut [u8]) -> Seen
+fn read_archive(rt: &impl Desk, who: &[u8], words: Words, bytes: &mut [u8]) -> Seen
     ensures { Front result.count bytes.new }
 {
     if words.names == 0 {
-        return front::read_input(who, bytes);
+        return front::read_input(rt, who, bytes);
     }
-    front::read_argument(who, words.last, bytes)
+    front::read_argument(rt, who, words.last, bytes)
 }

@@ -9,60 +9,59 @@ mod asked;
 mod number;
 mod text;
 
-use libc::{STDERR_FILENO, STDOUT_FILENO};
+use front::Desk;
 use number::NUMBERS;
+use std::io::{Print, Result};
 
-fn main() {
+fn main(rt: HostRuntime) {
     let mut name = [0u8; front::WHO];
-    let called = front::begin(b"quote", &mut name);
+    let called = front::begin(&rt, b"quote", &mut name);
     let n = called.count;
-    let status = answer(&name[..n], called.first);
+    let status = answer(&rt, &name[..n], called.first);
     front::tell_status(called.fronted, status);
 }
 
 // What is asked from argument `first` on. Answers the status.
-fn answer(who: &[u8], first: usize) -> u64 {
-    let asked = asked::asked_from(who, first);
+fn answer(rt: &impl Desk, who: &[u8], first: usize) -> u64 {
+    let asked = asked::asked_from(rt, who, first);
     let words = asked.words;
     if words.help {
-        return front::helped(who, print_usage(STDOUT_FILENO, who));
+        return front::helped(rt, who, print_usage(rt, who));
     }
-    if asked::is_wrong(who, words) {
-        print_usage(STDERR_FILENO, who);
-        return front::WRONG;
+    if asked::is_wrong(rt, who, words) {
+        return front::misused(print_usage(&rt.messages(), who));
     }
     let numbers = asked.numbers;
-    print_quote(who, numbers, asked.doubled)
+    print_quote(rt, who, numbers, asked.doubled)
 }
 
-fn print_usage(fd: i32, who: &[u8]) -> bool {
-    let begun = front::print_usage(
-        fd,
+fn print_usage(to: &impl Print, who: &[u8]) -> Result<()> {
+    front::print_usage(
+        to,
         who,
         b" [--doubled] [--] t L D n W\n",
         b"Prints the latency of a packet that meets no other, in cycles, four lines: unicast, and the averages\n",
-    );
-    begun && print_meaning(fd)
+    )?;
+    print_meaning(to)
 }
 
-fn print_meaning(fd: i32) -> bool {
-    let order = io::write_all(
-        fd,
+// Both lines are tried; of two errors the later is answered.
+fn print_meaning(to: &impl Print) -> Result<()> {
+    let order = to.write_all(
         b"of multi-unicast, resumable and restricted branch multicast; with --doubled twice each. t: bits of\n",
     );
-    let letters = io::write_all(
-        fd,
+    let letters = to.write_all(
         b"a target; L: bits of the data; D: channels to go; n: targets; W: bits of a channel; 1 to 65535 each.\n",
     );
-    order & letters
+    letters.and(order)
 }
 
 // Prints the four lines, or the refusal. Answers the status.
-fn print_quote(who: &[u8], numbers: [u64; NUMBERS], doubled: bool) -> u64 {
+fn print_quote(rt: &impl Desk, who: &[u8], numbers: [u64; NUMBERS], doubled: bool) -> u64 {
     let mut room = [0u8; text::TEXT];
     let quoted = text::quote(numbers, doubled, &mut room);
     let n = quoted.count;
-    let is_printed = front::print(who, &room[..n]);
+    let is_printed = front::print(rt, who, &room[..n]);
     if is_printed & (quoted.refusal == 0) {
         return front::DONE;
     }

@@ -1,19 +1,20 @@
 // What `play`, `batch` and `rewrite` share: the bytes of an archive, read as far as they are seen, and the lines printed
 // of a played archive. `answer_line`, `service_lines` and `add_..` compose the lines in lent bytes; their contracts settle
-// each byte. What is read and written no contract can say: the functions that do it are proved safe and ending.
+// each byte. What is read and written no contract can say: the functions that do it are proved safe and ending, and
+// answer the error of the system's where it fails.
 #![tactic(auto)]
 
 mod adding;
 mod text;
 
-ghost use Rattle.std.specs.Prelude.{min, ◌≡◌, length};
+ghost use Rattle.std.specs.Prelude.{min, ◌≡◌, OnErr, length, IfOk};
 ghost use Rattle.io.specs.Counts.{IsPrefixLen as Front};
 ghost use Rattle.base.specs.Answers.{at_front};
 ghost use Rattle.lines.specs.Text.{answer_line, lines_answer, lines_after};
 
 pub use adding::{add_answer, add_bytes, add_name, add_number};
-use libc::STDOUT_FILENO;
 use lines::Lines;
+use std::io::{Print, Read, Result};
 use text::{put_all, put_counts, put_entry, put_field};
 use types::Counts;
 
@@ -24,7 +25,7 @@ pub const ANSWER: usize = 113;
 // Room for the line of every service: `65535 255 255` and its newline.
 const SERVICE: usize = 14;
 
-// A reading: how many bytes stand at the front of the lent room; none if it failed.
+// A reading: how many bytes stand at the front of the lent room; none if it failed, which is said by then.
 #[derive(Clone, Copy)]
 pub struct Seen {
     pub failed: bool,
@@ -73,62 +74,52 @@ pub(crate) fn least(a: usize, b: usize) -> usize
 
 // ---- reading and writing
 
-// Reads until the room is full or the input ends. A read that fails makes the whole reading fail.
-pub fn read_seen(fd: i32, room: &mut [u8]) -> Seen
-    ensures { Front result.count room.new }
+// Reads until the room is full or the input ends, and answers how many bytes stand at the front of the room. A read
+// that fails makes the whole reading fail, with that read's own error: of the room only its length is known then.
+pub fn read_seen(from: &mut impl Read, room: &mut [u8]) -> Result<usize>
+    ensures ok { IfOk result (λ count. Front count room.new) }
+    ensures err { OnErr result (length room.new ≡ length room.old) }
 {
     let mut count = 0usize;
     while count < room.len() {
-        let got = libc::read(fd, &mut room[count..]);
-        if got < 0 {
-            return Seen {
-                failed: true,
-                count: 0,
-            };
-        }
-        let more = io::count(got, &room[count..]);
+        let more = from.read(&mut room[count..])?;
         if more == 0 {
             break;
         }
         count += more;
     }
-    Seen {
-        failed: false,
-        count: count,
-    }
+    Ok(count)
 }
 
 // Prints the lines of the first `count` services of a book, as far as the book has them, many in one write and no line
-// in two. Stops at a write that fails. Answers whether all was written.
-pub fn print_services(book: &[u8], count: usize) -> bool {
+// in two. Stops at a write that fails.
+pub fn print_services(out: &impl Print, book: &[u8], count: usize) -> Result<()> {
     let n = least(count, book.len() / 4);
     let mut text = io::buffer();
     let mut k = 0usize;
     while k < n {
         let lines = service_lines(&book[4 * k..4 * n], &mut text);
         let bytes = lines.bytes;
-        if !io::write_all(STDOUT_FILENO, &text[..bytes]) {
-            return false;
-        }
+        out.write_all(&text[..bytes])?;
         k += lines.services;
     }
-    true
+    Ok(())
 }
 
-// Prints the line of an answer in one write. Answers whether all was written.
-pub fn print_line(refusal: u8, counts: Counts) -> bool {
+// Prints the line of an answer in one write.
+pub fn print_line(out: &impl Print, refusal: u8, counts: Counts) -> Result<()> {
     let mut text = [0u8; ANSWER];
     let n = answer_line(refusal, counts, &mut text);
-    io::write_all(STDOUT_FILENO, &text[..n])
+    out.write_all(&text[..n])
 }
 
 // Prints the line of a refusal.
-pub fn print_refusal(refusal: u8) -> bool {
+pub fn print_refusal(out: &impl Print, refusal: u8) -> Result<()> {
     let counts = Counts {
         accepted: 0,
         pairs: 0,
         serviced: 0,
         owed: 0,
     };
-    print_line(refusal, counts)
+    print_line(out, refusal, counts)
 }

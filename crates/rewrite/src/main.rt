@@ -5,41 +5,44 @@
 
 mod one;
 
-use libc::{STDERR_FILENO, STDOUT_FILENO};
-use one::Totals;
+use front::Desk;
+use one::{Totals, put, put_number};
+use std::io::Print;
 
-fn print_total(label: &[u8], n: u64) -> bool {
-    let is_label = io::write_all(STDOUT_FILENO, label);
-    io::print_decimal(STDOUT_FILENO, n) && is_label
+fn print_total(out: &impl Print, label: &[u8], n: u64) -> bool {
+    let is_label = put(out, label);
+    put_number(out, n) && is_label
 }
 
-fn print_totals(totals: Totals) -> bool {
-    let files = print_total(b"files ", totals.files);
-    let same = print_total(b" same ", totals.same);
-    let refused = print_total(b" refused ", totals.refused);
-    let differ = print_total(b" differ ", totals.differ);
-    let unreadable = print_total(b" unreadable ", totals.unreadable);
-    let end = io::write_all(STDOUT_FILENO, b"\n");
+fn print_totals(out: &impl Print, totals: Totals) -> bool {
+    let files = print_total(out, b"files ", totals.files);
+    let same = print_total(out, b" same ", totals.same);
+    let refused = print_total(out, b" refused ", totals.refused);
+    let differ = print_total(out, b" differ ", totals.differ);
+    let unreadable = print_total(out, b" unreadable ", totals.unreadable);
+    let end = put(out, b"\n");
     files && same && refused && differ && unreadable && end
 }
 
 // The file that argument i names. A longer argument than a path can be leads to no file.
-fn rewrite_argument(i: usize, totals: Totals) -> Totals {
+fn rewrite_argument(rt: &impl Desk, i: usize, totals: Totals) -> Totals {
     let mut name = io::buffer();
-    let n = os::arg(i, &mut name);
-    if os::errno() != 0 {
-        return one::cannot_be_read(&name, totals);
+    match rt.arg(i, &mut name) {
+        Ok(n) => one::rewrite_file(rt, &name[..n], totals),
+        Err(_) => one::cannot_be_read(rt, &name, totals),
     }
-    one::rewrite_file(&name[..n], totals)
 }
 
-fn main() {
+fn main(rt: HostRuntime) {
     let mut totals = one::no_files();
-    for i in 1..os::arg_count() {
-        totals = rewrite_argument(i, totals);
+    for i in 1..front::arg_count(&rt) {
+        totals = rewrite_argument(&rt, i, totals);
     }
-    let is_printed = print_totals(totals);
+    let is_printed = print_totals(&rt, totals);
     if totals.lost || !is_printed {
-        io::write_all(STDERR_FILENO, b"rewrite: not every line could be written\n");
+        put(
+            &rt.messages(),
+            b"rewrite: not every line could be written\n",
+        );
     }
 }

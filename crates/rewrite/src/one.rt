@@ -1,6 +1,11 @@
 // One file: read, written back, compared, and told in one line. The totals go in by value and come back.
-use libc::STDOUT_FILENO;
-use std::num::wrapping_add_u64;
+ghost use Rattle.std.specs.Prelude.{IfOk};
+ghost use Rattle.io.specs.Counts.{IsPrefixLen as Front};
+
+use front::Desk;
+use std::fs::File;
+use std::io::{ErrorKind, Print, Result};
+use std::rt::Files;
 use types::Run;
 
 // What a room is filled with before the writer gets it.
@@ -28,30 +33,36 @@ pub fn no_files() -> Totals {
     }
 }
 
-// Reads the file of this name and judges its bytes.
-pub fn rewrite_file(name: &[u8], totals: Totals) -> Totals {
-    let fd = os::open_read(name);
-    if fd < 0 {
-        return cannot_be_read(name, totals);
+// Opens the file of this name, UTF-8 text, and reads it, as far as the room goes.
+fn read_named(rt: &impl Files, name: &[u8], room: &mut [u8]) -> Result<usize>
+    ensures { IfOk result (λ count. Front count room.new) }
+{
+    match std::str::from_utf8(name) {
+        Ok(path) => {
+            let mut file = File::open(rt, path)?;
+            report::read_seen(&mut file, room)
+        }
+        Err(_) => Err(ErrorKind::InvalidFilename.into()),
     }
-    let mut bytes = io::large_buffer();
-    let seen = report::read_seen(fd, &mut bytes);
-    libc::close(fd);
-    if seen.failed {
-        return cannot_be_read(name, totals);
-    }
-    let n = seen.count;
-    judge(name, &bytes[..n], totals)
 }
 
-fn judge(name: &[u8], bytes: &[u8], totals: Totals) -> Totals {
+// Reads the file of this name and judges its bytes.
+pub fn rewrite_file(rt: &impl Desk, name: &[u8], totals: Totals) -> Totals {
+    let mut bytes = io::large_buffer();
+    match read_named(rt, name, &mut bytes) {
+        Ok(n) => judge(rt, name, &bytes[..n], totals),
+        Err(_) => cannot_be_read(rt, name, totals),
+    }
+}
+
+fn judge(out: &impl Print, name: &[u8], bytes: &[u8], totals: Totals) -> Totals {
     let decoded = archive::read(bytes);
     let refusal = decoded.refusal;
     if refusal != 0 {
-        let is_named = print_line(name, b": ");
-        let is_printed = report::print_refusal(refusal);
+        let is_named = print_line(out, name, b": ");
+        let is_printed = report::print_refusal(out, refusal).is_ok();
         let mut now = counted(totals, is_named && is_printed);
-        now.refused = wrapping_add_u64(totals.refused, 1);
+        now.refused = totals.refused.wrapping_add(1);
         return now;
     }
     let run = decoded.run;
@@ -59,14 +70,14 @@ fn judge(name: &[u8], bytes: &[u8], totals: Totals) -> Totals {
     let mut short = [FILL; format::LONGEST];
     let is_back = comes_back(run, bytes, &mut room);
     if needs_room(run, bytes.len(), &mut short) && is_back {
-        let is_printed = print_number(name, b": same ", bytes.len() as u64, b" bytes\n");
+        let is_printed = print_number(out, name, b": same ", bytes.len() as u64, b" bytes\n");
         let mut now = counted(totals, is_printed);
-        now.same = wrapping_add_u64(totals.same, 1);
+        now.same = totals.same.wrapping_add(1);
         return now;
     }
-    let is_printed = print_line(name, b": DIFFERS\n");
+    let is_printed = print_line(out, name, b": DIFFERS\n");
     let mut now = counted(totals, is_printed);
-    now.differ = wrapping_add_u64(totals.differ, 1);
+    now.differ = totals.differ.wrapping_add(1);
     now
 }
 
@@ -102,28 +113,40 @@ fn is_filled(room: &[u8]) -> bool {
 }
 
 // The line of a name that leads to nothing that can be read.
-pub fn cannot_be_read(name: &[u8], totals: Totals) -> Totals {
-    let is_printed = print_line(name, b": cannot be read\n");
+pub fn cannot_be_read(out: &impl Print, name: &[u8], totals: Totals) -> Totals {
+    let is_printed = print_line(out, name, b": cannot be read\n");
     let mut now = counted(totals, is_printed);
-    now.unreadable = wrapping_add_u64(totals.unreadable, 1);
+    now.unreadable = totals.unreadable.wrapping_add(1);
     now
 }
 
-fn print_line(name: &[u8], words: &[u8]) -> bool {
-    let is_named = io::write_all(STDOUT_FILENO, name);
-    io::write_all(STDOUT_FILENO, words) && is_named
+fn print_line(out: &impl Print, name: &[u8], words: &[u8]) -> bool {
+    let is_named = put(out, name);
+    put(out, words) && is_named
 }
 
-fn print_number(name: &[u8], words: &[u8], n: u64, end: &[u8]) -> bool {
-    let is_begun = print_line(name, words);
-    let is_number = io::print_decimal(STDOUT_FILENO, n);
-    io::write_all(STDOUT_FILENO, end) && is_begun && is_number
+fn print_number(out: &impl Print, name: &[u8], words: &[u8], n: u64, end: &[u8]) -> bool {
+    let is_begun = print_line(out, name, words);
+    let is_number = put_number(out, n);
+    put(out, end) && is_begun && is_number
+}
+
+// Writes all of the bytes. Answers whether that was done.
+pub fn put(out: &impl Print, bytes: &[u8]) -> bool {
+    out.write_all(bytes).is_ok()
+}
+
+// Writes a number in decimal.
+pub fn put_number(out: &impl Print, n: u64) -> bool {
+    let mut digits = [0u8; 20];
+    let k = io::decimal(n, &mut digits);
+    put(out, &digits[..k])
 }
 
 // One file more.
 fn counted(totals: Totals, is_printed: bool) -> Totals {
     let mut now = totals;
-    now.files = wrapping_add_u64(totals.files, 1);
+    now.files = totals.files.wrapping_add(1);
     now.lost = totals.lost || !is_printed;
     now
 }

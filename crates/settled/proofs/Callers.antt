@@ -3,33 +3,33 @@
 use mathlib.Core.Path.{refl}
 use Rattle.settled.specs.Outcomes.{Settles}
 use Rattle.settled.proofs.Shown.{settled, value, beside, behind, inputs, same}
-use Rattle.callers.specs.contracts.run as the-run
+use Rattle.callers.specs.contracts.run as the_run
 use Rattle.callers.specs.contracts.send as the_send
-use Rattle.callers.specs.contracts.play as the-play
-use Rattle.callers.specs.contracts.play_beside as the-play-beside
-use Rattle.callers.specs.contracts.two_draws as the-two-draws
+use Rattle.callers.specs.contracts.play as the_play
+use Rattle.callers.specs.contracts.play_beside as the_play_beside
+use Rattle.callers.specs.contracts.two_draws as the_two_draws
 
 -- the answer and the next state
-pub run_settled : Settles the-run.ended (λ M. the-run.clauses) (λ M. the-run.spec)
+pub run_settled : Settles the_run.ended (λ M 𝓤. the_run.clauses) (λ M 𝓤. the_run.spec)
 run_settled = settled (λ κs a x y p q. refl) (λ κs a x y p q i. (same p q i, x.1))
 
 -- the answer and the next state
-pub send_settled : Settles the_send.ended (λ M. the_send.clauses) (λ M. the_send.spec)
+pub send_settled : Settles the_send.ended (λ M 𝓤. the_send.clauses) (λ M 𝓤. the_send.spec)
 send_settled = settled (λ κs a x y p q. refl) (λ κs a x y p q i. (same p q i, x.1))
 
 -- the answer, and every byte of the lent `book`
-pub play_settled : Settles the-play.ended (λ M. the-play.clauses) (λ M. the-play.spec)
-play_settled = settled (λ κs a. beside value (beside (behind (inputs the-play.ended κs).1.0) value))
+pub play_settled : Settles the_play.ended (λ M 𝓤. the_play.clauses) (λ M 𝓤. the_play.spec)
+play_settled = settled (λ κs a. beside value (beside (behind (inputs the_play.ended κs).1.0) value))
     (λ κs a x y p q i. (same p.0 q.0 i, (tt, (same p.1 q.1 i, tt))))
 
 -- the answer, every byte of the lent `book`, every byte of the lent `beside`
-pub play_beside_settled : Settles the-play-beside.ended (λ M. the-play-beside.clauses) (λ M. the-play-beside.spec)
+pub play_beside_settled : Settles the_play_beside.ended (λ M 𝓤. the_play_beside.clauses) (λ M 𝓤. the_play_beside.spec)
 play_beside_settled = settled
     (λ κs a.
-    let i = inputs the-play-beside.ended κs in
+    let i = inputs the_play_beside.ended κs in
     beside value (beside (behind i.1.0) (beside (behind i.1.1.0) value)))
     (λ κs a x y p q i. (same p.0 q.0 i, (tt, (same p.1 q.1 i, (same p.2 q.2 i, tt)))))
 
 -- the second answer and the state after it
-pub two_draws_settled : Settles the-two-draws.ended (λ M. the-two-draws.clauses) (λ M. the-two-draws.spec)
+pub two_draws_settled : Settles the_two_draws.ended (λ M 𝓤. the_two_draws.clauses) (λ M 𝓤. the_two_draws.spec)
 two_draws_settled = settled (λ κs a x y p q. refl) (λ κs a x y p q i. (same p q i, x.1))

@@ -3,51 +3,51 @@
 use mathlib.Core.Path.{refl}
 use Rattle.settled.specs.Outcomes.{Settles}
 use Rattle.settled.proofs.Shown.{settled, same}
-use Rattle.checks.specs.contracts.network_refusal as the-network-refusal
-use Rattle.checks.specs.contracts.is_in_range as the-is-in-range
-use Rattle.checks.specs.contracts.event_refusal as the-event-refusal
-use Rattle.checks.specs.contracts.place_ok as the-place-ok
-use Rattle.checks.specs.contracts.send_fault as the-send-fault
-use Rattle.checks.specs.contracts.sizes_ok as the-sizes-ok
-use Rattle.checks.specs.contracts.is_input as the-is-input
-use Rattle.checks.specs.contracts.ports_by as the-ports-by
-use Rattle.checks.specs.contracts.route_ok as the-route-ok
-use Rattle.checks.specs.contracts.stored_ok as the-stored-ok
-use Rattle.checks.specs.contracts.kind_refusal as the-kind-refusal
-use Rattle.checks.specs.contracts.far_apart as the-far-apart
+use Rattle.checks.specs.contracts.network_refusal as the_network_refusal
+use Rattle.checks.specs.contracts.is_in_range as the_is_in_range
+use Rattle.checks.specs.contracts.event_refusal as the_event_refusal
+use Rattle.checks.specs.contracts.place_ok as the_place_ok
+use Rattle.checks.specs.contracts.send_fault as the_send_fault
+use Rattle.checks.specs.contracts.sizes_ok as the_sizes_ok
+use Rattle.checks.specs.contracts.is_input as the_is_input
+use Rattle.checks.specs.contracts.ports_by as the_ports_by
+use Rattle.checks.specs.contracts.route_ok as the_route_ok
+use Rattle.checks.specs.contracts.stored_ok as the_stored_ok
+use Rattle.checks.specs.contracts.kind_refusal as the_kind_refusal
+use Rattle.checks.specs.contracts.far_apart as the_far_apart
 
-pub network_refusal_settled : Settles the-network-refusal.ended (λ M. the-network-refusal.clauses) (λ M. the-network-refusal.spec)
+pub network_refusal_settled : Settles the_network_refusal.ended (λ M 𝓤. the_network_refusal.clauses) (λ M 𝓤. the_network_refusal.spec)
 network_refusal_settled = settled (λ κs a x y p q. refl) (λ κs a x y p q i. (same p q i, x.1))
 
-pub is_in_range_settled : Settles the-is-in-range.ended (λ M. the-is-in-range.clauses) (λ M. the-is-in-range.spec)
+pub is_in_range_settled : Settles the_is_in_range.ended (λ M 𝓤. the_is_in_range.clauses) (λ M 𝓤. the_is_in_range.spec)
 is_in_range_settled = settled (λ κs a x y p q. refl) (λ κs a x y p q i. (same p q i, x.1))
 
-pub place_ok_settled : Settles the-place-ok.ended (λ M. the-place-ok.clauses) (λ M. the-place-ok.spec)
+pub place_ok_settled : Settles the_place_ok.ended (λ M 𝓤. the_place_ok.clauses) (λ M 𝓤. the_place_ok.spec)
 place_ok_settled = settled (λ κs a x y p q. refl) (λ κs a x y p q i. (same p q i, x.1))
 
-pub event_refusal_settled : Settles the-event-refusal.ended (λ M. the-event-refusal.clauses) (λ M. the-event-refusal.spec)
+pub event_refusal_settled : Settles the_event_refusal.ended (λ M 𝓤. the_event_refusal.clauses) (λ M 𝓤. the_event_refusal.spec)
 event_refusal_settled = settled (λ κs a x y p q. refl) (λ κs a x y p q i. (same p q i, x.1))
 
-pub send_fault_settled : Settles the-send-fault.ended (λ M. the-send-fault.clauses) (λ M. the-send-fault.spec)
+pub send_fault_settled : Settles the_send_fault.ended (λ M 𝓤. the_send_fault.clauses) (λ M 𝓤. the_send_fault.spec)
 send_fault_settled = settled (λ κs a x y p q. refl) (λ κs a x y p q i. (same p q i, x.1))
 
-pub sizes_ok_settled : Settles the-sizes-ok.ended (λ M. the-sizes-ok.clauses) (λ M. the-sizes-ok.spec)
+pub sizes_ok_settled : Settles the_sizes_ok.ended (λ M 𝓤. the_sizes_ok.clauses) (λ M 𝓤. the_sizes_ok.spec)
 sizes_ok_settled = settled (λ κs a x y p q. refl) (λ κs a x y p q i. (same p q i, x.1))
 
-pub is_input_settled : Settles the-is-input.ended (λ M. the-is-input.clauses) (λ M. the-is-input.spec)
+pub is_input_settled : Settles the_is_input.ended (λ M 𝓤. the_is_input.clauses) (λ M 𝓤. the_is_input.spec)
 is_input_settled = settled (λ κs a x y p q. refl) (λ κs a x y p q i. (same p q i, x.1))
 
-pub ports_by_settled : Settles the-ports-by.ended (λ M. the-ports-by.clauses) (λ M. the-ports-by.spec)
+pub ports_by_settled : Settles the_ports_by.ended (λ M 𝓤. the_ports_by.clauses) (λ M 𝓤. the_ports_by.spec)
 ports_by_settled = settled (λ κs a x y p q. refl) (λ κs a x y p q i. (same p q i, x.1))
 
-pub route_ok_settled : Settles the-route-ok.ended (λ M. the-route-ok.clauses) (λ M. the-route-ok.spec)
+pub route_ok_settled : Settles the_route_ok.ended (λ M 𝓤. the_route_ok.clauses) (λ M 𝓤. the_route_ok.spec)
 route_ok_settled = settled (λ κs a x y p q. refl) (λ κs a x y p q i. (same p q i, x.1))
 
-pub stored_ok_settled : Settles the-stored-ok.ended (λ M. the-stored-ok.clauses) (λ M. the-stored-ok.spec)
+pub stored_ok_settled : Settles the_stored_ok.ended (λ M 𝓤. the_stored_ok.clauses) (λ M 𝓤. the_stored_ok.spec)
 stored_ok_settled = settled (λ κs a x y p q. refl) (λ κs a x y p q i. (same p q i, x.1))
 
-pub kind_refusal_settled : Settles the-kind-refusal.ended (λ M. the-kind-refusal.clauses) (λ M. the-kind-refusal.spec)
+pub kind_refusal_settled : Settles the_kind_refusal.ended (λ M 𝓤. the_kind_refusal.clauses) (λ M 𝓤. the_kind_refusal.spec)
 kind_refusal_settled = settled (λ κs a x y p q. refl) (λ κs a x y p q i. (same p q i, x.1))
 
-pub far_apart_settled : Settles the-far-apart.ended (λ M. the-far-apart.clauses) (λ M. the-far-apart.spec)
+pub far_apart_settled : Settles the_far_apart.ended (λ M 𝓤. the_far_apart.clauses) (λ M 𝓤. the_far_apart.spec)
 far_apart_settled = settled (λ κs a x y p q. refl) (λ κs a x y p q i. (same p q i, x.1))

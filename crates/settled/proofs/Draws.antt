@@ -3,19 +3,19 @@
 use mathlib.Core.Path.{refl}
 use Rattle.settled.specs.Outcomes.{Settles}
 use Rattle.settled.proofs.Shown.{settled, same}
-use Rattle.draws.specs.contracts.draw as the-draw
-use Rattle.draws.specs.contracts.is_restricted as the-is-restricted
-use Rattle.draws.specs.contracts.codes_in as the-codes-in
-use Rattle.draws.specs.contracts.event_of as the-event-of
+use Rattle.draws.specs.contracts.draw as the_draw
+use Rattle.draws.specs.contracts.is_restricted as the_is_restricted
+use Rattle.draws.specs.contracts.codes_in as the_codes_in
+use Rattle.draws.specs.contracts.event_of as the_event_of
 
-pub draw_settled : Settles the-draw.ended (λ M. the-draw.clauses) (λ M. the-draw.spec)
+pub draw_settled : Settles the_draw.ended (λ M 𝓤. the_draw.clauses) (λ M 𝓤. the_draw.spec)
 draw_settled = settled (λ κs a x y p q. refl) (λ κs a x y p q i. (same p q i, x.1))
 
-pub is_restricted_settled : Settles the-is-restricted.ended (λ M. the-is-restricted.clauses) (λ M. the-is-restricted.spec)
+pub is_restricted_settled : Settles the_is_restricted.ended (λ M 𝓤. the_is_restricted.clauses) (λ M 𝓤. the_is_restricted.spec)
 is_restricted_settled = settled (λ κs a x y p q. refl) (λ κs a x y p q i. (same p q i, x.1))
 
-pub codes_in_settled : Settles the-codes-in.ended (λ M. the-codes-in.clauses) (λ M. the-codes-in.spec)
+pub codes_in_settled : Settles the_codes_in.ended (λ M 𝓤. the_codes_in.clauses) (λ M 𝓤. the_codes_in.spec)
 codes_in_settled = settled (λ κs a x y p q. refl) (λ κs a x y p q i. (same p q i, x.1))
 
-pub event_of_settled : Settles the-event-of.ended (λ M. the-event-of.clauses) (λ M. the-event-of.spec)
+pub event_of_settled : Settles the_event_of.ended (λ M 𝓤. the_event_of.clauses) (λ M 𝓤. the_event_of.spec)
 event_of_settled = settled (λ κs a x y p q. refl) (λ κs a x y p q i. (same p q i, x.1))

@@ -3,35 +3,35 @@
 use mathlib.Core.Path.{refl}
 use Rattle.settled.specs.Outcomes.{Settles}
 use Rattle.settled.proofs.Shown.{settled, same}
-use Rattle.faults.specs.contracts.find as the-find
-use Rattle.faults.specs.contracts.size_of as the-size-of
-use Rattle.faults.specs.contracts.fields_place as the-fields-place
-use Rattle.faults.specs.contracts.channel_place as the-channel-place
-use Rattle.faults.specs.contracts.routes_place as the-routes-place
-use Rattle.faults.specs.contracts.send_place as the-send-place
-use Rattle.faults.specs.contracts.edition_of as the-edition-of
-use Rattle.faults.specs.contracts.channel_of as the-channel-of
+use Rattle.faults.specs.contracts.find as the_find
+use Rattle.faults.specs.contracts.size_of as the_size_of
+use Rattle.faults.specs.contracts.fields_place as the_fields_place
+use Rattle.faults.specs.contracts.channel_place as the_channel_place
+use Rattle.faults.specs.contracts.routes_place as the_routes_place
+use Rattle.faults.specs.contracts.send_place as the_send_place
+use Rattle.faults.specs.contracts.edition_of as the_edition_of
+use Rattle.faults.specs.contracts.channel_of as the_channel_of
 
-pub find_settled : Settles the-find.ended (λ M. the-find.clauses) (λ M. the-find.spec)
+pub find_settled : Settles the_find.ended (λ M 𝓤. the_find.clauses) (λ M 𝓤. the_find.spec)
 find_settled = settled (λ κs a x y p q. refl) (λ κs a x y p q i. (same p q i, x.1))
 
-pub size_of_settled : Settles the-size-of.ended (λ M. the-size-of.clauses) (λ M. the-size-of.spec)
+pub size_of_settled : Settles the_size_of.ended (λ M 𝓤. the_size_of.clauses) (λ M 𝓤. the_size_of.spec)
 size_of_settled = settled (λ κs a x y p q. refl) (λ κs a x y p q i. (same p q i, x.1))
 
-pub fields_place_settled : Settles the-fields-place.ended (λ M. the-fields-place.clauses) (λ M. the-fields-place.spec)
+pub fields_place_settled : Settles the_fields_place.ended (λ M 𝓤. the_fields_place.clauses) (λ M 𝓤. the_fields_place.spec)
 fields_place_settled = settled (λ κs a x y p q. refl) (λ κs a x y p q i. (same p q i, x.1))
 
-pub channel_place_settled : Settles the-channel-place.ended (λ M. the-channel-place.clauses) (λ M. the-channel-place.spec)
+pub channel_place_settled : Settles the_channel_place.ended (λ M 𝓤. the_channel_place.clauses) (λ M 𝓤. the_channel_place.spec)
 channel_place_settled = settled (λ κs a x y p q. refl) (λ κs a x y p q i. (same p q i, x.1))
 
-pub routes_place_settled : Settles the-routes-place.ended (λ M. the-routes-place.clauses) (λ M. the-routes-place.spec)
+pub routes_place_settled : Settles the_routes_place.ended (λ M 𝓤. the_routes_place.clauses) (λ M 𝓤. the_routes_place.spec)
 routes_place_settled = settled (λ κs a x y p q. refl) (λ κs a x y p q i. (same p q i, x.1))
 
-pub send_place_settled : Settles the-send-place.ended (λ M. the-send-place.clauses) (λ M. the-send-place.spec)
+pub send_place_settled : Settles the_send_place.ended (λ M 𝓤. the_send_place.clauses) (λ M 𝓤. the_send_place.spec)
 send_place_settled = settled (λ κs a x y p q. refl) (λ κs a x y p q i. (same p q i, x.1))
 
-pub edition_of_settled : Settles the-edition-of.ended (λ M. the-edition-of.clauses) (λ M. the-edition-of.spec)
+pub edition_of_settled : Settles the_edition_of.ended (λ M 𝓤. the_edition_of.clauses) (λ M 𝓤. the_edition_of.spec)
 edition_of_settled = settled (λ κs a x y p q. refl) (λ κs a x y p q i. (same p q i, x.1))
 
-pub channel_of_settled : Settles the-channel-of.ended (λ M. the-channel-of.clauses) (λ M. the-channel-of.spec)
+pub channel_of_settled : Settles the_channel_of.ended (λ M 𝓤. the_channel_of.clauses) (λ M 𝓤. the_channel_of.spec)
 channel_of_settled = settled (λ κs a x y p q. refl) (λ κs a x y p q i. (same p q i, x.1))

@@ -9,7 +9,7 @@ use base.Logic.{emp, id⊢}
 use base.Stored.{Coded, Coded-set, coded_via}
 use contract.Monad.{fact}
 use contract.Lifetimes.{Lfts}
-use denote.Ref.{Bor}
+use denote.MutBor.{MutBor}
 use denote.Signature.{Slot, type_at}
 use denote.Triple.Clauses.{Ended, Lasts, AtExit, at_exit, closing}
 use borrow.Fn.World.{w₀}
@@ -58,8 +58,8 @@ value x y p q = refl
 pub beside : {A B : Type 0} → IsSet A → IsSet B → IsSet (A × B)
 beside s t = Σ_set s (λ _. t)
 
-pub behind : {X : Type 0} → Coded (Bor X) → IsSet X
-behind c = Coded-set (coded_via c (λ x. record { ref_ptr = (0, 0); now = x }) (λ x y p. ap (λ z. z.now) p))
+pub behind : {X : Type 0} → Coded (MutBor X) → IsSet X
+behind c = Coded-set (coded_via c (λ x. record { ref_ptr = (0, 0); ghost_name = 0; now = x }) (λ x y p. ap (λ z. z.now) p))
 
 abbrev Codes : {n : ℕ} (ss : List (Slot n)) → Lfts n → Type 0
 Codes [] κs = Unit {0}

@@ -3,31 +3,31 @@
 use mathlib.Core.Path.{refl}
 use Rattle.settled.specs.Outcomes.{Settles}
 use Rattle.settled.proofs.Shown.{settled, same}
-use Rattle.types.specs.contracts.state_number as the-state-number
-use Rattle.types.specs.contracts.connection_number as the-connection-number
-use Rattle.types.specs.contracts.received_number as the-received-number
-use Rattle.types.specs.contracts.terminator_number as the-terminator-number
-use Rattle.types.specs.contracts.is_free as the-is-free
-use Rattle.types.specs.contracts.is_split as the-is-split
-use Rattle.types.specs.contracts.is_none as the-is-none
+use Rattle.types.specs.contracts.state_number as the_state_number
+use Rattle.types.specs.contracts.connection_number as the_connection_number
+use Rattle.types.specs.contracts.received_number as the_received_number
+use Rattle.types.specs.contracts.terminator_number as the_terminator_number
+use Rattle.types.specs.contracts.is_free as the_is_free
+use Rattle.types.specs.contracts.is_split as the_is_split
+use Rattle.types.specs.contracts.is_none as the_is_none
 
-pub state_number_settled : Settles the-state-number.ended (λ M. the-state-number.clauses) (λ M. the-state-number.spec)
+pub state_number_settled : Settles the_state_number.ended (λ M 𝓤. the_state_number.clauses) (λ M 𝓤. the_state_number.spec)
 state_number_settled = settled (λ κs a x y p q. refl) (λ κs a x y p q i. (same p q i, x.1))
 
-pub connection_number_settled : Settles the-connection-number.ended (λ M. the-connection-number.clauses) (λ M. the-connection-number.spec)
+pub connection_number_settled : Settles the_connection_number.ended (λ M 𝓤. the_connection_number.clauses) (λ M 𝓤. the_connection_number.spec)
 connection_number_settled = settled (λ κs a x y p q. refl) (λ κs a x y p q i. (same p q i, x.1))
 
-pub received_number_settled : Settles the-received-number.ended (λ M. the-received-number.clauses) (λ M. the-received-number.spec)
+pub received_number_settled : Settles the_received_number.ended (λ M 𝓤. the_received_number.clauses) (λ M 𝓤. the_received_number.spec)
 received_number_settled = settled (λ κs a x y p q. refl) (λ κs a x y p q i. (same p q i, x.1))
 
-pub terminator_number_settled : Settles the-terminator-number.ended (λ M. the-terminator-number.clauses) (λ M. the-terminator-number.spec)
+pub terminator_number_settled : Settles the_terminator_number.ended (λ M 𝓤. the_terminator_number.clauses) (λ M 𝓤. the_terminator_number.spec)
 terminator_number_settled = settled (λ κs a x y p q. refl) (λ κs a x y p q i. (same p q i, x.1))
 
-pub is_free_settled : Settles the-is-free.ended (λ M. the-is-free.clauses) (λ M. the-is-free.spec)
+pub is_free_settled : Settles the_is_free.ended (λ M 𝓤. the_is_free.clauses) (λ M 𝓤. the_is_free.spec)
 is_free_settled = settled (λ κs a x y p q. refl) (λ κs a x y p q i. (same p q i, x.1))
 
-pub is_split_settled : Settles the-is-split.ended (λ M. the-is-split.clauses) (λ M. the-is-split.spec)
+pub is_split_settled : Settles the_is_split.ended (λ M 𝓤. the_is_split.clauses) (λ M 𝓤. the_is_split.spec)
 is_split_settled = settled (λ κs a x y p q. refl) (λ κs a x y p q i. (same p q i, x.1))
 
-pub is_none_settled : Settles the-is-none.ended (λ M. the-is-none.clauses) (λ M. the-is-none.spec)
+pub is_none_settled : Settles the_is_none.ended (λ M 𝓤. the_is_none.clauses) (λ M 𝓤. the_is_none.spec)
 is_none_settled = settled (λ κs a x y p q. refl) (λ κs a x y p q i. (same p q i, x.1))

@@ -8,27 +8,27 @@ use Rattle.types.specs.declared.RunAnswer.{RunAnswer}
 use Rattle.layout.specs.Public.{RanWords, SentWords}
 use Rattle.settled.specs.Outcomes.{Settles}
 use Rattle.settled.proofs.Shown.{settled, value, beside, behind, inputs, same}
-use Rattle.words.specs.contracts.owed as the-owed
-use Rattle.words.specs.contracts.play as the-play
-use Rattle.words.specs.contracts.run as the-run
+use Rattle.words.specs.contracts.owed as the_owed
+use Rattle.words.specs.contracts.play as the_play
+use Rattle.words.specs.contracts.run as the_run
 use Rattle.words.specs.contracts.send as the_send
-use Rattle.words.specs.contracts.write_empty as the-write-empty
+use Rattle.words.specs.contracts.write_empty as the_write_empty
 
 -- the answer, and every byte of the lent `book`
-pub play_settled : Settles the-play.ended (λ M. the-play.clauses) (λ M. the-play.spec)
-play_settled = settled (λ κs a. beside value (beside (behind (inputs the-play.ended κs).1.0) value))
+pub play_settled : Settles the_play.ended (λ M 𝓤. the_play.clauses) (λ M 𝓤. the_play.spec)
+play_settled = settled (λ κs a. beside value (beside (behind (inputs the_play.ended κs).1.0) value))
     (λ κs a x y p q i. (same p.0 q.0 i, (tt, (same p.1 q.1 i, tt))))
 
 -- the answer with the outputs in the way, and every one of the lent `words`
-pub run_settled : Settles the-run.ended (λ M. the-run.clauses) (λ M. the-run.spec)
+pub run_settled : Settles the_run.ended (λ M 𝓤. the_run.clauses) (λ M 𝓤. the_run.spec)
 run_settled =
-    settled (λ κs a. beside value (beside (behind (inputs the-run.ended κs).1.0) (beside value (beside value value))))
+    settled (λ κs a. beside value (beside (behind (inputs the_run.ended κs).1.0) (beside value (beside value value))))
     (λ κs a x y p q i.
     let answer : RanWords → RunAnswer = λ w. record { answer = w.answer; blocking = w.blocking } in
     let words : RanWords → List ℕ = λ w. w.words in
     (same (ap answer p) (ap answer q) i, (tt, (same (ap words p) (ap words q) i, (tt, (tt, tt))))))
 
-pub send_settled : Settles the_send.ended (λ M. the_send.clauses) (λ M. the_send.spec)
+pub send_settled : Settles the_send.ended (λ M 𝓤. the_send.clauses) (λ M 𝓤. the_send.spec)
 send_settled =
     settled (λ κs a. beside value (beside (behind (inputs the_send.ended κs).1.0) (beside value (beside value value))))
     (λ κs a x y p q i.
@@ -37,9 +37,9 @@ send_settled =
     (same (ap answer p) (ap answer q) i, (tt, (same (ap words p) (ap words q) i, (tt, (tt, tt))))))
 
 -- the answer, and every one of the lent `words`
-pub write_empty_settled : Settles the-write-empty.ended (λ M. the-write-empty.clauses) (λ M. the-write-empty.spec)
-write_empty_settled = settled (λ κs a. beside (behind (inputs the-write-empty.ended κs).0) value)
+pub write_empty_settled : Settles the_write_empty.ended (λ M 𝓤. the_write_empty.clauses) (λ M 𝓤. the_write_empty.spec)
+write_empty_settled = settled (λ κs a. beside (behind (inputs the_write_empty.ended κs).0) value)
     (λ κs a x y p q i. (same p.0 q.0 i, (same p.1 q.1 i, tt)))
 
-pub owed_settled : Settles the-owed.ended (λ M. the-owed.clauses) (λ M. the-owed.spec)
+pub owed_settled : Settles the_owed.ended (λ M 𝓤. the_owed.clauses) (λ M 𝓤. the_owed.spec)
 owed_settled = settled (λ κs a x y p q. refl) (λ κs a x y p q i. (same p q i, x.1))

@@ -1,5 +1,6 @@
 // Lines of decimal numbers to standard output, one space between two numbers. A line is put together in a buffer that
 // the caller lends; what does not fit is left out (the longest line has 172 numbers of 20 digits at most).
+use std::io::Print;
 
 pub(crate) const ROOM: usize = 4096;
 
@@ -31,9 +32,16 @@ pub(crate) fn put(line: &mut [u8; ROOM], at: usize, n: u64) -> usize {
 }
 
 // Writes the first `end` bytes of the line and a newline.
-pub(crate) fn write(line: [u8; ROOM], end: usize) {
+pub(crate) fn write(out: &impl Print, line: [u8; ROOM], end: usize) {
     if end <= ROOM {
-        io::write_all(libc::STDOUT_FILENO, &line[..end]);
+        write_all(out, &line[..end]);
     }
-    io::write_all(libc::STDOUT_FILENO, b"\n");
+    write_all(out, b"\n");
+}
+
+// What cannot be written is lost.
+fn write_all(out: &impl Print, bytes: &[u8]) {
+    match out.write_all(bytes) {
+        Ok(()) | Err(_) => {}
+    }
 }

@@ -14,6 +14,7 @@ ghost use Rattle.base.specs.Sizes.{sites_most};
 ghost use Rattle.singles.specs.Sizes.{site_numbers};
 
 use site::{FIRST, NUMBERS};
+use std::io::{Print, Read};
 use text::{Cursor, PIECE};
 use types::{Network, Ran, Sent, State};
 
@@ -92,10 +93,16 @@ fn network_of(
 }
 
 // S, T and D behind a version and an edition.
-fn read_sizes(piece: &mut [u8; PIECE], from: Cursor, version: u64, edition: u64) -> Head {
-    let sites = text::number(piece, from);
-    let tries = text::number(piece, sites.cursor);
-    let depth = text::number(piece, tries.cursor);
+fn read_sizes(
+    input: &mut impl Read,
+    piece: &mut [u8; PIECE],
+    from: Cursor,
+    version: u64,
+    edition: u64,
+) -> Head {
+    let sites = text::number(input, piece, from);
+    let tries = text::number(input, piece, sites.cursor);
+    let depth = text::number(input, piece, tries.cursor);
     let cursor = depth.cursor;
     Head {
         version,
@@ -107,21 +114,26 @@ fn read_sizes(piece: &mut [u8; PIECE], from: Cursor, version: u64, edition: u64)
     }
 }
 
-fn read_head(piece: &mut [u8; PIECE], from: Cursor, wide: bool) -> Head {
+fn read_head(input: &mut impl Read, piece: &mut [u8; PIECE], from: Cursor, wide: bool) -> Head {
     if wide {
-        let version = text::number(piece, from);
-        let edition = text::number(piece, version.cursor);
-        return read_sizes(piece, edition.cursor, version.value, edition.value);
+        let version = text::number(input, piece, from);
+        let edition = text::number(input, piece, version.cursor);
+        return read_sizes(input, piece, edition.cursor, version.value, edition.value);
     }
-    read_sizes(piece, from, 1, 1)
+    read_sizes(input, piece, from, 1, 1)
 }
 
-fn read_network(piece: &mut [u8; PIECE], from: Cursor, wide: bool) -> ReadNetwork {
-    let head = read_head(piece, from, wide);
+fn read_network(
+    input: &mut impl Read,
+    piece: &mut [u8; PIECE],
+    from: Cursor,
+    wide: bool,
+) -> ReadNetwork {
+    let head = read_head(input, piece, from, wide);
     let mut channels = [0u64; text::LONGEST];
-    let behind = text::filled(piece, head.cursor, &mut channels);
+    let behind = text::filled(input, piece, head.cursor, &mut channels);
     let mut routes = [0u64; text::LONGEST];
-    let cursor = text::filled(piece, behind, &mut routes);
+    let cursor = text::filled(input, piece, behind, &mut routes);
     let network = network_of(head, wide, &channels, &routes);
     ReadNetwork { network, cursor }
 }
@@ -137,20 +149,25 @@ fn count_of(mark: u64) -> usize
     }
 }
 
-fn read_state(piece: &mut [u8; PIECE], from: Cursor, wide: bool) -> ReadState {
+fn read_state(
+    input: &mut impl Read,
+    piece: &mut [u8; PIECE],
+    from: Cursor,
+    wide: bool,
+) -> ReadState {
     let end = sites_of(wide);
-    let counter = text::number(piece, from);
+    let counter = text::number(input, piece, from);
     let mut state = machine::empty_state();
     state.counter = site::byte_of(counter.value);
     let mut cursor = counter.cursor;
     let mut s: usize = 0;
     while s < end {
-        let mark = text::number(piece, cursor);
+        let mark = text::number(input, piece, cursor);
         cursor = mark.cursor;
         let count = count_of(mark.value);
         if 0 < count {
             let mut room = [0u64; NUMBERS];
-            cursor = text::site_numbers(piece, cursor, &mut room, count);
+            cursor = text::site_numbers(input, piece, cursor, &mut room, count);
             state.sites[s] = site::site_of(&room);
         }
         s += 1;
@@ -180,23 +197,23 @@ fn add_ran(text: &mut [u8; line::ROOM], answer: Ran) -> usize {
     }
 }
 
-fn put_sent(answer: Sent) {
+fn put_sent(out: &impl Print, answer: Sent) {
     let mut text = [0u8; line::ROOM];
     let end = match answer {
         Sent::Accepted(packet) => add_numbers(&mut text, 0, packet as u64, 0, 0),
         Sent::Refused(n) => add_numbers(&mut text, n as u64, 0, 0, 0),
     };
-    line::write(text, end);
+    line::write(out, text, end);
 }
 
 // The numbers of RUN's answer, behind them the set of the outputs in the way, if it is asked for.
-fn put_ran(answer: Ran, blocking: u64, named: bool) {
+fn put_ran(out: &impl Print, answer: Ran, blocking: u64, named: bool) {
     let mut text = [0u8; line::ROOM];
     let mut end = add_ran(&mut text, answer);
     if named {
         end = line::put(&mut text, end, blocking);
     }
-    line::write(text, end);
+    line::write(out, text, end);
 }
 
 // Whether the numbers from one place up to another are zero.
@@ -224,7 +241,7 @@ fn mark_of(n: &[u64; NUMBERS]) -> u64 {
     2
 }
 
-fn put_site(n: &[u64; NUMBERS]) {
+fn put_site(out: &impl Print, n: &[u64; NUMBERS]) {
     let mut text = [0u8; line::ROOM];
     let mark = mark_of(n);
     let count = count_of(mark);
@@ -234,73 +251,102 @@ fn put_site(n: &[u64; NUMBERS]) {
         end = line::put(&mut text, end, n[i]);
         i += 1;
     }
-    line::write(text, end);
+    line::write(out, text, end);
 }
 
-fn put_state(state: State, wide: bool) {
+fn put_state(out: &impl Print, state: State, wide: bool) {
     let last = sites_of(wide);
     let mut text = [0u8; line::ROOM];
     let end = line::put(&mut text, 0, state.counter as u64);
-    line::write(text, end);
+    line::write(out, text, end);
     let sites = state.sites;
     let mut s: usize = 0;
     while s < last {
         let n = numbers::of_site(sites[s]);
-        put_site(&n);
+        put_site(out, &n);
         s += 1;
     }
 }
 
-fn replay_run(network: Network, state: State, site: u64, code: u64, wide: bool, named: bool) {
+fn replay_run(
+    out: &impl Print,
+    network: Network,
+    state: State,
+    site: u64,
+    code: u64,
+    wide: bool,
+    named: bool,
+) {
     let ran = machine::run(network, state, site as usize, code as usize);
     let answer = ran.answer;
-    put_ran(answer, ran.blocking, named);
-    put_state(ran.state, wide);
+    put_ran(out, answer, ran.blocking, named);
+    put_state(out, ran.state, wide);
 }
 
-fn replay_send(network: Network, state: State, site: u64, set: u64, wide: bool) {
+fn replay_send(out: &impl Print, network: Network, state: State, site: u64, set: u64, wide: bool) {
     let sent = machine::send(network, state, site as usize, set);
     let answer = sent.answer;
-    put_sent(answer);
-    put_state(sent.state, wide);
+    put_sent(out, answer);
+    put_state(out, sent.state, wide);
 }
 
 // One case: 1 is RUN, 3 RUN with the outputs in the way, anything else SEND.
-fn replay(piece: &mut [u8; PIECE], from: Cursor, wide: bool) -> Cursor {
-    let net = read_network(piece, from, wide);
-    let start = read_state(piece, net.cursor, wide);
-    let kind = text::number(piece, start.cursor);
-    let site = text::number(piece, kind.cursor);
-    let last = text::number(piece, site.cursor);
+fn replay(
+    out: &impl Print,
+    input: &mut impl Read,
+    piece: &mut [u8; PIECE],
+    from: Cursor,
+    wide: bool,
+) -> Cursor {
+    let net = read_network(input, piece, from, wide);
+    let start = read_state(input, piece, net.cursor, wide);
+    let kind = text::number(input, piece, start.cursor);
+    let site = text::number(input, piece, kind.cursor);
+    let last = text::number(input, piece, site.cursor);
     let network = net.network;
     let state = start.state;
     let named = kind.value == 3;
     if (kind.value == 1) | named {
-        replay_run(network, state, site.value, last.value, wide, named);
+        replay_run(out, network, state, site.value, last.value, wide, named);
     } else {
-        replay_send(network, state, site.value, last.value, wide);
+        replay_send(out, network, state, site.value, last.value, wide);
     }
     last.cursor
 }
 
 // So many cases, up to the end of the text.
-fn replay_all(piece: &mut [u8; PIECE], from: Cursor, count: u64, wide: bool) -> Cursor {
+fn replay_all(
+    out: &impl Print,
+    input: &mut impl Read,
+    piece: &mut [u8; PIECE],
+    from: Cursor,
+    count: u64,
+    wide: bool,
+) -> Cursor {
     let mut cursor = from;
     let mut left = count;
     while left > 0 {
         if cursor.over {
             return cursor;
         }
-        cursor = replay(piece, cursor, wide);
+        cursor = replay(out, input, piece, cursor, wide);
         left -= 1;
     }
     cursor
 }
 
-fn main() {
+fn main(rt: HostRuntime) {
+    let mut input = rt.reader();
     let mut piece = [0u8; PIECE];
-    let narrow = text::number(&mut piece, text::start());
-    let wide = text::number(&mut piece, narrow.cursor);
-    let behind = replay_all(&mut piece, wide.cursor, narrow.value, false);
-    replay_all(&mut piece, behind, wide.value, true);
+    let narrow = text::number(&mut input, &mut piece, text::start());
+    let wide = text::number(&mut input, &mut piece, narrow.cursor);
+    let behind = replay_all(
+        &rt,
+        &mut input,
+        &mut piece,
+        wide.cursor,
+        narrow.value,
+        false,
+    );
+    replay_all(&rt, &mut input, &mut piece, behind, wide.value, true);
 }

@@ -1,9 +1,10 @@
 // Numbers out of standard input, which is read piece by piece. A number is its decimal digits and the one byte after
 // them; where digits are missing it is 0, so that a short or damaged text is read too.
-ghost use Rattle.std.specs.Prelude.{◌≤◌};
+ghost use Rattle.std.specs.Prelude.{◌≤◌, length};
 ghost use Rattle.singles.specs.Sizes.{site_numbers};
 
 use crate::site::NUMBERS;
+use std::io::Read;
 
 // The piece of the text that is being read: it lies in a buffer that the caller lends.
 pub(crate) const PIECE: usize = 4096;
@@ -53,7 +54,21 @@ fn least(a: usize, b: usize) -> usize
     if a < b { a } else { b }
 }
 
-fn next_digit(piece: &mut [u8; PIECE], cursor: Cursor) -> Digit {
+// Reads until the piece is full, the text ends or a read fails. Answers how many bytes stand at its front.
+fn read_full(text: &mut impl Read, piece: &mut [u8]) -> usize
+    ensures { result ≤ length piece.new }
+{
+    let mut done = 0usize;
+    while done < piece.len() {
+        match text.read(&mut piece[done..]) {
+            Ok(0) | Err(_) => break,
+            Ok(more) => done += more,
+        }
+    }
+    done
+}
+
+fn next_digit(text: &mut impl Read, piece: &mut [u8; PIECE], cursor: Cursor) -> Digit {
     let at = cursor.at;
     let end = cursor.end;
     if at < least(end, PIECE) {
@@ -67,7 +82,7 @@ fn next_digit(piece: &mut [u8; PIECE], cursor: Cursor) -> Digit {
             },
         };
     }
-    let got = io::read_full(libc::STDIN_FILENO, piece);
+    let got = read_full(text, piece);
     if got == 0 {
         return Digit {
             value: 10,
@@ -104,12 +119,12 @@ fn longer(value: u64, digit: u8) -> u64 {
 }
 
 // The next number: 20 digits at most, and the byte after them.
-pub(crate) fn number(piece: &mut [u8; PIECE], from: Cursor) -> ReadNumber {
+pub(crate) fn number(text: &mut impl Read, piece: &mut [u8; PIECE], from: Cursor) -> ReadNumber {
     let mut value: u64 = 0;
     let mut cursor = from;
     let mut turn: usize = 0;
     while turn < 21 {
-        let next = next_digit(piece, cursor);
+        let next = next_digit(text, piece, cursor);
         cursor = next.cursor;
         let digit = next.value;
         if digit == 10 {
@@ -125,14 +140,19 @@ pub(crate) fn number(piece: &mut [u8; PIECE], from: Cursor) -> ReadNumber {
 pub(crate) const LONGEST: usize = base::SITES * base::SITES;
 
 // The numbers `fill n x0 .. x(n-1)`: the first n places of the room hold x0 .. x(n-1), the others `fill`.
-pub(crate) fn filled(piece: &mut [u8; PIECE], from: Cursor, room: &mut [u64; LONGEST]) -> Cursor {
-    let fill = number(piece, from);
-    let count = number(piece, fill.cursor);
+pub(crate) fn filled(
+    text: &mut impl Read,
+    piece: &mut [u8; PIECE],
+    from: Cursor,
+    room: &mut [u64; LONGEST],
+) -> Cursor {
+    let fill = number(text, piece, from);
+    let count = number(text, piece, fill.cursor);
     let mut cursor = count.cursor;
     let mut i: usize = 0;
     while i < LONGEST {
         if (i as u64) < count.value {
-            let next = number(piece, cursor);
+            let next = number(text, piece, cursor);
             cursor = next.cursor;
             room[i] = next.value;
         } else {
@@ -145,6 +165,7 @@ pub(crate) fn filled(piece: &mut [u8; PIECE], from: Cursor, room: &mut [u64; LON
 
 // So many numbers of a site, into the room's first places.
 pub(crate) fn site_numbers(
+    text: &mut impl Read,
     piece: &mut [u8; PIECE],
     from: Cursor,
     room: &mut [u64; NUMBERS],
@@ -155,7 +176,7 @@ pub(crate) fn site_numbers(
     let mut cursor = from;
     let mut i: usize = 0;
     while i < count {
-        let next = number(piece, cursor);
+        let next = number(text, piece, cursor);
         cursor = next.cursor;
         room[i] = next.value;
         i += 1;
