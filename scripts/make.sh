@@ -9,6 +9,7 @@ set -u
 root=$(CDPATH= cd -- "$(dirname -- "$0")/.." && pwd) || exit 2
 work=$(mktemp -d) || exit 2
 trap 'rm -rf "$work"' EXIT
+trap 'exit 1' INT TERM HUP
 begun=$work/begun
 
 end() {
