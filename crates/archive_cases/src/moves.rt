@@ -1,8 +1,8 @@
 // The moves from one version to the other: run R over and back, in rooms on the bound; every refusal of both, and which
 // of two neighbours comes first; then rings (rings).
 use crate::wide::WIDE;
-use crate::{R, show_same, show_written};
-use libc::STDOUT_FILENO;
+use crate::{R, put, put_number, show_same, show_written};
+use std::io::Print;
 
 // The file at the front, and behind it a nine.
 fn at_front(file: &[u8], room: &[u8]) -> bool {
@@ -35,146 +35,173 @@ fn change(b: &mut [u8], i: u8, x: u8) {
 }
 
 // Both changes of a row, made and printed.
-fn change_both(b: &mut [u8], row: u32) {
+fn change_both(out: &impl Print, b: &mut [u8], row: u32) {
     let i = (row / 16777216 % 256) as u8;
     let x = (row / 65536 % 256) as u8;
     let j = (row / 256 % 256) as u8;
     let y = (row % 256) as u8;
     change(b, i, x);
     change(b, j, y);
-    print_change(i, x);
+    print_change(out, i, x);
     if i != j {
-        print_change(j, y);
+        print_change(out, j, y);
     }
 }
 
-fn print_change(i: u8, x: u8) {
-    io::write_all(STDOUT_FILENO, b"byte ");
-    io::print_decimal(STDOUT_FILENO, i as u64);
-    io::write_all(STDOUT_FILENO, b" ");
-    io::print_decimal(STDOUT_FILENO, x as u64);
-    io::write_all(STDOUT_FILENO, b", ");
+fn print_change(out: &impl Print, i: u8, x: u8) {
+    put(out, b"byte ");
+    put_number(out, i as u64);
+    put(out, b" ");
+    put_number(out, x as u64);
+    put(out, b", ");
 }
 
 // Run R with both changes, moved over into a room of 36 nines. Answers whether it is as it was.
-fn over_row(row: u32) -> bool {
+fn over_row(out: &impl Print, row: u32) -> bool {
     let mut b = R;
-    change_both(&mut b, row);
+    change_both(out, &mut b, row);
     let mut room = [9u8; 36];
     let nines = [9u8; 36];
-    show_written(b"over", archive::move_over(&b, &mut room));
+    show_written(out, b"over", archive::move_over(&b, &mut room));
     check::same(&room, &nines)
 }
 
 // Run R in version 2 with both changes, moved back.
-fn back_row(row: u32) -> bool {
+fn back_row(out: &impl Print, row: u32) -> bool {
     let mut b = WIDE;
-    change_both(&mut b, row);
+    change_both(out, &mut b, row);
     let mut room = [9u8; 36];
     let nines = [9u8; 36];
-    show_written(b"back", archive::move_back(&b, &mut room));
+    show_written(out, b"back", archive::move_back(&b, &mut room));
     check::same(&room, &nines)
 }
 
-fn is_kept(row: u32, is_over: bool) -> bool {
+fn is_kept(out: &impl Print, row: u32, is_over: bool) -> bool {
     if is_over {
-        return over_row(row);
+        return over_row(out, row);
     }
-    back_row(row)
+    back_row(out, row)
 }
 
-fn show_rows(rows: &[u32], is_over: bool) {
+fn show_rows(out: &impl Print, rows: &[u32], is_over: bool) {
     let mut kept = true;
     for k in 0..rows.len() {
-        let same = is_kept(rows[k], is_over);
+        let same = is_kept(out, rows[k], is_over);
         kept = kept & same;
     }
-    show_same(b"every room as it was", kept);
+    show_same(out, b"every room as it was", kept);
 }
 
 // Into rooms of 35, 36 and 34 nines, and into none.
-fn over_rooms() {
+fn over_rooms(out: &impl Print) {
     let b = R;
     let wide = WIDE;
     let mut enough = [9u8; 35];
-    show_written(b"over, room 35", archive::move_over(&b, &mut enough));
-    show_same(b"run R in version 2", check::same(&enough, &wide));
+    show_written(out, b"over, room 35", archive::move_over(&b, &mut enough));
+    show_same(out, b"run R in version 2", check::same(&enough, &wide));
     let mut more = [9u8; 36];
-    show_written(b"room 36", archive::move_over(&b, &mut more));
+    show_written(out, b"room 36", archive::move_over(&b, &mut more));
     show_same(
+        out,
         b"run R in version 2, the rest as it was",
         at_front(&wide, &more),
     );
     let mut short = [9u8; 34];
     let nines = [9u8; 34];
-    show_written(b"room 34", archive::move_over(&b, &mut short));
-    show_same(b"room as it was", check::same(&short, &nines));
+    show_written(out, b"room 34", archive::move_over(&b, &mut short));
+    show_same(out, b"room as it was", check::same(&short, &nines));
     let mut none = [9u8; 0];
-    show_written(b"no room", archive::move_over(&b, &mut none));
+    show_written(out, b"no room", archive::move_over(&b, &mut none));
 }
 
 // Files of version 2, cut short, and 8 with no room.
-fn over_files() {
+fn over_files(out: &impl Print) {
     let mut room = [9u8; 36];
     let b = R;
-    show_written(b"23 bytes", archive::move_over(&b[..23], &mut room));
+    show_written(out, b"23 bytes", archive::move_over(&b[..23], &mut room));
     let mut wide = WIDE;
-    show_written(b"a file of version 2", archive::move_over(&wide, &mut room));
+    show_written(
+        out,
+        b"a file of version 2",
+        archive::move_over(&wide, &mut room),
+    );
     wide[3] = 2;
-    show_written(b"with edition 2", archive::move_over(&wide, &mut room));
-    show_written(b"its 34 bytes", archive::move_over(&wide[..34], &mut room));
+    show_written(out, b"with edition 2", archive::move_over(&wide, &mut room));
+    show_written(
+        out,
+        b"its 34 bytes",
+        archive::move_over(&wide[..34], &mut room),
+    );
     let mut empty = R;
     empty[23] = 0;
     show_written(
+        out,
         b"send to {}, no room",
         archive::move_over(&empty, &mut room[..0]),
     );
 }
 
 // Into rooms of 24, 25 and 23 nines, and into none.
-fn back_rooms() {
+fn back_rooms(out: &impl Print) {
     let wide = WIDE;
     let b = R;
     let mut enough = [9u8; 24];
-    show_written(b"back, room 24", archive::move_back(&wide, &mut enough));
-    show_same(b"the bytes of R", check::same(&enough, &b));
+    show_written(
+        out,
+        b"back, room 24",
+        archive::move_back(&wide, &mut enough),
+    );
+    show_same(out, b"the bytes of R", check::same(&enough, &b));
     let mut more = [9u8; 25];
-    show_written(b"room 25", archive::move_back(&wide, &mut more));
-    show_same(b"the bytes of R, the rest as it was", at_front(&b, &more));
+    show_written(out, b"room 25", archive::move_back(&wide, &mut more));
+    show_same(
+        out,
+        b"the bytes of R, the rest as it was",
+        at_front(&b, &more),
+    );
     let mut short = [9u8; 23];
     let nines = [9u8; 23];
-    show_written(b"room 23", archive::move_back(&wide, &mut short));
-    show_same(b"room as it was", check::same(&short, &nines));
+    show_written(out, b"room 23", archive::move_back(&wide, &mut short));
+    show_same(out, b"room as it was", check::same(&short, &nines));
     let mut none = [9u8; 0];
-    show_written(b"no room", archive::move_back(&wide, &mut none));
+    show_written(out, b"no room", archive::move_back(&wide, &mut none));
 }
 
 // Files of version 1, cut short, and 8 with no room.
-fn back_files() {
+fn back_files(out: &impl Print) {
     let mut room = [9u8; 25];
     let wide = WIDE;
-    show_written(b"34 bytes", archive::move_back(&wide[..34], &mut room));
+    show_written(out, b"34 bytes", archive::move_back(&wide[..34], &mut room));
     let mut b = R;
-    show_written(b"a file of version 1", archive::move_back(&b, &mut room));
+    show_written(
+        out,
+        b"a file of version 1",
+        archive::move_back(&b, &mut room),
+    );
     b[3] = 0;
-    show_written(b"with S 0", archive::move_back(&b, &mut room));
-    show_written(b"its 23 bytes", archive::move_back(&b[..23], &mut room));
+    show_written(out, b"with S 0", archive::move_back(&b, &mut room));
+    show_written(
+        out,
+        b"its 23 bytes",
+        archive::move_back(&b[..23], &mut room),
+    );
     let mut empty = WIDE;
     empty[34] = 0;
     show_written(
+        out,
         b"send to {}, no room",
         archive::move_back(&empty, &mut room[..0]),
     );
 }
 
-pub(crate) fn cases() {
+pub(crate) fn cases(out: &impl Print) {
     let over = OVER;
     let back = BACK;
-    over_rooms();
-    show_rows(&over, true);
-    over_files();
-    back_rooms();
-    show_rows(&back, false);
-    back_files();
-    crate::rings::cases();
+    over_rooms(out);
+    show_rows(out, &over, true);
+    over_files(out);
+    back_rooms(out);
+    show_rows(out, &back, false);
+    back_files(out);
+    crate::rings::cases(out);
 }

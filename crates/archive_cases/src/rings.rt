@@ -2,6 +2,7 @@
 ghost use Rattle.std.specs.Prelude.{◌≤◌};
 
 use crate::{show, show_same, show_written};
+use std::io::Print;
 
 // Byte p of the head of a ring of so many sites, a file of so many bytes: T, D and the seed are 1, draws and N 0.
 fn ring_head(sites: usize, size: usize, p: usize) -> u8
@@ -61,53 +62,58 @@ fn ring(b: &mut [u8], sites: usize)
     }
 }
 
-fn back_and_over(b: &[u8]) {
+fn back_and_over(out: &impl Print, b: &[u8]) {
     let mut short = [9u8; 588];
-    show_written(b"back, room 588", archive::move_back(b, &mut short));
+    show_written(out, b"back, room 588", archive::move_back(b, &mut short));
     let mut enough = [9u8; 589];
-    show_written(b"room 589", archive::move_back(b, &mut enough));
+    show_written(out, b"room 589", archive::move_back(b, &mut enough));
     let mut again = [9u8; 654];
     show_written(
+        out,
         b"over again, room 654",
         archive::move_over(&enough, &mut again),
     );
-    show_same(b"the same bytes", check::same(&again, b));
+    show_same(out, b"the same bytes", check::same(&again, b));
 }
 
 // 14 + 128 + 512 bytes, back 13 + 64 + 512.
-fn ring_of_16() {
+fn ring_of_16(out: &impl Print) {
     let mut b = [0u8; 654];
     ring(&mut b, 16);
-    show(b"16 sites, 654 bytes", archive::check(&b) as u64);
-    back_and_over(&b);
+    show(out, b"16 sites, 654 bytes", archive::check(&b) as u64);
+    back_and_over(out, &b);
 }
 
 // 14 + 136 + 578 bytes.
-fn ring_of_17() {
+fn ring_of_17(out: &impl Print) {
     let mut b = [0u8; 728];
     ring(&mut b, 17);
-    show(b"17 sites, 728 bytes", archive::check(&b) as u64);
+    show(out, b"17 sites, 728 bytes", archive::check(&b) as u64);
     let mut room = [9u8; 728];
     let nines = [9u8; 728];
-    show_written(b"back, room 728", archive::move_back(&b, &mut room));
-    show_same(b"room as it was", check::same(&room, &nines));
+    show_written(out, b"back, room 728", archive::move_back(&b, &mut room));
+    show_same(out, b"room as it was", check::same(&room, &nines));
     let mut none = [9u8; 0];
-    show_written(b"no room", archive::move_back(&b, &mut none));
+    show_written(out, b"no room", archive::move_back(&b, &mut none));
 }
 
 // 11 bytes more: a send before draw 0, at site 0.
-fn ring_with_send() {
+fn ring_with_send(out: &impl Print) {
     let mut b = [0u8; 739];
     ring(&mut b, 17);
     b[13] = 1;
     let mut room = [9u8; 739];
-    show_written(b"17 sites, send to {}", archive::move_back(&b, &mut room));
+    show_written(
+        out,
+        b"17 sites, send to {}",
+        archive::move_back(&b, &mut room),
+    );
     b[738] = 1;
-    show_written(b"send to {0}", archive::move_back(&b, &mut room));
+    show_written(out, b"send to {0}", archive::move_back(&b, &mut room));
 }
 
-pub(crate) fn cases() {
-    ring_of_16();
-    ring_of_17();
-    ring_with_send();
+pub(crate) fn cases(out: &impl Print) {
+    ring_of_16(out);
+    ring_of_17(out);
+    ring_with_send(out);
 }

@@ -1,7 +1,7 @@
 // Replays single events: reads the cases of docs/TESTING.md ('Single event cases: the text form') from standard input,
-// each with its own network and state, calls SEND or RUN, and writes `refusal answer packet site`, for a RUN that asks for
-// them the outputs in the way too, and the state handed back. A narrow case is of version 1 and has 16 sites; a wide one says version and edition and has 64. `stdin` and
-// `stdout` are the second model's, by its program `cases`.
+// each with its own network and state, calls SEND or RUN, and writes `refusal answer packet site`, for a RUN that asks
+// for them the outputs in the way too, and the state handed back. A narrow case is of version 1 and has 16 sites; a wide
+// one says version and edition and has 64. `stdin` and `stdout` are the second model's, by its program `cases`.
 #![tactic(auto)]
 
 mod line;

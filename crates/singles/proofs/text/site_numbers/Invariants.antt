@@ -1,4 +1,5 @@
--- `text::site_numbers` is safe and ends: the index stays within the numbers, and what is left of them falls. Assumes nothing.
+-- `text::site_numbers` is safe and ends: the index stays within the numbers, and what is left of them falls. Assumes
+-- nothing.
 use Rattle.std.proofs.Common.{◌-◌, ◌≤◌}
 use Rattle.singles.proofs.text.site_numbers.Given as goal
 
