@@ -1,7 +1,7 @@
 #!/bin/sh
 # bench.sh [ROUNDS]: times the product against the second model, in one process, and prints the tables of
 # docs/PERFORMANCE.md. Not part of the gate. It needs cargo; nothing is fetched.
-# The product's side is crate timing as a library: on x86-64 this makes it with `rt staticlib timing`. Elsewhere the
+# The product's side is crate timing as a library: on x86-64 this makes it with scripts/make.sh. Elsewhere the
 # programs run under an emulator only, whose times say nothing: there FENNQUALO_TIMING has to name a libtiming.a for
 # that machine; scripts/timing.sh makes one from the kit's own LLVM module.
 # Exit: 0 measured, 1 something failed, 2 nothing to measure here.
@@ -17,7 +17,7 @@ if [ -z "$library" ] && [ "$(uname -m)" != x86_64 ]; then
 fi
 if [ -z "$library" ]; then
     mkdir -p "$root/target"
-    (cd "$root" && rt staticlib timing) >"$root/target/bench.log" 2>&1 || {
+    sh "$root/scripts/make.sh" timing >"$root/target/bench.log" 2>&1 || {
         echo "bench: crate timing is not proved or not compiled: target/bench.log" >&2
         exit 1
     }

@@ -3,7 +3,7 @@
 # what has to come of them, replays the cases with the proved program target/bin/singles (run as scripts/program.sh says)
 # and with the second model, and compares what both print with what is typed, byte by byte.
 # Prints one line; names the cases that differ and fails at any difference, or where a file is missing. The texts stay in
-# target/clauses/. Run it after `rt ci` or `rt check`. It needs cargo; nothing is fetched.
+# target/clauses/. It needs cargo; nothing is fetched.
 set -eu
 export LC_ALL=C
 root=$(CDPATH= cd -- "$(dirname -- "$0")/.." && pwd)
@@ -19,7 +19,7 @@ fail() {
 }
 
 cd "$root"
-[ -x "$program" ] || fail "target/bin/singles is missing: 'rt check singles' makes it"
+[ -x "$program" ] || fail "target/bin/singles is missing: 'scripts/make.sh singles' makes it"
 . "$root/scripts/program.sh"
 can_run "$program" || fail "$why"
 

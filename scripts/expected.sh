@@ -1,8 +1,8 @@
 #!/bin/sh
-# Makes the corpus (crates/batch/data, to which corpus leads) and its expected outputs (crates/batch/stdout, for the names
-# of crates/batch/stdin) anew under target/ (or the folder FENNQUALO_BUILD), and so the stored cases of crates/singles
-# and the table of latencies (tests/latency/table.txt), and compares them with the committed ones. With --write the
-# committed ones are replaced instead (not corpus/typed, which is typed by hand).
+# Makes the corpus (crates/batch/data, of which corpus is a copy, file by file) and its expected outputs (crates/batch/stdout,
+# for the names of crates/batch/stdin) anew under target/ (or the folder FENNQUALO_BUILD), and so the stored cases of
+# crates/singles and the table of latencies (tests/latency/table.txt), and compares them with the committed ones. With --write
+# the committed ones are replaced instead (not typed/, which is typed by hand, in crates/batch/data), and corpus is copied.
 # It needs cargo; nothing is fetched.
 set -eu
 export LC_ALL=C
@@ -11,6 +11,8 @@ build=${FENNQUALO_BUILD:-$root/target}
 export CARGO_TARGET_DIR="$build/reference"
 programs="$CARGO_TARGET_DIR/release"
 fresh="$build/corpus"
+data="$root/crates/batch/data"
+copy="$root/corpus"
 names="$root/crates/batch/stdin"
 outputs="$root/crates/batch/stdout"
 singles="$root/crates/singles"
@@ -18,7 +20,7 @@ table="$root/tests/latency/table.txt"
 
 # Every archive of the corpus by name, and then names that lead to no archive and one that is longer than need be.
 list() {
-    (cd "$root/corpus" && ls -- *.bin)
+    (cd "$data" && ls -- *.bin)
     printf '%s\n' . missing.bin ''
     printf 'long-%.0s' $(seq 60)
     printf '%s\n%s' .bin ./01-run-r.bin
@@ -37,10 +39,12 @@ mkdir -p "$fresh"
 "$programs/corpus" "$fresh"
 
 if [ "${1:-}" = --write ]; then
-    rm -f "$root"/corpus/*.bin
-    cp "$fresh"/*.bin "$root/corpus/"
+    rm -f "$data"/*.bin
+    cp "$fresh"/*.bin "$data/"
+    rm -rf "$copy"
+    cp -R "$data" "$copy"
     list > "$names"
-    (cd "$root/corpus" && "$programs/batch" --services < "$names" > "$outputs")
+    (cd "$data" && "$programs/batch" --services < "$names" > "$outputs")
     cases "$singles"
     "$programs/latency" > "$table"
     echo "expected: written, $(tail -n 1 "$outputs")"
@@ -53,19 +57,25 @@ differs() {
     bad=1
 }
 
+# The copy is one, with no file more or less. (It is no link, since rt wants none in a repository.)
+if ! diff -r "$data" "$copy" > "$build/copy.txt" 2>&1; then
+    differs "corpus is not a copy of crates/batch/data; --write makes it anew:"
+    head -n 20 "$build/copy.txt" >&2
+fi
+
 # The committed archives are those that the recipes make.
 for file in "$fresh"/*.bin; do
     name=${file##*/}
-    cmp -s "$file" "$root/corpus/$name" || differs "corpus/$name is not what the recipes make"
+    cmp -s "$file" "$data/$name" || differs "crates/batch/data/$name is not what the recipes make"
 done
-for file in "$root"/corpus/*.bin; do
+for file in "$data"/*.bin; do
     name=${file##*/}
-    [ -e "$fresh/$name" ] || differs "corpus/$name has no recipe"
+    [ -e "$fresh/$name" ] || differs "crates/batch/data/$name has no recipe"
 done
 
 # The committed outputs are those of the second model, for all of them.
 list | cmp -s - "$names" || differs "crates/batch/stdin is not the corpus's names and the odd ones"
-(cd "$root/corpus" && "$programs/batch" --services < "$names") > "$build/expected.txt"
+(cd "$data" && "$programs/batch" --services < "$names") > "$build/expected.txt"
 if ! cmp -s "$build/expected.txt" "$outputs"; then
     differs "crates/batch/stdout is not what the second model prints:"
     diff "$outputs" "$build/expected.txt" | head -n 20 >&2 || true
@@ -87,11 +97,11 @@ fi
 
 # The outputs typed by hand are those of the second model.
 typed=0
-for file in "$root"/corpus/typed/*.out; do
+for file in "$data"/typed/*.out; do
     name=${file##*/}
     name=${name%.out}
-    "$programs/play" < "$root/corpus/$name.bin" | cmp -s - "$file" ||
-        differs "corpus/typed/$name.out is not what the second model prints"
+    "$programs/play" < "$data/$name.bin" | cmp -s - "$file" ||
+        differs "crates/batch/data/typed/$name.out is not what the second model prints"
     typed=$((typed + 1))
 done
 

@@ -1,7 +1,7 @@
 #!/bin/sh
-# exports.sh [COUNT] [SEED]: builds the C and Rust library from the proved crate `exports` and tests it: the header,
+# exports.sh [COUNT] [SEED]: builds the C and Rust library from the proved crate `exports_c` and tests it: the header,
 # every function and the Rust wrapper against the second model on the corpus and COUNT (5000) fresh archives of SEED
-# (1), and examples/compare_deliveries in C and Rust against their expected output. Run it after `rt ci` or `rt check`.
+# (1), and examples/compare_deliveries in C and Rust against their expected output.
 # The library is for x86-64. There the tests are built with rustc and cc (or what RUSTC and CC name) and run. On another
 # machine they are cross-compiled and run under the Rattle kit's emulator (or that which QEMU names), if rustc has the
 # standard library of x86_64-unknown-linux-gnu, x86_64-linux-gnu-gcc is there and an empty program runs so; else they are
@@ -48,7 +48,7 @@ if [ "$(uname -m)" = x86_64 ]; then
     command -v "$cc" >/dev/null 2>&1 || end 1 "$cc is not there: the C example needs a C compiler"
 else
     cc=${CC:-x86_64-linux-gnu-gcc}
-    tools=$(dirname -- "$(dirname -- "$(rt doc)")")/on/$(uname -m)/toolchain
+    tools=$(dirname -- "$(rt doc)")/on/$(uname -m)/toolchain
     emulator=${QEMU:-$tools/bin/qemu-x86_64}
     libraries=$tools/lib
     set -- --target x86_64-unknown-linux-gnu -C linker="$cc"
@@ -57,13 +57,13 @@ else
         libraries=''
         cc=${CC:-cc}
         status=0
-        sh "$root/scripts/native.sh" exports "$built/native" >"$built/native.log" 2>&1 || status=$?
+        sh "$root/scripts/native.sh" exports_c "$built/native" >"$built/native.log" 2>&1 || status=$?
         if [ "$status" -eq 2 ] || ! command -v "$cc" >/dev/null 2>&1; then
             echo "library: built; its tests are left out, since this machine cannot make and run them"
             exit 0
         fi
         [ "$status" -eq 0 ] || end 1 "not made for this machine: $(tail -n 1 "$built/native.log")"
-        cp "$built/native/libexports.a" "$built/libfennqualo.a"
+        cp "$built/native/libexports_c.a" "$built/libfennqualo.a"
         echo "library: built; tested as its own LLVM module compiled for $(uname -m)"
     fi
 fi

@@ -1,8 +1,7 @@
 #!/bin/sh
 # front.sh: tests the front `fennqualo`, in the repository and installed: its exit statuses, `why`, `apart`, `over` and
-# `back`, `latency`, `batch --jobs`, what it says of a build, `install`. Run it after `rt ci` or `rt check` and
-# scripts/exports.sh. Builds are tried in a copy of the front with a program in the place of `rt`; the installed front is
-# a real one. Prints one line. Exit: 0 all as expected, 1 not.
+# `back`, `latency`, `batch --jobs`, what it says of a build, `install`. Builds are tried in a copy of the front
+# with a program in the place of `rt`; the installed front is a real one. Prints one line. Exit: 0 all as expected, 1 not.
 set -u
 export LC_ALL=C
 root=$(CDPATH= cd -- "$(dirname -- "$0")/.." && pwd) || exit 1
@@ -251,10 +250,13 @@ echo 'one: two' >"$copy/crates.txt"
 echo 'two:' >>"$copy/crates.txt"
 echo 'code' >"$copy/crates/one/src/lib.rt"
 for program in play batch inspect trace mover quote; do
+    mkdir -p "$copy/crates/$program/src"
+    echo "$program: one" >>"$copy/crates.txt"
+    echo 'code' >"$copy/crates/$program/src/main.rt"
     printf '#!/bin/sh\necho "0 1 1 0 0" >&3\n' >"$copy/target/bin/$program"
     chmod +x "$copy/target/bin/$program"
 done
-for tool in sh cat grep awk sed find head tail dirname readlink ps sleep mkdir rm touch mktemp tr wc cp env kill; do
+for tool in sh cat grep awk sed find head tail dirname readlink ps sleep mkdir rm touch mktemp tr wc cp mv tee env kill; do
     there=$(command -v "$tool") && ln -sf "$there" "$work/bare/$tool" 2>/dev/null
 done
 # the programs of the copy are scripts: they run as they are, whatever machine this is
@@ -264,14 +266,25 @@ for folder in path bare; do
 done
 cat >"$work/path/rt" <<'END'
 #!/bin/sh
+# proved CRATE: what rt says of one that it proves
+proved() { printf 'crate %s: modules loaded=0 checked=3\nlogic=proved functions=1 sum=0\n' "$1" >&2; }
 case $1 in
 version) echo "another kit" ;;
-doc) echo /nowhere/docs/guide ;;
-check)
-    echo "rt: two proved (1 s)"
-    [ ! -f broken ] || { echo "rt: one is not proved"; exit 1; }
-    [ ! -f slow ] || { sleep 300 & echo $! >sleeper; wait; }
-    echo "rt: play proved (2 s)"
+doc) echo /nowhere/START-HERE.md ;;
+run)
+    program=${PWD##*/}
+    cd ../..
+    if [ "$program" = play ]; then
+        proved two
+        [ ! -f broken ] || { echo "rt: the library one did not build" >&2; exit 1; }
+        [ ! -f slow ] || { sleep 300 & echo $! >sleeper; wait; }
+        proved one
+    fi
+    proved "$program"
+    mkdir -p "crates/$program/out"
+    printf '#!/bin/sh\necho "0 1 1 0 0" >&3\n' >"crates/$program/out/$program"
+    chmod +x "crates/$program/out/$program"
+    echo "rt: running out/$program; to give it other input, run that file yourself" >&2
     ;;
 esac
 END
@@ -279,7 +292,7 @@ chmod +x "$work/path/rt"
 # front WORDS..: the copy's front with that rt
 front() { (cd "$copy" && PATH="$work/path:$PATH" ./fennqualo "$@"); }
 
-touch "$copy/crates/one/src/lib.rt" "$copy/crates.txt"
+touch "$copy"/crates/*/src/*.rt "$copy/crates.txt"
 sleep 1
 touch "$copy"/target/bin/*
 expect 0 "a program that is new enough" front play
@@ -287,7 +300,9 @@ expect 0 "a program that is new enough" front play
 sleep 1
 touch "$copy/crates/one/src/lib.rt"
 expect 0 "a program older than a source" front play
-says err 'proved (2 s)'
+says err '1 of 8: two proved; now or next: one'
+says err '3 of 8: play proved; now or next: batch inspect trace mover quote'
+says err '8 of 8: quote proved'
 sleep 1
 touch "$copy/crates/one/src/lib.rt"
 expect 0 "an old program, no rt" sh -c "cd '$copy' && PATH='$work/bare' ./fennqualo play"
@@ -303,10 +318,14 @@ says err 'cannot be written'
 rmdir "$copy/target/build.log"
 expect 0 "a build" front build
 says err '1 of'
+expect 0 "a build with nothing to do" front build
+says err 'built already'
 expect 0 "the kit's version" front version
 says out 'another kit'
 
 # Ctrl-C, which the front alone may get
+sleep 1
+touch "$copy/crates/one/src/lib.rt"
 : >"$copy/slow"
 (cd "$copy" && PATH="$work/path:$PATH" exec ./fennqualo build) >/dev/null 2>"$work/err" &
 building=$!

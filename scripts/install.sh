@@ -29,11 +29,11 @@ sh "$root/fennqualo" build || exit 1
 sh "$root/scripts/library.sh" "$root/target/library" || exit 1
 library=target/library/libfennqualo.a
 if [ "$machine" != x86_64 ]; then
-    sh "$root/scripts/native.sh" exports "$root/target/native" >/dev/null || {
+    sh "$root/scripts/native.sh" exports_c "$root/target/native" >/dev/null || {
         tell "the library cannot be compiled for $machine"
         exit 1
     }
-    library=target/native/libexports.a
+    library=target/native/libexports_c.a
 fi
 
 # ---- under the prefix: new folders and files are noted, so that they can be taken away again

@@ -1,5 +1,5 @@
-# program.sh: how a script runs a program that `rt` built. To be sourced, with the repository's folder in `root`, or, by the
-# installed front, with the folder of the programs in `programs`.
+# program.sh: how a script runs a program that scripts/make.sh put into target/bin. To be sourced, with the repository's
+# folder in `root`, or, by the installed front, with the folder of the programs in `programs`.
 # These programs are compiled for x86-64. On another machine they run under the emulator that the Rattle kit has there:
 # what they print is the same, how long they take says nothing. A program from elsewhere is run as it is.
 
@@ -28,7 +28,7 @@ can_run() {
         why="$why, and the Rattle kit with its emulator is not installed ('rt' is not on the PATH)"
         return 1
     fi
-    tools=$(dirname -- "$(dirname -- "$(rt doc)")")/on/$machine/toolchain
+    tools=$(dirname -- "$(rt doc)")/on/$machine/toolchain
     emulator=$tools/bin/qemu-x86_64
     [ ! -x "$emulator" ] || return 0
     why="$why, and the Rattle kit has no emulator for it"

@@ -3,7 +3,7 @@
 # second in edition 1, HELD (400) in edition 2, RESTRICTED (400) in edition 3 and ASKED (400) in every edition, with the
 # outputs in the way, from SEED (1) with the second model, replays them with the proved program target/bin/singles (run
 # as scripts/program.sh says) and compares what both print, byte by byte.
-# Prints one line; fails at any difference, and leaves the texts in target/singles/. Run it after `rt ci` or `rt check`.
+# Prints one line; fails at any difference, and leaves the texts in target/singles/.
 # usage: scripts/singles.sh [COUNT] [SEED] [WIDE] [HELD] [RESTRICTED] [ASKED]. It needs cargo; nothing is fetched.
 set -eu
 export LC_ALL=C
@@ -19,7 +19,7 @@ program="$root/target/bin/singles"
 texts="$root/target/singles"
 
 if [ ! -x "$program" ]; then
-    echo "singles: target/bin/singles is missing: 'rt check singles' makes it" >&2
+    echo "singles: target/bin/singles is missing: 'scripts/make.sh singles' makes it" >&2
     exit 1
 fi
 . "$root/scripts/program.sh"

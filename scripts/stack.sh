@@ -1,8 +1,8 @@
 #!/bin/sh
-# stack.sh: measures the stack that the calls of the C library (crate `exports`) and the archive reader (crate `stack`)
+# stack.sh: measures the stack that the calls of the C library (crate `exports_c`) and the archive reader (crate `stack`)
 # take, on the corpus and on damaged archives, checks their answers, and fails where a limit is reached: tests/stack/
 # has the limits and says what is counted. Then examples/small_stack.c, which checks archives in a task with 4 KiB of stack,
-# against its expected output. Run it after `rt ci` or `rt check`.
+# against its expected output.
 # On x86-64 both libraries are the kit's own. On another machine they are their own LLVM modules, compiled for it
 # (scripts/native.sh), and the lines say so; where that is not possible one line says that the test is left out, and the
 # exit status is 0. It needs cc (or what CC names). What it builds stays in target/stack/. Nothing is fetched.
@@ -25,11 +25,11 @@ if [ "$machine" = x86_64 ]; then
     command -v "$cc" >/dev/null 2>&1 || end 1 "$cc is not there: the test needs a C compiler"
     sh "$root/scripts/library.sh" "$built" >"$built/library.log" 2>&1 ||
         end 1 "libfennqualo.a is not built: $(tail -n 1 "$built/library.log")"
-    (cd "$root" && rt staticlib stack) >"$built/stack.log" 2>&1 ||
+    sh "$root/scripts/make.sh" stack >"$built/stack.log" 2>&1 ||
         end 1 "the crate stack is not proved or not built; target/stack/stack.log has the whole log"
     cp "$root/target/staticlib/libstack.a" "$built/libstack.a"
 else
-    for crate in exports stack; do
+    for crate in exports_c stack; do
         status=0
         sh "$root/scripts/native.sh" "$crate" "$built/native-$crate" >"$built/$crate.log" 2>&1 || status=$?
         if [ "$status" -eq 2 ] || ! command -v "$cc" >/dev/null 2>&1; then
@@ -38,7 +38,7 @@ else
         fi
         [ "$status" -eq 0 ] || end 1 "$crate is not made for this machine: $(tail -n 1 "$built/$crate.log")"
     done
-    cp "$built/native-exports/libexports.a" "$built/libfennqualo.a"
+    cp "$built/native-exports_c/libexports_c.a" "$built/libfennqualo.a"
     cp "$built/native-stack/libstack.a" "$built/libstack.a"
     set -- "compiled for $machine"
 fi

@@ -1,7 +1,7 @@
-// The functions that C and Rust call: an archive played, checked, copied, moved to the other version. Each is thin over
-// a proved function, takes slices of any length and any bytes, and answers 0 or the number of document 01's refusal, or
-// 02's; a refusal leaves every lent element as it was. calls/specs/Calls.antt and, for the moves, format/specs/Moves.antt
-// say what they answer, include/fennqualo.h tells it to C.
+// The functions of the library for C and Rust, to which crate exports_c gives their C names: an archive played, checked,
+// copied, moved to the other version. Each is thin over a proved function, takes slices of any length and any bytes, and
+// answers 0 or the number of document 01's refusal, or 02's; a refusal leaves every lent element as it was.
+// calls/specs/Calls.antt and, for the moves, format/specs/Moves.antt say what they answer, include/fennqualo.h tells it to C.
 // What no proof can see: a caller in C hands over slices that are there, that do not overlap, and that nobody else
 // changes during the call.
 #![tactic(auto)]
