@@ -11,7 +11,7 @@ cd "$(dirname "$0")/.."
 #   settled   the theorems; it has no code
 #   timing    for the benchmark alone: it calls the public functions so many times, and nothing that is shipped uses it
 #   stack     for the test of the stack alone: the reader, called once
-#   exports_c the functions of exports under their C names
+#   exports_c the functions of exports under their C names; below it is held to their very signatures and clauses
 unseen="settled timing stack exports_c"
 
 # Libraries without a function, types, definitions and theorems alone; they are looked at all the same.
@@ -44,6 +44,12 @@ for crate in $listed; do
     fi
 done
 [ -n "$libraries" ] || fail "crates.txt lists no library"
+
+# every public function up to its body, without the C in front of it
+promised() { awk '/^pub / { sub(/extern "C" /, ""); on = 1 } /^{/ { on = 0 } on' "$1"; }
+[ -n "$(promised crates/exports/src/lib.rt)" ] || fail "no public function seen in crates/exports"
+[ "$(promised crates/exports/src/lib.rt)" = "$(promised crates/exports_c/src/lib.rt)" ] ||
+    fail "the functions of crates/exports_c are not those of crates/exports, with their clauses and in their order"
 
 files=$(for crate in $libraries; do
     find "crates/$crate/src" -name '*.rt'
