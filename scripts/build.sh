@@ -96,8 +96,8 @@ build() {
         say "built already, in target/bin: $made"
         return
     fi
-    say "proving and building$todo; from nothing that takes some 9 minutes on two processors, and nothing is said for up"
-    say "to 2 minutes while rules, machine or words is proved; the whole log is target/build.log"
+    say "proving and building$todo; from nothing that takes many minutes, and nothing is said for some"
+    say "of them while rules, machine or words is proved; the whole log is target/build.log"
     rm -f "$root/target/kit"
     # shellcheck disable=SC2086
     sh "$root/scripts/make.sh" $todo >>"$log" 2>&1 &
