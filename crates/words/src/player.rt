@@ -201,15 +201,10 @@ pub fn play(bytes: &[u8], book: &mut [u8]) -> PlayAnswer
 {
     let started = start(bytes, book.len());
     let refusal = started.refusal;
-    let run = started.run;
-    let network = run.network;
-    let sends = run.sends;
-    let count = run.count;
-    let seed = run.seed;
-    let draws = run.draws;
     if refusal != 0 {
         return refused(refusal);
     }
-    let counts = play_run(network, sends, count, seed, draws, book);
+    let run = started.run;
+    let counts = play_run(run.network, run.sends, run.count, run.seed, run.draws, book);
     PlayAnswer { refusal: 0, counts }
 }
