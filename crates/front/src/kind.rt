@@ -3,6 +3,7 @@
 // text here, so a name that is not leads to nothing.
 ghost use Rattle.std.specs.Prelude.{◌≤◌, length};
 
+use std::os::unix::fs::MetadataExt;
 use std::rt::Files;
 use std::{fs, io};
 
@@ -12,6 +13,12 @@ const PATH_MAX: usize = 4096;
 const INVALID: i32 = 22;
 
 const TOO_LONG: i32 = 36;
+// The part of a mode that says the kind of a file, and two kinds.
+const KINDS: u32 = 0o170000;
+
+const FOLDER: u32 = 0o040000;
+
+const FILE: u32 = 0o100000;
 
 // A file that ends, a folder, a FIFO, device or socket, or what is not known.
 #[derive(Clone, Copy)]
@@ -48,19 +55,19 @@ pub(crate) fn kind_of(rt: &impl Files, name: &[u8]) -> Kind {
 
 fn kind_at(rt: &impl Files, path: &str) -> Kind {
     match fs::metadata(rt, path) {
-        Ok(known) => kind_in(known.is_file(), known.is_dir()),
+        Ok(known) => kind_in(known.mode()),
         Err(_) => Kind::Unknown,
     }
 }
 
-fn kind_in(is_file: bool, is_folder: bool) -> Kind {
-    if is_file {
-        return Kind::File;
+// The kind in a mode of Linux. Something with a mode of no kind can be opened, as what is not known.
+fn kind_in(mode: u32) -> Kind {
+    match mode & KINDS {
+        0 => Kind::Unknown,
+        FOLDER => Kind::Folder,
+        FILE => Kind::File,
+        _ => Kind::Other,
     }
-    if is_folder {
-        return Kind::Folder;
-    }
-    Kind::Other
 }
 
 // The path of this name, or why it can be none.

@@ -11,6 +11,8 @@ use std::io::{Error, ErrorKind, Print, Write};
 const MESSAGE: usize = 16896;
 // Room for the system's words for an error.
 const WORDS: usize = 256;
+// Room for a message, and behind it a colon, a blank, those words and a newline.
+const WHOLE: usize = MESSAGE + WORDS + 3;
 // Linux's number of an error that has the same kind as a lack of permission.
 const NOT_PERMITTED: i32 = 1;
 
@@ -75,13 +77,20 @@ fn say_words(rt: &impl Desk, who: &[u8], name: &[u8], words: &[u8]) {
     put(rt, &line[..whole]);
 }
 
-// The same with the system's words for the error behind.
+// The same with the system's words for the error behind, also where the name fills the room of a message.
 fn say_system(rt: &impl Desk, who: &[u8], name: &[u8], words: &[u8], error: Error) {
     let mut line = [0u8; MESSAGE];
     let behind = begun(&mut line, who);
     let named = report::add_name(&mut line, behind, name);
     let told = report::add_bytes(&mut line, named, words);
-    let colon = report::add_bytes(&mut line, told, b": ");
+    put_system(rt, &line[..told], error);
+}
+
+// Writes what is told, a colon and the system's words for the error.
+fn put_system(rt: &impl Desk, told: &[u8], error: Error) {
+    let mut line = [0u8; WHOLE];
+    let text = report::add_bytes(&mut line, 0, told);
+    let colon = report::add_bytes(&mut line, text, b": ");
     let end = add_error(&mut line, colon, error);
     let whole = report::add_bytes(&mut line, end, b"\n");
     put(rt, &line[..whole]);
