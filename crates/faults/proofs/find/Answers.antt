@@ -1,10 +1,14 @@
 -- `find` meets its contract, one law of Judged for each way. Assumes nothing.
 use mathlib.Core.Path.{◌≡◌, refl, sym, ap, ◌∙◌}
+use mathlib.Core.List.{List}
+use Prim.Native.Nat.{ℕ, ◌*◌, ◌+◌, ◌≤◌}
 use mathlib.Core.Bool.{true}
 use native.Mathlib.Omega.{arith}
 use Rattle.model.specs.Network.{channels_ok, routes_ok}
-use Rattle.format.specs.Format.{at, version_of, count_of, network_of}
+use Rattle.format.specs.Format.{at, sites_place, version_of, count_of, network_of}
+use Rattle.format.specs.First.{first}
 use Rattle.format.specs.Refusals.{head_then}
+use Rattle.format.specs.Faults.{numbered_ok}
 use Rattle.faults.specs.Head.{Head, Read}
 use Rattle.faults.proofs.HeadLaws.{head_passes}
 use Rattle.faults.proofs.Versions.{edition_small}
@@ -12,166 +16,88 @@ use Rattle.faults.proofs.Held.{sized}
 use Rattle.faults.proofs.Judged.{at_head, at_channel, channels_good, at_route, routes_good, at_send, at_nothing}
 use Rattle.faults.proofs.find.Goals as goal
 
+-- what the head's refusal f tells where it is none, and S read at place p
+module _ (b : List ℕ) {f : ℕ} (judged : f ≡ head_then b 0) (passed : f ≡ 0) where
+  good : head_then b 0 ≡ 0
+  good = sym judged ∙ passed
+
+  headed : Head b
+  headed = (head_passes _ 0 good).0
+
+  measured : (p S : ℕ) → p ≡ sites_place (version_of b) → S ≡ at b p → Read b (version_of b) S
+  measured p S place read = record { head = headed; version = refl; sites = read ∙ ap (at b) place }
+
+-- N read nine bytes behind it
+counted : (b : List ℕ) (p N : ℕ) → p ≡ sites_place (version_of b) → N ≡ at b (p + 9) → N ≡ count_of b
+counted b p N place read = read ∙ ap (at b) (omega (arith, place))
+
 pub returns-then-refusal-ne0 : goal.returns-then-refusal-ne0
 returns-then-refusal-ne0 c = c.fault.ensures ∙ at_head _ _ c.head_refusal-refusal.ensures c.if-refusal-ne0.true
 
 pub bounds-bytes-2 : goal.bounds-bytes-2
-bounds-bytes-2 c =
-    let head_good : head_then (c.args.bytes.now) 0 ≡ 0 =
-    sym c.head_refusal-refusal.ensures ∙ c.if-refusal-ne0.false in
-    let head_of : Head (c.args.bytes.now) =
-    (head_passes _ 0 (head_good)).0 in
-    omega (arith, (head_of).enough)
+bounds-bytes-2 c = omega (arith, (headed _ c.head_refusal-refusal.ensures c.if-refusal-ne0.false).enough)
 
 pub bounds-bytes-p : goal.bounds-bytes-p
 bounds-bytes-p c =
-    let head_good : head_then (c.args.bytes.now) 0 ≡ 0 =
-    sym c.head_refusal-refusal.ensures ∙ c.if-refusal-ne0.false in
-    let head_of : Head (c.args.bytes.now) =
-    (head_passes _ 0 (head_good)).0 in
-    omega (arith, c.fields_place-p.ensures, (head_of).enough)
+    omega (arith, c.fields_place-p.ensures, (headed _ c.head_refusal-refusal.ensures c.if-refusal-ne0.false).enough)
 
 pub first_channel-channel-requires : goal.first_channel-channel-requires
 first_channel-channel-requires c =
-    let head_good : head_then (c.args.bytes.now) 0 ≡ 0 =
-    sym c.head_refusal-refusal.ensures ∙ c.if-refusal-ne0.false in
-    let head_of : Head (c.args.bytes.now) =
-    (head_passes _ 0 (head_good)).0 in
-    let read : Read (c.args.bytes.now) (version_of (c.args.bytes.now)) c.wide-sites.result =
-    record {
-      head = head_of;
-      version = refl;
-      sites = c.wide-sites.ensures.0 ∙ ap (at (c.args.bytes.now)) c.fields_place-p.ensures;
-    } in
-    read
+    measured _ c.head_refusal-refusal.ensures c.if-refusal-ne0.false _ _ c.fields_place-p.ensures c.wide-sites.ensures.0
 
 pub returns-then-channel-sites : goal.returns-then-channel-sites
 returns-then-channel-sites c =
-    let head_good : head_then (c.args.bytes.now) 0 ≡ 0 =
-    sym c.head_refusal-refusal.ensures ∙ c.if-refusal-ne0.false in
-    let head_of : Head (c.args.bytes.now) =
-    (head_passes _ 0 (head_good)).0 in
-    let read : Read (c.args.bytes.now) (version_of (c.args.bytes.now)) c.wide-sites.result =
-    record {
-      head = head_of;
-      version = refl;
-      sites = c.wide-sites.ensures.0 ∙ ap (at (c.args.bytes.now)) c.fields_place-p.ensures;
-    } in
+    let r = measured _ c.head_refusal-refusal.ensures c.if-refusal-ne0.false _ _ c.fields_place-p.ensures c.wide-sites.ensures.0 in
     c.fault-then-channel-sites.ensures
-    ∙ at_channel _ (head_good) _ (read).sites _ c.first_channel-channel.ensures c.if-channel-sites.true
+    ∙ at_channel _ (good _ c.head_refusal-refusal.ensures c.if-refusal-ne0.false) _ r.sites _ c.first_channel-channel.ensures
+    c.if-channel-sites.true
 
 pub first_route-route-requires : goal.first_route-route-requires
 first_route-route-requires c =
-    let head_good : head_then (c.args.bytes.now) 0 ≡ 0 =
-    sym c.head_refusal-refusal.ensures ∙ c.if-refusal-ne0.false in
-    let head_of : Head (c.args.bytes.now) =
-    (head_passes _ 0 (head_good)).0 in
-    let read : Read (c.args.bytes.now) (version_of (c.args.bytes.now)) c.wide-sites.result =
-    record {
-      head = head_of;
-      version = refl;
-      sites = c.wide-sites.ensures.0 ∙ ap (at (c.args.bytes.now)) c.fields_place-p.ensures;
-    } in
-    read
+    measured _ c.head_refusal-refusal.ensures c.if-refusal-ne0.false _ _ c.fields_place-p.ensures c.wide-sites.ensures.0
 
 pub overflow_mul-sites-2 : goal.overflow_mul-sites-2
 overflow_mul-sites-2 c =
-    let head_good : head_then (c.args.bytes.now) 0 ≡ 0 =
-    sym c.head_refusal-refusal.ensures ∙ c.if-refusal-ne0.false in
-    let head_of : Head (c.args.bytes.now) =
-    (head_passes _ 0 (head_good)).0 in
-    let read : Read (c.args.bytes.now) (version_of (c.args.bytes.now)) c.wide-sites.result =
-    record {
-      head = head_of;
-      version = refl;
-      sites = c.wide-sites.ensures.0 ∙ ap (at (c.args.bytes.now)) c.fields_place-p.ensures;
-    } in
-    omega (arith, (sized _ _ _ (read)).square)
+    let r = measured _ c.head_refusal-refusal.ensures c.if-refusal-ne0.false _ _ c.fields_place-p.ensures c.wide-sites.ensures.0 in
+    omega (arith, (sized _ _ _ r).square)
 
 pub returns-then-route-sites : goal.returns-then-route-sites
 returns-then-route-sites c =
-    let head_good : head_then (c.args.bytes.now) 0 ≡ 0 =
-    sym c.head_refusal-refusal.ensures ∙ c.if-refusal-ne0.false in
-    let head_of : Head (c.args.bytes.now) =
-    (head_passes _ 0 (head_good)).0 in
-    let read : Read (c.args.bytes.now) (version_of (c.args.bytes.now)) c.wide-sites.result =
-    record {
-      head = head_of;
-      version = refl;
-      sites = c.wide-sites.ensures.0 ∙ ap (at (c.args.bytes.now)) c.fields_place-p.ensures;
-    } in
-    let channels_passed : channels_ok (network_of (c.args.bytes.now)) ≡ true =
-    channels_good _ (head_good) _ (read).sites _ c.first_channel-channel.ensures c.if-channel-sites.false in
-    c.fault-then-route-sites.ensures
-    ∙ at_route _ (head_good) _ (read).sites (channels_passed) _ c.first_route-route.ensures c.if-route-sites.true
+    let g = good _ c.head_refusal-refusal.ensures c.if-refusal-ne0.false in
+    let r = measured _ c.head_refusal-refusal.ensures c.if-refusal-ne0.false _ _ c.fields_place-p.ensures c.wide-sites.ensures.0 in
+    let cs = channels_good _ g _ r.sites _ c.first_channel-channel.ensures c.if-channel-sites.false in
+    c.fault-then-route-sites.ensures ∙ at_route _ g _ r.sites cs _ c.first_route-route.ensures c.if-route-sites.true
 
 pub overflow_add-p : goal.overflow_add-p
-overflow_add-p c = omega (arith, c.fields_place-p.ensures, edition_small (version_of (c.args.bytes.now)))
+overflow_add-p c = omega (arith, c.fields_place-p.ensures, edition_small (version_of c.args.bytes.now))
 
 pub bounds-bytes-p-2 : goal.bounds-bytes-p-2
 bounds-bytes-p-2 c =
-    let head_good : head_then (c.args.bytes.now) 0 ≡ 0 =
-    sym c.head_refusal-refusal.ensures ∙ c.if-refusal-ne0.false in
-    let head_of : Head (c.args.bytes.now) =
-    (head_passes _ 0 (head_good)).0 in
-    omega (arith, c.fields_place-p.ensures, (head_of).enough)
+    omega (arith, c.fields_place-p.ensures, (headed _ c.head_refusal-refusal.ensures c.if-refusal-ne0.false).enough)
 
 pub first_send-send-requires : goal.first_send-send-requires
-first_send-send-requires c =
-    let head_good : head_then (c.args.bytes.now) 0 ≡ 0 =
-    sym c.head_refusal-refusal.ensures ∙ c.if-refusal-ne0.false in
-    let head_of : Head (c.args.bytes.now) =
-    (head_passes _ 0 (head_good)).0 in
-    let read : Read (c.args.bytes.now) (version_of (c.args.bytes.now)) c.wide-sites.result =
-    record {
-      head = head_of;
-      version = refl;
-      sites = c.wide-sites.ensures.0 ∙ ap (at (c.args.bytes.now)) c.fields_place-p.ensures;
-    } in
-    let count_read : c.wide-sends.result ≡ count_of (c.args.bytes.now) =
-    c.wide-sends.ensures.0 ∙ ap (at (c.args.bytes.now)) (omega (arith, c.fields_place-p.ensures)) in
-    (read, count_read, c.wide-sends.ensures.1)
+first_send-send-requires c = (
+  measured _ c.head_refusal-refusal.ensures c.if-refusal-ne0.false _ _ c.fields_place-p.ensures c.wide-sites.ensures.0,
+  counted _ _ _ c.fields_place-p.ensures c.wide-sends.ensures.0,
+  c.wide-sends.ensures.1,
+)
 
 pub returns-then-send-sends : goal.returns-then-send-sends
 returns-then-send-sends c =
-    let head_good : head_then (c.args.bytes.now) 0 ≡ 0 =
-    sym c.head_refusal-refusal.ensures ∙ c.if-refusal-ne0.false in
-    let head_of : Head (c.args.bytes.now) =
-    (head_passes _ 0 (head_good)).0 in
-    let read : Read (c.args.bytes.now) (version_of (c.args.bytes.now)) c.wide-sites.result =
-    record {
-      head = head_of;
-      version = refl;
-      sites = c.wide-sites.ensures.0 ∙ ap (at (c.args.bytes.now)) c.fields_place-p.ensures;
-    } in
-    let channels_passed : channels_ok (network_of (c.args.bytes.now)) ≡ true =
-    channels_good _ (head_good) _ (read).sites _ c.first_channel-channel.ensures c.if-channel-sites.false in
-    let routes_passed : routes_ok (network_of (c.args.bytes.now)) ≡ true =
-    routes_good _ (head_good) _ (read).sites (channels_passed) _ c.first_route-route.ensures c.if-route-sites.false in
-    let count_read : c.wide-sends.result ≡ count_of (c.args.bytes.now) =
-    c.wide-sends.ensures.0 ∙ ap (at (c.args.bytes.now)) (omega (arith, c.fields_place-p.ensures)) in
+    let g = good _ c.head_refusal-refusal.ensures c.if-refusal-ne0.false in
+    let r = measured _ c.head_refusal-refusal.ensures c.if-refusal-ne0.false _ _ c.fields_place-p.ensures c.wide-sites.ensures.0 in
+    let cs = channels_good _ g _ r.sites _ c.first_channel-channel.ensures c.if-channel-sites.false in
+    let rs = routes_good _ g _ r.sites cs _ c.first_route-route.ensures c.if-route-sites.false in
     c.fault-then-send-sends.ensures
-    ∙ at_send _ (head_good) _ (read).sites (channels_passed) (routes_passed) _ (count_read) _
-    c.first_send-send.ensures c.if-send-sends.true
+    ∙ at_send _ g _ r.sites cs rs _ (counted _ _ _ c.fields_place-p.ensures c.wide-sends.ensures.0) _ c.first_send-send.ensures
+    c.if-send-sends.true
 
 pub returns : goal.returns
 returns c =
-    let head_good : head_then (c.args.bytes.now) 0 ≡ 0 =
-    sym c.head_refusal-refusal.ensures ∙ c.if-refusal-ne0.false in
-    let head_of : Head (c.args.bytes.now) =
-    (head_passes _ 0 (head_good)).0 in
-    let read : Read (c.args.bytes.now) (version_of (c.args.bytes.now)) c.wide-sites.result =
-    record {
-      head = head_of;
-      version = refl;
-      sites = c.wide-sites.ensures.0 ∙ ap (at (c.args.bytes.now)) c.fields_place-p.ensures;
-    } in
-    let channels_passed : channels_ok (network_of (c.args.bytes.now)) ≡ true =
-    channels_good _ (head_good) _ (read).sites _ c.first_channel-channel.ensures c.if-channel-sites.false in
-    let routes_passed : routes_ok (network_of (c.args.bytes.now)) ≡ true =
-    routes_good _ (head_good) _ (read).sites (channels_passed) _ c.first_route-route.ensures c.if-route-sites.false in
-    let count_read : c.wide-sends.result ≡ count_of (c.args.bytes.now) =
-    c.wide-sends.ensures.0 ∙ ap (at (c.args.bytes.now)) (omega (arith, c.fields_place-p.ensures)) in
+    let g = good _ c.head_refusal-refusal.ensures c.if-refusal-ne0.false in
+    let r = measured _ c.head_refusal-refusal.ensures c.if-refusal-ne0.false _ _ c.fields_place-p.ensures c.wide-sites.ensures.0 in
+    let cs = channels_good _ g _ r.sites _ c.first_channel-channel.ensures c.if-channel-sites.false in
+    let rs = routes_good _ g _ r.sites cs _ c.first_route-route.ensures c.if-route-sites.false in
     c.fault-2.ensures
-    ∙ at_nothing _ (head_good) _ (read).sites (channels_passed) (routes_passed) _ (count_read) _
-    c.first_send-send.ensures c.if-send-sends.false
+    ∙ at_nothing _ g _ r.sites cs rs _ (counted _ _ _ c.fields_place-p.ensures c.wide-sends.ensures.0) _ c.first_send-send.ensures
+    c.if-send-sends.false

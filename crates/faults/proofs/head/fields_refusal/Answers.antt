@@ -16,28 +16,19 @@ quad_at-requires c = omega (arith, c.fields_place.ensures, edition_small c.args.
 
 pub returns-then-quad_at-eq0 : goal.returns-then-quad_at-eq0
 returns-then-quad_at-eq0 c =
-    let sized : sizes_ok (network_of c.args.b.now) ≡ true =
-    sym c.has_sizes.ensures ∙ c.if-has_sizes.true in
-    let seed : c.quad_at.result ≡ (run_of c.args.b.now).seed =
-    seed_read c.args.b.now _ _ c.requires.1 c.fields_place.ensures _ c.quad_at.ensures in
-    fields_seed _ (sized) (sym (seed) ∙ c.if-quad_at-eq0.true)
+    let read = seed_read c.args.b.now _ _ c.requires.1 c.fields_place.ensures _ c.quad_at.ensures in
+    fields_seed _ (sym c.has_sizes.ensures ∙ c.if-has_sizes.true) (sym read ∙ c.if-quad_at-eq0.true)
 
 pub returns-then-has_length : goal.returns-then-has_length
 returns-then-has_length c =
-    let sized : sizes_ok (network_of c.args.b.now) ≡ true =
-    sym c.has_sizes.ensures ∙ c.if-has_sizes.true in
-    let seed : c.quad_at.result ≡ (run_of c.args.b.now).seed =
-    seed_read c.args.b.now _ _ c.requires.1 c.fields_place.ensures _ c.quad_at.ensures in
-    fields_size _ 0 true (sized) (λ e. c.if-quad_at-eq0.false (seed ∙ e))
+    let read = seed_read c.args.b.now _ _ c.requires.1 c.fields_place.ensures _ c.quad_at.ensures in
+    fields_size _ 0 true (sym c.has_sizes.ensures ∙ c.if-has_sizes.true) (λ e. c.if-quad_at-eq0.false (read ∙ e))
     (sym c.has_length.ensures ∙ c.if-has_length.true)
 
 pub returns-then-has_sizes : goal.returns-then-has_sizes
 returns-then-has_sizes c =
-    let sized : sizes_ok (network_of c.args.b.now) ≡ true =
-    sym c.has_sizes.ensures ∙ c.if-has_sizes.true in
-    let seed : c.quad_at.result ≡ (run_of c.args.b.now).seed =
-    seed_read c.args.b.now _ _ c.requires.1 c.fields_place.ensures _ c.quad_at.ensures in
-    fields_size _ 0 false (sized) (λ e. c.if-quad_at-eq0.false (seed ∙ e))
+    let read = seed_read c.args.b.now _ _ c.requires.1 c.fields_place.ensures _ c.quad_at.ensures in
+    fields_size _ 0 false (sym c.has_sizes.ensures ∙ c.if-has_sizes.true) (λ e. c.if-quad_at-eq0.false (read ∙ e))
     (sym c.has_length.ensures ∙ c.if-has_length.false)
 
 pub returns : goal.returns

@@ -1,69 +1,53 @@
 -- `search::first_in_row` meets its contract: every route of the row is tested, up to the first that fails. Assumes
 -- nothing.
 use mathlib.Core.Path.{◌≡◌, sym, ◌∙◌}
-use mathlib.Core.Bool.{true}
-use Prim.Native.Nat.{◌-◌, ◌*◌, ◌≤◌, ◌<◌}
+use mathlib.Core.List.{List}
+use Prim.Native.Nat.{ℕ, ◌≤◌}
 use native.Mathlib.Omega.{arith}
-use Rattle.base.specs.Sizes.{sites_most}
 use Rattle.base.specs.All.{all_none, all_more}
-use Rattle.model.specs.Network.{route_ok}
-use Rattle.format.specs.Format.{network_of}
+use Rattle.format.specs.Format.{routes_place}
 use Rattle.format.specs.First.{left_at, left_none}
+use Rattle.faults.specs.Head.{Read}
 use Rattle.faults.proofs.Versions.{routes_begin}
 use Rattle.faults.proofs.Held.{sized, route_tested, row_small, route_inside}
 use Rattle.faults.proofs.search.first_in_row.Goals as goal
+
+-- the routes begin at 2,054 at most
+begun : (b : List ℕ) (v S p : ℕ) → Read b v S → p ≡ routes_place v S → p ≤ 2054
+begun b v S p r place = omega (arith, place, routes_begin v S (omega (arith, (sized b v S r).few)))
 
 pub ports_at-ports-requires : goal.ports_at-ports-requires
 ports_at-ports-requires c = (c.requires.0, c.requires.1)
 
 pub overflow_cast-sites : goal.overflow_cast-sites
-overflow_cast-sites c =
-    let few : c.args.sites ≤ sites_most =
-    (sized _ _ _ c.requires.0).few in
-    omega (arith, few)
+overflow_cast-sites c = omega (arith, (sized _ _ _ c.requires.0).few)
 
 pub overflow_mul-row : goal.overflow_mul-row
-overflow_mul-row c =
-    let small : c.args.s * c.args.sites < sites_most * sites_most =
-    row_small _ _ _ c.requires.0 c.args.s c.requires.1 in
-    omega (arith, small)
+overflow_mul-row c = omega (arith, row_small _ _ _ c.requires.0 c.args.s c.requires.1)
 
 pub overflow_mul-row-2 : goal.overflow_mul-row-2
-overflow_mul-row-2 c =
-    let small : c.args.s * c.args.sites < sites_most * sites_most =
-    row_small _ _ _ c.requires.0 c.args.s c.requires.1 in
-    omega (arith, small)
+overflow_mul-row-2 c = omega (arith, row_small _ _ _ c.requires.0 c.args.s c.requires.1)
 
 pub overflow_add-row : goal.overflow_add-row
 overflow_add-row c =
-    let few : c.args.sites ≤ sites_most =
-    (sized _ _ _ c.requires.0).few in
-    let small : c.args.s * c.args.sites < sites_most * sites_most =
-    row_small _ _ _ c.requires.0 c.args.s c.requires.1 in
-    let begun : c.routes_place.result ≤ 2054 =
-    let args = c.args in
-    omega (arith, c.routes_place.ensures, routes_begin args.version args.sites (omega (arith, few))) in
-    omega (arith, small, begun)
+    let r = c.requires.0 in
+    omega (arith, row_small _ _ _ r c.args.s c.requires.1, begun _ _ _ _ r c.routes_place.ensures)
 
 pub loop-t-init : goal.loop-t-init
 loop-t-init c = (omega arith, all_none _)
 
 pub overflow_mul-t : goal.overflow_mul-t
-overflow_mul-t c =
-    let few : c.args.sites ≤ sites_most =
-    (sized _ _ _ c.requires.0).few in
-    omega (arith, few)
+overflow_mul-t c = omega (arith, (sized _ _ _ c.requires.0).few)
 
 pub overflow_add-row-in-loop-t : goal.overflow_add-row-in-loop-t
 overflow_add-row-in-loop-t c =
-    let few : c.args.sites ≤ sites_most =
-    (sized _ _ _ c.requires.0).few in
-    let small : c.args.s * c.args.sites < sites_most * sites_most =
-    row_small _ _ _ c.requires.0 c.args.s c.requires.1 in
-    let begun : c.routes_place.result ≤ 2054 =
-    let args = c.args in
-    omega (arith, c.routes_place.ensures, routes_begin args.version args.sites (omega (arith, few))) in
-    omega (arith, few, small, begun)
+    let r = c.requires.0 in
+    omega (
+      arith,
+      (sized _ _ _ r).few,
+      row_small _ _ _ r c.args.s c.requires.1,
+      begun _ _ _ _ r c.routes_place.ensures,
+    )
 
 pub word_at-route-requires : goal.word_at-route-requires
 word_at-route-requires c =
@@ -83,29 +67,19 @@ loop-t-smaller c = omega arith
 
 pub loop-t-preserved : goal.loop-t-preserved
 loop-t-preserved c =
-    let tested : c.route_ok.result
-    ≡ route_ok (network_of c.args.b.now) c.args.s
-    c.loop-t.t =
-    let args = c.args in
     let pre = c.requires in
-    let loop = c.loop-t in
-    route_tested args.b.now args.version args.sites pre.0 args.s loop.t _ _ _ _ pre.1
-    c.loop-t-test.true (omega (arith, c.routes_place.ensures)) c.ports_at-ports.ensures
-    c.word_at-route.ensures c.route_ok.ensures in
-    (omega arith, all_more _ _ c.loop-t.invariant.1 (sym (tested) ∙ c.if-route_ok.true))
+    let tested =
+    route_tested _ _ _ pre.0 c.args.s c.loop-t.t _ _ _ _ pre.1 c.loop-t-test.true (omega (arith, c.routes_place.ensures))
+    c.ports_at-ports.ensures c.word_at-route.ensures c.route_ok.ensures in
+    (omega arith, all_more _ _ c.loop-t.invariant.1 (sym tested ∙ c.if-route_ok.true))
 
 pub returns-else-route_ok : goal.returns-else-route_ok
 returns-else-route_ok c =
-    let tested : c.route_ok.result
-    ≡ route_ok (network_of c.args.b.now) c.args.s
-    c.loop-t.t =
-    let args = c.args in
     let pre = c.requires in
-    let loop = c.loop-t in
-    route_tested args.b.now args.version args.sites pre.0 args.s loop.t _ _ _ _ pre.1
-    c.loop-t-test.true (omega (arith, c.routes_place.ensures)) c.ports_at-ports.ensures
-    c.word_at-route.ensures c.route_ok.ensures in
-    left_at _ _ _ c.loop-t-test.true c.loop-t.invariant.1 (sym (tested) ∙ c.if-route_ok.false)
+    let tested =
+    route_tested _ _ _ pre.0 c.args.s c.loop-t.t _ _ _ _ pre.1 c.loop-t-test.true (omega (arith, c.routes_place.ensures))
+    c.ports_at-ports.ensures c.word_at-route.ensures c.route_ok.ensures in
+    left_at _ _ _ c.loop-t-test.true c.loop-t.invariant.1 (sym tested ∙ c.if-route_ok.false)
 
 pub returns : goal.returns
 returns c =
