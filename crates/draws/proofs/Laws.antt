@@ -13,7 +13,7 @@ use lib.Dec.{leb, lit<}
 use lib.Pow.{pow_pos, shr_le}
 use Rattle.base.specs.Bools.{and, cond_ok}
 use Rattle.base.specs.Sizes.{sites_most, code_count, split_code_count}
-use Rattle.draws.specs.Draws.{left_xor, right_xor, drawn, value_after, restricted, codes_in, Shares, drawn_number, drawn_site, drawn_code, event_of}
+use Rattle.draws.specs.Draws.{left_xor, right_xor, drawn, value_after, restricted, codes_in, Shares, drawn_site, drawn_code, event_of}
 
 -- ---- values
 

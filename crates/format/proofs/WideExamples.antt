@@ -3,11 +3,10 @@
 use mathlib.Core.Path.{◌≡◌, refl}
 use mathlib.Core.List.{List, [], ◌∷◌, ◌++◌, map}
 use Prim.Native.Nat.{ℕ}
-use lib.ListN.{set, take, replicate}
+use lib.ListN.{set, take}
 use Rattle.base.specs.Sizes.{no_channel}
 use Rattle.base.specs.Over.{over}
 use Rattle.base.specs.All.{all}
-use Rattle.types.specs.declared.Network.{Network}
 use Rattle.types.specs.declared.Run.{Run}
 use Rattle.model.specs.Runs.{stored_refusal, body_refusal}
 use Rattle.model.proofs.Made.{net_in, run_on}

@@ -114,8 +114,11 @@ Stands st = (is_state (words_of st) ≡ true) × (state_of (words_of st) ≡ st)
 words_of_lem : (st : State) → Shaped st → Bytes st → Stands st
 words_of_lem st sh b =
     let back = unpacked st sh b in
-    let size = length_words st in
-    (and (eqb (length (words_of st)) word_count) (canonical (words_of st)) (eq-eqb _ word_count size) (canonical_by (words_of st) size (ap words_of back)), back)
+    let size = length_words st in (
+      and (eqb (length (words_of st)) word_count) (canonical (words_of st)) (eq-eqb _ word_count size)
+          (canonical_by (words_of st) size (ap words_of back)),
+      back,
+    )
 
 -- an event of a network that is refused leaves the state
 refused_kept : (n : Network) (st : State) (e : Event) → eqb (network_refusal n) 0 ≡ false → after n st e ≡ st

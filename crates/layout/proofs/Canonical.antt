@@ -87,7 +87,8 @@ canonical_by_places c h e =
     (all_by (λ s. all (place_same c s) site_places) sites_most (λ s hs. all_by (place_same c s) site_places (λ k hk. h s k hs hk))) e
 
 -- a packed word of canonical words is the word packed again
-pub repacked_same : (c : List ℕ) (s k : ℕ) → canonical c ≡ true → s < sites_most → k < site_places → fields_at c s k ≡ repacked k (set_at c s k) (fields_at c s k)
+pub repacked_same : (c : List ℕ) (s k : ℕ) → canonical c ≡ true → s < sites_most → k < site_places
+    → fields_at c s k ≡ repacked k (set_at c s k) (fields_at c s k)
 repacked_same c s k ok hs hk = eqb-true _ _ (sym (place_again c s k hk) ∙ canonical_at c s k ok hs hk)
 
 -- ---- one place written: it is good if the words were, the others are as they were

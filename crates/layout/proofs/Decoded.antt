@@ -92,11 +92,13 @@ module _ (c : List ℕ) (s : ℕ) (hs : s < sites_most) where
   output_at_lem j h = ap (λ (x : Site). out_at x j) (site_at_lem c s hs) ∙ out_at_lem c s j h
 
   -- a place read of its two words, unpacked
-  pub input_loaded : (i X w : ℕ) (r : Input) → i < input_count → X ≡ set_at c s i → w ≡ fields_at c s i → r ≡ input_from X w → r ≡ in_at (site_at (sites_of c) s) i
+  pub input_loaded : (i X w : ℕ) (r : Input) → i < input_count → X ≡ set_at c s i → w ≡ fields_at c s i
+      → r ≡ input_from X w → r ≡ in_at (site_at (sites_of c) s) i
   unfolding input_at
   input_loaded i X w r h a b e = e ∙ ap₂ input_from a b ∙ sym (input_at_lem i h)
 
-  pub output_loaded : (j X w : ℕ) (r : Output) → j < output_count → X ≡ set_at c s (outputs_from + j) → w ≡ fields_at c s (outputs_from + j) → r ≡ output_from X w
+  pub output_loaded : (j X w : ℕ) (r : Output) → j < output_count → X ≡ set_at c s (outputs_from + j)
+      → w ≡ fields_at c s (outputs_from + j) → r ≡ output_from X w
       → r ≡ out_at (site_at (sites_of c) s) j
   unfolding output_at
   output_loaded j X w r h a b e = e ∙ ap₂ output_from a b ∙ sym (output_at_lem j h)

@@ -111,7 +111,8 @@ module _ (c : List ℕ) (s : ℕ) (hs : s < sites_most) where
   pub state_peeked : (i w : ℕ) → i < input_count → w ≡ fields_at c s i → w % 8 ≡ state_number (in_at (site_at (sites_of c) s) i).phase
   unfolding input_at input_from
   state_peeked i w h e =
-      ap (λ (m : ℕ). m % 8) e ∙ sym (ap (λ (y : Input). state_number y.phase) (input_at_lem c s hs i h) ∙ state_number_lem (fields_at c s i % 8) _ _ (omega arith))
+      ap (λ (m : ℕ). m % 8) e
+      ∙ sym (ap (λ (y : Input). state_number y.phase) (input_at_lem c s hs i h) ∙ state_number_lem (fields_at c s i % 8) _ _ (omega arith))
 
   module _ (j w : ℕ) (h : j < output_count) (e : w ≡ fields_at c s (outputs_from + j)) where
     pub used_peeked : eqb (w % 2) 1 ≡ (out_at (site_at (sites_of c) s) j).used

@@ -78,7 +78,8 @@ packed c hl ok = ext_get_or 0 (words_of (state_of c)) c (length_words (state_of 
     each =
         by_word (λ m. get_or (words_of (state_of c)) m 0 ≡ get_or c m 0)
         (λ s k hs hk. set_word (state_of c) s k hs hk ∙ ap (λ (x : Site). set_of x k) (site_at_lem c s hs) ∙ set_again c s k hk)
-        (λ s k hs hk. fields_word (state_of c) s k hs hk ∙ ap (λ (x : Site). fields_of x k) (site_at_lem c s hs) ∙ sym (eqb-true _ _ (canonical_at c s k ok hs hk)))
+        (λ s k hs hk. fields_word (state_of c) s k hs hk
+        ∙ ap (λ (x : Site). fields_of x k) (site_at_lem c s hs) ∙ sym (eqb-true _ _ (canonical_at c s k ok hs hk)))
         (let l = ltb-true (get_or c counter_at 0) 256 (canonical_counter c ok) in
         let e : get_or c counter_at 0 % 256 ≡ get_or c counter_at 0 = omega arith in counter_word (state_of c) ∙ e)
 

@@ -16,7 +16,7 @@ use Rattle.types.specs.declared.Site.{Site}
 use Rattle.model.specs.Types.{site_at, set_site, set_in, set_out}
 use Rattle.layout.specs.Layout.{outputs_from, leaving_from, counts_from, site_places, arrived_place, count_place, counter_at, word_count, set_index}
 use Rattle.layout.specs.Packed.{input_from, input_word, output_from, output_word, out_entry_from, out_entry_word, in_entry_from, in_entry_word}
-use Rattle.layout.specs.Words.{repacked, set_at, fields_at, site_of, sites_of, canonical}
+use Rattle.layout.specs.Words.{repacked, fields_at, site_of, sites_of, canonical}
 use Rattle.layout.specs.Stored.{placed, Stored, Counted, leaving_set, leaving_count, arrived_set, arrived_count}
 use Rattle.layout.proofs.Packing.{input_back_lem, output_back, out_entry_back, in_entry_back}
 use Rattle.layout.proofs.Decoded.{site_at_lem}

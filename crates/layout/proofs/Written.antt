@@ -248,5 +248,6 @@ module _ (c d : List ℕ) (s X w : ℕ) where
       site_queue q k _ (omega arith) (λ e. omega arith) g p
       (λ r l ne. queue_kept c d s k X w p s r l (λ i f e z. omega arith) (λ e z. ne (omega arith)))
       (same_queue _ _ _ _
-      (rows_same queue_room _ _ (λ m l. arrived_same c d s q m (p.others s (arrived_place q m) (omega arith) (λ e z. omega arith))) ∙ sym (arrived_of_lem c s q g))
+      (rows_same queue_room _ _ (λ m l. arrived_same c d s q m (p.others s (arrived_place q m) (omega arith) (λ e z. omega arith)))
+      ∙ sym (arrived_of_lem c s q g))
       p.its_set)

@@ -8,7 +8,6 @@ use native.Mathlib.Decide.{ℕ_discrete}
 use native.Mathlib.Omega.{arith}
 use borrow.Author.Tests.{eqb-true, eqb-false, eq-eqb, ne_eqb, lt-ltb}
 use lib.Dec.{eqb}
-use lib.ListN.{set}
 use lib.Seq.{get_or-set_other}
 use Rattle.base.specs.Sizes.{input_count, output_count, split_port, set_bits}
 use Rattle.base.specs.Bools.{cond_ok, either_way, clash, neither}

@@ -4,7 +4,7 @@
 use Prim.Native.Nat.{ℕ, zero, suc}
 use mathlib.Core.Path.{◌≡◌, refl}
 use mathlib.Core.Bool.{Bool, true, false, not}
-use mathlib.Core.List.{List, [], ◌∷◌, ◌++◌, map}
+use mathlib.Core.List.{List, [], ◌∷◌, map}
 use lib.Count.{count_trailing_zeros}
 use lib.Dec.{eqb}
 use lib.ListN.{replicate}
@@ -16,7 +16,7 @@ use Rattle.base.specs.Sums.{sum}
 use Rattle.sets.specs.Sets.{has, plus, minus, size_in, lowest}
 use Rattle.draws.specs.Draws.{drawn_site, drawn_code}
 use Rattle.types.specs.Numbers.{state_number, connection_number, connection_of}
-use Rattle.model.specs.Types.{Unicast, Passthru, AllRemote, SomeLocal, Handed, Branch, got_end, got_abort, t_none, t_end, t_abort, t_keep}
+use Rattle.model.specs.Types.{Passthru, AllRemote, SomeLocal, Handed, Branch, got_end, got_abort, t_none, t_end, t_abort, t_keep}
 use Rattle.model.specs.Types.{Phase, Free, Seek, Open, Wait, Done, Last, Aborted, FinAbort, Input, Output, InEntry, Site, Network}
 use Rattle.model.specs.Types.{no_marks, no_output, no_site, set_in, set_out, set_queue}
 use Rattle.model.specs.Network.{network_refusal}

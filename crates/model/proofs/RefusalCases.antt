@@ -4,7 +4,7 @@ use Prim.Native.Nat.{ℕ, zero, suc, ◌+◌, ◌-◌}
 use mathlib.Core.Path.{◌≡◌, refl}
 use mathlib.Core.Bool.{false}
 use mathlib.Core.List.{List, [], ◌∷◌, ◌++◌, map}
-use lib.ListN.{set, replicate}
+use lib.ListN.{replicate}
 use Rattle.base.specs.Sizes.{no_channel}
 use Rattle.base.specs.All.{all, any}
 use Rattle.model.specs.Types.{State, Network, no_site, no_state, out_at, out_head, with_out_queue, set_out, set_site, push_out}

@@ -2,7 +2,6 @@
 use Prim.Native.Nat.{ℕ}
 use mathlib.Core.Path.{◌≡◌, refl}
 use mathlib.Core.List.{[], ◌∷◌}
-use lib.ListN.{set}
 use lib.Count.{count_trailing_zeros}
 use Rattle.base.specs.All.{all, any}
 use Rattle.base.specs.Over.{over}

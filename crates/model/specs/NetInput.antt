@@ -1,6 +1,6 @@
 -- Document 01, "ready", the terminator table and the rules of a net-input.
 -- A rule looks at two kinds of places, and says that they stay or what becomes of them.
-use Rattle.std.specs.Prelude.{ℕ, zero, suc, ◌+◌, List, Bool, true, false, cond, not, ◌&&◌, ◌||◌, eqb, ltb, get_or, set}
+use Rattle.std.specs.Prelude.{ℕ, ◌+◌, List, Bool, true, false, cond, not, ◌&&◌, ◌||◌, eqb, ltb, get_or, set}
 use Rattle.base.specs.Sizes.{output_count}
 use Rattle.base.specs.Bools.{implies}
 use Rattle.base.specs.All.{all}

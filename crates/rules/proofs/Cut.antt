@@ -2,7 +2,6 @@
 use mathlib.Core.Path.{◌≡◌, refl, ap}
 use mathlib.Core.List.{List}
 use mathlib.Core.Bool.{Bool, true, false, cond, ◌&&◌}
-use Prim.Native.Nat.{ℕ}
 use lib.ListN.{replicate, get_or-replicate}
 use Rattle.base.specs.Sizes.{output_count}
 use Rattle.base.specs.Over.{over_same}
@@ -42,4 +41,5 @@ cut_by iq os y b e = rw (cut_at_lem y os y.phase, ← e) (nested (last_lacks iq 
 pub give_aborts : (bs : List Bool) (os : List Output) → give (given_at (replicate output_count t_abort)) bs os ≡ give (λ j. t_abort) bs os
 unfolding give
 give_aborts bs os =
-    over_same _ _ output_count os (λ j h. ap (λ k. cond (mark bs j) (out_term (out_of os j) k) (out_of os j)) (get_or-replicate output_count j t_abort t_none h))
+    over_same _ _ output_count os
+    (λ j h. ap (λ k. cond (mark bs j) (out_term (out_of os j) k) (out_of os j)) (get_or-replicate output_count j t_abort t_none h))

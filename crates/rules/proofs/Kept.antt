@@ -19,26 +19,26 @@ receive_kept r (Aborted c) o a = absurd (a c refl)
 receive_kept r (FinAbort c r') o a = refl
 
 -- all but open, wait, done and last
+pub record Unturned (ph : Phase) : Type 0 where
+  pub not_open : (c : Connection) → ph ≡ Open c → ⊥
+  pub not_wait : (c : Connection) → ph ≡ Wait c → ⊥
+  pub not_done : (c : Connection) (r : Received) → ph ≡ Done c r → ⊥
+  pub not_last : (c : Connection) (r : Received) → ph ≡ Last c r → ⊥
+
 module _ (f : Phase → Phase) (free : Free ≡ f Free) (seek : Seek ≡ f Seek)
     (abort : (c : Connection) → Aborted c ≡ f (Aborted c)) (fin : (c : Connection) (r : Received) → FinAbort c r ≡ f (FinAbort c r)) where
-  kept : (ph : Phase) → ((c : Connection) → ph ≡ Open c → ⊥) → ((c : Connection) → ph ≡ Wait c → ⊥)
-      → ((c : Connection) (r : Received) → ph ≡ Done c r → ⊥) → ((c : Connection) (r : Received) → ph ≡ Last c r → ⊥)
-      → ph ≡ f ph
-  kept Free o w d l = free
-  kept Seek o w d l = seek
-  kept (Open c) o w d l = absurd (o c refl)
-  kept (Wait c) o w d l = absurd (w c refl)
-  kept (Done c r) o w d l = absurd (d c r refl)
-  kept (Last c r) o w d l = absurd (l c r refl)
-  kept (Aborted c) o w d l = abort c
-  kept (FinAbort c r) o w d l = fin c r
+  kept : (ph : Phase) → Unturned ph → ph ≡ f ph
+  kept Free u = free
+  kept Seek u = seek
+  kept (Open c) u = absurd (u.not_open c refl)
+  kept (Wait c) u = absurd (u.not_wait c refl)
+  kept (Done c r) u = absurd (u.not_done c r refl)
+  kept (Last c r) u = absurd (u.not_last c r refl)
+  kept (Aborted c) u = abort c
+  kept (FinAbort c r) u = fin c r
 
-pub turned_kept : (ph : Phase) → ((c : Connection) → ph ≡ Open c → ⊥) → ((c : Connection) → ph ≡ Wait c → ⊥)
-    → ((c : Connection) (r : Received) → ph ≡ Done c r → ⊥) → ((c : Connection) (r : Received) → ph ≡ Last c r → ⊥)
-    → ph ≡ turned ph
+pub turned_kept : (ph : Phase) → Unturned ph → ph ≡ turned ph
 turned_kept = kept turned refl refl (λ c. refl) (λ c r. refl)
 
-pub cut_kept : (ph : Phase) → ((c : Connection) → ph ≡ Open c → ⊥) → ((c : Connection) → ph ≡ Wait c → ⊥)
-    → ((c : Connection) (r : Received) → ph ≡ Done c r → ⊥) → ((c : Connection) (r : Received) → ph ≡ Last c r → ⊥)
-    → ph ≡ cut_phase ph
+pub cut_kept : (ph : Phase) → Unturned ph → ph ≡ cut_phase ph
 cut_kept = kept cut_phase refl refl (λ c. refl) (λ c r. refl)

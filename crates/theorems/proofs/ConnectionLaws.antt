@@ -5,7 +5,7 @@ use mathlib.Core.Path.{◌≡◌, refl, sym, ap, ◌∙◌, subst}
 use mathlib.Core.List.{List, []}
 use mathlib.Core.Bool.{Bool, true, false, cond}
 use native.Mathlib.Omega.{arith}
-use lib.ListN.{set, length, length-set}
+use lib.ListN.{length, length-set}
 use Rattle.base.specs.Sizes.{input_count, output_count}
 use Rattle.base.specs.Bools.{clash}
 use Rattle.base.specs.Lists.{all_but, rel_set}

@@ -6,7 +6,7 @@ use mathlib.Core.List.{List}
 use mathlib.Core.Bool.{false}
 use native.Mathlib.Omega.{arith}
 use borrow.Author.Tests.{le-leb}
-use lib.ListN.{get_or, set, length}
+use lib.ListN.{get_or, length}
 use lib.Seq.{get_or-set_same}
 use Rattle.base.specs.Sizes.{port_count, queue_room}
 use Rattle.base.specs.Bools.{clash}

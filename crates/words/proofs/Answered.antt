@@ -80,7 +80,8 @@ module _ (n : Network) (c : List ℕ) where
     run_shared k e ne = go (is_state c) refl
       where
         go : (b : Bool) → is_state c ≡ b
-            → record { answer = RunRefused k; blocking = 0; words = c } ≡ cond b (of_ran (ran n st s code)) (record { answer = RunRefused (form_refusal n); blocking = 0; words = c })
+            → record { answer = RunRefused k; blocking = 0; words = c } ≡ cond b (of_ran (ran n st s code))
+            (record { answer = RunRefused (form_refusal n); blocking = 0; words = c })
         go true h = of_refused k h (shared_state _ k h e ne) ne
         go false h = ap (λ (f : ℕ). record { answer = RunRefused f; blocking = 0; words = c }) (shared_other k h e)
 

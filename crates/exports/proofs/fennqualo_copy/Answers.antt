@@ -19,9 +19,9 @@ returns-then-out-bytes c =
 
 pub returns : goal.returns
 returns c =
-    let put-bytes = c.put_bytes in
+    let put_bytes = c.put_bytes in
     let if2 = c.if-out-bytes in
     let if1 = c.if-refusal-ne0 in
     let check = c.check-refusal in
     let args = c.args in
-    copy_done args.bytes.now args.out.now _ check.ensures if1.false _ if2.false put-bytes.ensures
+    copy_done args.bytes.now args.out.now _ check.ensures if1.false _ if2.false put_bytes.ensures

@@ -6,7 +6,6 @@ use lib.ListN.{length, length-set}
 use Rattle.base.specs.Over.{over, over_none, over_step}
 use Rattle.format.specs.Format.{at}
 use Rattle.exports.proofs.CopyWays.{all_put}
-use native.Mathlib.Omega.{arith}
 use Rattle.exports.proofs.put_bytes.Goals as goal
 
 pub loop-i-init : goal.loop-i-init

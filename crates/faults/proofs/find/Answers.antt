@@ -1,14 +1,10 @@
 -- `find` meets its contract, one law of Judged for each way. Assumes nothing.
 use mathlib.Core.Path.{◌≡◌, refl, sym, ap, ◌∙◌}
 use mathlib.Core.List.{List}
-use Prim.Native.Nat.{ℕ, ◌*◌, ◌+◌, ◌≤◌}
-use mathlib.Core.Bool.{true}
+use Prim.Native.Nat.{ℕ, ◌+◌}
 use native.Mathlib.Omega.{arith}
-use Rattle.model.specs.Network.{channels_ok, routes_ok}
-use Rattle.format.specs.Format.{at, sites_place, version_of, count_of, network_of}
-use Rattle.format.specs.First.{first}
+use Rattle.format.specs.Format.{at, sites_place, version_of, count_of}
 use Rattle.format.specs.Refusals.{head_then}
-use Rattle.format.specs.Faults.{numbered_ok}
 use Rattle.faults.specs.Head.{Head, Read}
 use Rattle.faults.proofs.HeadLaws.{head_passes}
 use Rattle.faults.proofs.Versions.{edition_small}

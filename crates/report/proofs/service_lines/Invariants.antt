@@ -7,7 +7,9 @@ use Rattle.report.specs.Put.{Put}
 use Rattle.report.proofs.service_lines.Given as goal
 
 abbrev pub invariant-loop-k : goal.invariant-loop-k
-invariant-loop-k l = (length l.text ≡ length l.initial.text) × (l.k ≤ l.n) × (l.at ≤ service_most * l.k) × Put l.initial.text 0 (service_lines l.book l.k) l.at l.text
+invariant-loop-k l =
+    (length l.text ≡ length l.initial.text) × (l.k ≤ l.n) × (l.at ≤ service_most * l.k)
+    × Put l.initial.text 0 (service_lines l.book l.k) l.at l.text
 
 abbrev pub decreases-loop-k : goal.decreases-loop-k
 decreases-loop-k l = l.n - l.k

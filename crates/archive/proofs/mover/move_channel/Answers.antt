@@ -6,20 +6,20 @@ use Rattle.archive.proofs.mover.move_channel.Goals as goal
 
 pub put_channel-requires : goal.put_channel-requires
 put_channel-requires c =
-    let channel-place = c.channel_place-p in
-    let channel-of = c.channel_of-channel in
-    let channel-place2 = c.channel_place in
+    let channel_place = c.channel_place-p in
+    let channel_of = c.channel_of-channel in
+    let channel_place2 = c.channel_place in
     let pre = c.requires in
     let a = c.args in
-    let here = channel_here a.from a.b.now a.k _ _ channel-place.ensures channel-of.ensures in
-    (omega (arith, channel-place2.ensures, pre.2), rw here pre.3)
+    let here = channel_here a.from a.b.now a.k _ _ channel_place.ensures channel_of.ensures in
+    (omega (arith, channel_place2.ensures, pre.2), rw here pre.3)
 
 pub returns : goal.returns
 returns c =
-    let channel-place = c.channel_place-p in
-    let channel-of = c.channel_of-channel in
-    let put-channel = c.put_channel in
-    let channel-place2 = c.channel_place in
+    let channel_place = c.channel_place-p in
+    let channel_of = c.channel_of-channel in
+    let put_channel = c.put_channel in
+    let channel_place2 = c.channel_place in
     let a = c.args in
-    let here = channel_here a.from a.b.now a.k _ _ channel-place.ensures channel-of.ensures in
-    put-channel.ensures ∙ rw (here, channel-place2.ensures) refl
+    let here = channel_here a.from a.b.now a.k _ _ channel_place.ensures channel_of.ensures in
+    put_channel.ensures ∙ rw (here, channel_place2.ensures) refl

@@ -1,6 +1,5 @@
 -- `mover::move_channels` meets its contract: a channel a turn. Assumes nothing.
 use mathlib.Core.Path.{◌≡◌, refl, ◌∙◌, subst}
-use Prim.Native.Nat.{◌-◌}
 use Rattle.format.specs.Format.{channel_width, head_length}
 use Rattle.archive.specs.Code.{Narrow}
 use Rattle.archive.proofs.Holds.{part_ends}
@@ -37,14 +36,14 @@ loop-k-smaller c = omega arith
 
 pub loop-k-preserved : goal.loop-k-preserved
 loop-k-preserved c =
-    let loop-test = c.loop-k-test in
-    let move-channel = c.move_channel in
+    let loop_test = c.loop-k-test in
+    let move_channel = c.move_channel in
     let a = c.args in
     let l = c.loop-k in
     let pre = c.requires in
     let turn =
-    channel_turn a.from a.to a.b.now a.n l.k loop-test.true pre.0 _ _ _ l.invariant.1 pre.2
-    l.invariant.2 move-channel.ensures in
+    channel_turn a.from a.to a.b.now a.n l.k loop_test.true pre.0 _ _ _ l.invariant.1 pre.2
+    l.invariant.2 move_channel.ensures in
     (omega arith, turn.0, turn.1)
 
 pub shape_of-out : goal.shape_of-out

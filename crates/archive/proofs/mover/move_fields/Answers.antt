@@ -9,11 +9,11 @@ returns c =
     let wide3 = c.wide-3 in
     let word = c.word in
     let quad_at = c.quad_at in
-    let put-fields = c.put_fields in
+    let put_fields = c.put_fields in
     let a = c.args in
     let sites = wide.ensures.0 in
     let depth = wide2.ensures.0 in
     let count = wide3.ensures.0 in
     let draws = word.ensures in
     let seed = quad_at.ensures in
-    fields_moved a.b.now _ _ a.p _ _ _ _ _ _ sites depth seed draws count put-fields.ensures
+    fields_moved a.b.now _ _ a.p _ _ _ _ _ _ sites depth seed draws count put_fields.ensures

@@ -5,13 +5,13 @@ use Rattle.archive.proofs.mover.move_head.Goals as goal
 
 pub move_fields-requires : goal.move_fields-requires
 move_fields-requires c =
-    let fields-place = c.fields_place in
-    let fields-place2 = c.fields_place-2 in
+    let fields_place = c.fields_place in
+    let fields_place2 = c.fields_place-2 in
     let a = c.args in
     let pre = c.requires in
-    let place = fields-place.ensures in
+    let place = fields_place.ensures in
     let own = fields_within a.b.now a.from _ pre.0.head pre.0.version place in
-    (own.1, omega (arith, fields-place2.ensures, pre.2))
+    (own.1, omega (arith, fields_place2.ensures, pre.2))
 
 pub returns : goal.returns
 returns c =

@@ -1,6 +1,5 @@
 -- `mover::move_routes` meets its contract: a route a turn. Assumes nothing.
 use mathlib.Core.Path.{◌≡◌, refl, ◌∙◌}
-use Prim.Native.Nat.{◌-◌}
 use Rattle.archive.proofs.Put.{routes_none}
 use Rattle.archive.proofs.MoveParts.{route_turn}
 use native.Mathlib.Omega.{arith}
@@ -32,14 +31,14 @@ loop-k-smaller c = omega arith
 
 pub loop-k-preserved : goal.loop-k-preserved
 loop-k-preserved c =
-    let loop-test = c.loop-k-test in
-    let move-route = c.move_route in
+    let loop_test = c.loop-k-test in
+    let move_route = c.move_route in
     let a = c.args in
     let l = c.loop-k in
     let pre = c.requires in
     let turn =
-    route_turn a.b.now a.n l.k loop-test.true a.p a.q pre.0 _ _ _ l.invariant.1 pre.2
-    l.invariant.2 move-route.ensures in
+    route_turn a.b.now a.n l.k loop_test.true a.p a.q pre.0 _ _ _ l.invariant.1 pre.2
+    l.invariant.2 move_route.ensures in
     (omega arith, turn.0, turn.1)
 
 pub shape_of-out : goal.shape_of-out

@@ -1,6 +1,5 @@
 -- `mover::move_sends` meets its contract: a send a turn. Assumes nothing.
 use mathlib.Core.Path.{◌≡◌, refl, ◌∙◌}
-use Prim.Native.Nat.{◌-◌}
 use Rattle.format.specs.Format.{sends_place, send_width}
 use Rattle.archive.proofs.Holds.{part_ends}
 use Rattle.archive.proofs.Put.{sends_none}
@@ -33,16 +32,16 @@ loop-k-smaller c = omega arith
 
 pub loop-k-preserved : goal.loop-k-preserved
 loop-k-preserved c =
-    let loop-test = c.loop-k-test in
-    let move-send = c.move_send in
+    let loop_test = c.loop-k-test in
+    let move_send = c.move_send in
     let a = c.args in
     let l = c.loop-k in
     let pre = c.requires in
     let p = sends_place a.from a.sites in
     let q = sends_place a.to a.sites in
     let turn =
-    send_turn_lem a.from a.to a.b.now a.n l.k loop-test.true p q pre.0 _ _ _ l.invariant.1 pre.2
-    l.invariant.2 move-send.ensures in
+    send_turn_lem a.from a.to a.b.now a.n l.k loop_test.true p q pre.0 _ _ _ l.invariant.1 pre.2
+    l.invariant.2 move_send.ensures in
     (omega arith, turn.0, turn.1)
 
 pub shape_of-out : goal.shape_of-out

@@ -4,7 +4,6 @@ use native.Mathlib.Omega.{arith}
 use Rattle.format.specs.declared.Fault.{Fault}
 use Rattle.faults.proofs.HeadLaws.{read_passes}
 use Rattle.archive.proofs.Answers.{fault_refusal, decode_no, decode_yes}
-use native.Mathlib.Omega.{arith}
 use Rattle.archive.proofs.reader.read.Goals as goal
 
 pub returns-then-refusal-gt5 : goal.returns-then-refusal-gt5

@@ -5,30 +5,30 @@ use Rattle.archive.proofs.reader.read_network.Goals as goal
 
 pub read_channels-channels-requires : goal.read_channels-channels-requires
 read_channels-channels-requires c =
-    let fields-place = c.fields_place-p in
+    let fields_place = c.fields_place-p in
     let pre = c.requires in
     let wide2 = c.wide-sites in
-    channels_within _ _ fields-place.ensures (pre) _ wide2.ensures.0
+    channels_within _ _ fields_place.ensures (pre) _ wide2.ensures.0
 
 pub overflow_mul-sites-2 : goal.overflow_mul-sites-2
 overflow_mul-sites-2 c =
-    let fields-place = c.fields_place-p in
+    let fields_place = c.fields_place-p in
     let wide2 = c.wide-sites in
     let pre = c.requires in
-    let routes-place = c.routes_place in
-    let fields = fields-place.ensures in
+    let routes_place = c.routes_place in
+    let fields = fields_place.ensures in
     let sites = wide2.ensures.0 in
-    omega (arith, (routes_within _ _ fields (pre) _ sites _ routes-place.ensures).0)
+    omega (arith, (routes_within _ _ fields (pre) _ sites _ routes_place.ensures).0)
 
 pub read_routes-routes-requires : goal.read_routes-routes-requires
 read_routes-routes-requires c =
-    let fields-place = c.fields_place-p in
+    let fields_place = c.fields_place-p in
     let wide2 = c.wide-sites in
     let pre = c.requires in
-    let routes-place = c.routes_place in
-    let fields = fields-place.ensures in
+    let routes_place = c.routes_place in
+    let fields = fields_place.ensures in
     let sites = wide2.ensures.0 in
-    routes_within _ _ fields (pre) _ sites _ routes-place.ensures
+    routes_within _ _ fields (pre) _ sites _ routes_place.ensures
 
 pub returns : goal.returns
 returns c =

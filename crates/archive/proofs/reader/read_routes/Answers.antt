@@ -1,6 +1,5 @@
 -- `reader::read_routes` meets its contract: the array is filled from the front. Assumes nothing.
 use mathlib.Core.Path.{◌≡◌, refl, sym, ◌∙◌}
-use Prim.Native.Nat.{◌-◌}
 use native.Mathlib.Omega.{arith}
 use Rattle.base.specs.Over.{over_none, over_step}
 use Rattle.archive.proofs.reader.read_routes.Goals as goal

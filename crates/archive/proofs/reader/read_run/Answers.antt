@@ -5,10 +5,10 @@ use Rattle.archive.proofs.reader.read_run.Goals as goal
 
 pub read_sends-sends-requires : goal.read_sends-sends-requires
 read_sends-sends-requires c =
-    let fields-place = c.fields_place-p in
+    let fields_place = c.fields_place-p in
     let pre = c.requires in
     let wide = c.wide-count in
-    let fields = fields-place.ensures in
+    let fields = fields_place.ensures in
     sends_within _ _ fields (pre) _ refl _ wide.ensures.0 wide.ensures.1
 
 pub returns : goal.returns

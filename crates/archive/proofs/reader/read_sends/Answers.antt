@@ -1,6 +1,5 @@
 -- `reader::read_sends` meets its contract: the array is filled from the front. Assumes nothing.
 use mathlib.Core.Path.{◌≡◌, refl, sym, ◌∙◌}
-use Prim.Native.Nat.{◌-◌}
 use native.Mathlib.Omega.{arith}
 use Rattle.base.specs.Over.{over_none, over_step}
 use Rattle.format.specs.Format.{send_width}
@@ -16,11 +15,11 @@ overflow_cast-k c = omega arith
 pub send_at-requires : goal.send_at-requires
 send_at-requires c =
     let a = c.args in
-    let send-place = c.send_place in
+    let send_place = c.send_place in
     let pre = c.requires in
     let loop = c.loop-k in
-    let loop-test = c.loop-k-test in
-    omega (arith, send-place.ensures, pre.1, part_ends (send_width a.version) loop.k a.n loop-test.true)
+    let loop_test = c.loop-k-test in
+    omega (arith, send_place.ensures, pre.1, part_ends (send_width a.version) loop.k a.n loop_test.true)
 
 pub offset_bounds-sends-k : goal.offset_bounds-sends-k
 offset_bounds-sends-k c = omega arith

@@ -28,6 +28,6 @@ returns c =
     let if1 = c.if-version-eq1 in
     let oct = c.oct in
     let quad_at = c.quad_at in
-    let quad-at2 = c.quad_at-2 in
+    let quad_at2 = c.quad_at-2 in
     rw (ne_eqb _ _ if1.false)
-    (oct.ensures ∙ ap₂ (λ (h l : ℕ). h * 4294967296 + l) quad_at.ensures quad-at2.ensures)
+    (oct.ensures ∙ ap₂ (λ (h l : ℕ). h * 4294967296 + l) quad_at.ensures quad_at2.ensures)

@@ -1,6 +1,5 @@
 -- `writer::put_channels` meets its contract: a channel a turn. Assumes nothing.
 use mathlib.Core.Path.{◌≡◌, refl, ap, ◌∙◌}
-use Prim.Native.Nat.{◌-◌}
 use native.Mathlib.Omega.{arith}
 use lib.ListN.{length, get_or}
 use Rattle.format.specs.Format.{channel_width, head_length}
@@ -42,20 +41,20 @@ pub loop-k-preserved : goal.loop-k-preserved
 loop-k-preserved c =
     let a = c.args in
     let l = c.loop-k in
-    let put-channel = c.put_channel in
-    let channel-place = c.channel_place in
+    let put_channel = c.put_channel in
+    let channel_place = c.channel_place in
     let pre = c.requires in
-    let loop-test = c.loop-k-test in
+    let loop_test = c.loop-k-test in
     let v = a.version in
-    let place = channel-place.ensures in
+    let place = channel_place.ensures in
     let room = pre.1 in
-    let ends = part_ends (channel_width v) l.k a.n loop-test.true in
+    let ends = part_ends (channel_width v) l.k a.n loop_test.true in
     let wide = length_channel v (get_or a.channels l.k 0) in (
       omega arith,
-      ap length put-channel.ensures
+      ap length put_channel.ensures
           ∙ length_put _ _ _ (omega (arith, ends, place, room, wide, l.invariant.1))
           ∙ l.invariant.1,
-      channels_turn v a.channels _ _ _ l.k _ l.invariant.2 put-channel.ensures place
+      channels_turn v a.channels _ _ _ l.k _ l.invariant.2 put_channel.ensures place
           (omega (arith, ends, place, room)),
     )
 

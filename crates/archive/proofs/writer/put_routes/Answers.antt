@@ -1,6 +1,5 @@
 -- `writer::put_routes` meets its contract: a route a turn. Assumes nothing.
 use mathlib.Core.Path.{◌≡◌, refl, ap, ◌∙◌}
-use Prim.Native.Nat.{◌-◌}
 use native.Mathlib.Omega.{arith}
 use lib.ListN.{length}
 use Rattle.archive.proofs.Put.{routes_none, routes_turn, length_put}

@@ -20,6 +20,6 @@ put_quad-requires-2 c = omega (arith, rw (ne_eqb _ _ c.if-version-eq1.false) at 
 pub returns : goal.returns
 returns c =
     let if1 = c.if-version-eq1 in
-    let put-quad2 = c.put_quad-2 in
-    let put-quad = c.put_quad in
-    rw (ne_eqb _ _ if1.false) (put-quad2.ensures ∙ put_append _ _ _ _ _ _ (omega arith) put-quad.ensures refl)
+    let put_quad2 = c.put_quad-2 in
+    let put_quad = c.put_quad in
+    rw (ne_eqb _ _ if1.false) (put_quad2.ensures ∙ put_append _ _ _ _ _ _ (omega arith) put_quad.ensures refl)

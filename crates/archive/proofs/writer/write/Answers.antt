@@ -1,8 +1,7 @@
 -- `writer::write` meets its contract, one law of Answers for each way: the sends are tested, then written. Assumes
 -- nothing.
 use mathlib.Core.Path.{◌≡◌, refl, sym, ap, ◌∙◌}
-use mathlib.Core.Bool.{true}
-use Prim.Native.Nat.{ℕ, ◌-◌}
+use Prim.Native.Nat.{ℕ}
 use native.Mathlib.Omega.{arith}
 use lib.ListN.{length}
 use Rattle.base.specs.All.{all_none, all_more}
@@ -22,10 +21,10 @@ returns-then-refusal-ne0 c =
     let args = c.args in
     let if1 = c.if-refusal-ne0 in
     let turned_down = c.turned_down in
-    let front-refusal = c.front_refusal-refusal in
+    let front_refusal = c.front_refusal-refusal in
     let r = args.run in
     let refused = if1.true in
-    rw turned_down.ensures (write_no r _ _ (front_refused r _ front-refusal.ensures refused) refused)
+    rw turned_down.ensures (write_no r _ _ (front_refused r _ front_refusal.ensures refused) refused)
 
 pub loop-k-init : goal.loop-k-init
 loop-k-init c = (omega arith, refl, all_none _)
@@ -33,23 +32,23 @@ loop-k-init c = (omega arith, refl, all_none _)
 pub offset_bounds-run-k : goal.offset_bounds-run-k
 offset_bounds-run-k c =
     let args = c.args in
-    let front-refusal = c.front_refusal-refusal in
+    let front_refusal = c.front_refusal-refusal in
     let if1 = c.if-refusal-ne0 in
-    omega (arith, few_sends args.run (sym front-refusal.ensures ∙ if1.false))
+    omega (arith, few_sends args.run (sym front_refusal.ensures ∙ if1.false))
 
 pub bounds-run-k : goal.bounds-run-k
 bounds-run-k c =
     let args = c.args in
-    let front-refusal = c.front_refusal-refusal in
+    let front_refusal = c.front_refusal-refusal in
     let if1 = c.if-refusal-ne0 in
-    omega (arith, few_sends args.run (sym front-refusal.ensures ∙ if1.false))
+    omega (arith, few_sends args.run (sym front_refusal.ensures ∙ if1.false))
 
 pub overflow_add-k : goal.overflow_add-k
 overflow_add-k c =
     let args = c.args in
-    let front-refusal = c.front_refusal-refusal in
+    let front_refusal = c.front_refusal-refusal in
     let if1 = c.if-refusal-ne0 in
-    omega (arith, few_sends args.run (sym front-refusal.ensures ∙ if1.false))
+    omega (arith, few_sends args.run (sym front_refusal.ensures ∙ if1.false))
 
 pub loop-k-smaller : goal.loop-k-smaller
 loop-k-smaller c = omega arith
@@ -68,69 +67,69 @@ returns-else-stored_ok c =
     let l = c.loop-k in
     let args = c.args in
     let stored_ok = c.stored_ok in
-    let front-refusal = c.front_refusal-refusal in
+    let front_refusal = c.front_refusal-refusal in
     let if1 = c.if-refusal-ne0 in
-    let loop-test = c.loop-k-test in
+    let loop_test = c.loop-k-test in
     let if2 = c.if-stored_ok in
-    let turned-down2 = c.turned_down-else-stored_ok in
+    let turned_down2 = c.turned_down-else-stored_ok in
     let r = args.run in
     let e =
     stored_ok.ensures
     ∙ ap (λ (d : ℕ). send_after r.network.sites r.draws d (send_at r l.k)) l.invariant.1 in
     let failed =
-    sends_failed r _ front-refusal.ensures if1.false l.k loop-test.true (sym e ∙ if2.false) in
-    rw turned-down2.ensures (write_no r _ 8 failed (λ q. omega arith))
+    sends_failed r _ front_refusal.ensures if1.false l.k loop_test.true (sym e ∙ if2.false) in
+    rw turned_down2.ensures (write_no r _ 8 failed (λ q. omega arith))
 
 pub overflow_cast-sites : goal.overflow_cast-sites
 overflow_cast-sites c =
     let l = c.loop-k in
     let args = c.args in
-    let front-refusal = c.front_refusal-refusal in
+    let front_refusal = c.front_refusal-refusal in
     let if1 = c.if-refusal-ne0 in
-    let z = run_tested args.run _ front-refusal.ensures if1.false l.k (omega arith) l.invariant.2 in
+    let z = run_tested args.run _ front_refusal.ensures if1.false l.k (omega arith) l.invariant.2 in
     omega (arith, z.fit.few)
 
 pub overflow_cast-count : goal.overflow_cast-count
 overflow_cast-count c =
     let args = c.args in
-    let front-refusal = c.front_refusal-refusal in
+    let front_refusal = c.front_refusal-refusal in
     let if1 = c.if-refusal-ne0 in
-    omega (arith, few_sends args.run (sym front-refusal.ensures ∙ if1.false))
+    omega (arith, few_sends args.run (sym front_refusal.ensures ∙ if1.false))
 
 pub returns-then-out-size : goal.returns-then-out-size
 returns-then-out-size c =
     let l = c.loop-k in
     let args = c.args in
-    let front-refusal = c.front_refusal-refusal in
+    let front_refusal = c.front_refusal-refusal in
     let if1 = c.if-refusal-ne0 in
-    let turned-down3 = c.turned_down-then-out-size in
+    let turned_down3 = c.turned_down-then-out-size in
     let if3 = c.if-out-size in
     let type_size = c.size_of-size in
     let r = args.run in
-    let ok = sends_tested r _ front-refusal.ensures if1.false l.k (omega arith) l.invariant.2 in
-    rw turned-down3.ensures (write_short r _ ok (omega (arith, if3.true, type_size.ensures)))
+    let ok = sends_tested r _ front_refusal.ensures if1.false l.k (omega arith) l.invariant.2 in
+    rw turned_down3.ensures (write_short r _ ok (omega (arith, if3.true, type_size.ensures)))
 
 pub put_front-requires : goal.put_front-requires
 put_front-requires c =
     let l = c.loop-k in
     let args = c.args in
-    let front-refusal = c.front_refusal-refusal in
+    let front_refusal = c.front_refusal-refusal in
     let if1 = c.if-refusal-ne0 in
     let if3 = c.if-out-size in
     let type_size = c.size_of-size in
-    let z = run_tested args.run _ front-refusal.ensures if1.false l.k (omega arith) l.invariant.2 in
+    let z = run_tested args.run _ front_refusal.ensures if1.false l.k (omega arith) l.invariant.2 in
     (z.fit, omega (arith, if3.false, type_size.ensures))
 
 pub loop-m-init : goal.loop-m-init
 loop-m-init c =
     let l = c.loop-k in
     let args = c.args in
-    let front-refusal = c.front_refusal-refusal in
+    let front_refusal = c.front_refusal-refusal in
     let if1 = c.if-refusal-ne0 in
     let type_size = c.size_of-size in
     let if3 = c.if-out-size in
     let r = args.run in
-    let z = run_tested r _ front-refusal.ensures if1.false l.k (omega arith) l.invariant.2 in
+    let z = run_tested r _ front_refusal.ensures if1.false l.k (omega arith) l.invariant.2 in
     let size = type_size.ensures in (
       omega arith,
       refl,
@@ -156,11 +155,11 @@ pub put_send-requires : goal.put_send-requires
 put_send-requires c =
     let l = c.loop-m in
     let args = c.args in
-    let loop2-test = c.loop-m-test in
-    let send-place = c.send_place in
+    let loop2_test = c.loop-m-test in
+    let send_place = c.send_place in
     let r = args.run in
-    let ends = part_ends (send_width r.network.version) l.m r.count loop2-test.true in
-    omega (arith, ends, send-place.ensures, l.invariant.1, l.invariant.3)
+    let ends = part_ends (send_width r.network.version) l.m r.count loop2_test.true in
+    omega (arith, ends, send_place.ensures, l.invariant.1, l.invariant.3)
 
 pub overflow_add-m : goal.overflow_add-m
 overflow_add-m c = omega arith
@@ -171,20 +170,20 @@ loop-m-smaller c = omega arith
 pub loop-m-preserved : goal.loop-m-preserved
 loop-m-preserved c =
     let l = c.loop-m in
-    let put-send = c.put_send in
+    let put_send = c.put_send in
     let args = c.args in
-    let send-place = c.send_place in
-    let loop2-test = c.loop-m-test in
+    let send_place = c.send_place in
+    let loop2_test = c.loop-m-test in
     let r = args.run in
     let v = r.network.version in
-    let place = send-place.ensures in
-    let ends = part_ends (send_width v) l.m r.count loop2-test.true in
+    let place = send_place.ensures in
+    let ends = part_ends (send_width v) l.m r.count loop2_test.true in
     let wide = length_send v (send_at r l.m) in (
       omega arith,
-      ap length put-send.ensures
+      ap length put_send.ensures
           ∙ length_put _ _ _ (omega (arith, ends, place, wide, l.invariant.1, l.invariant.3))
           ∙ l.invariant.1,
-      sends_turn v r.sends _ _ _ _ l.m _ l.invariant.2 put-send.ensures place
+      sends_turn v r.sends _ _ _ _ l.m _ l.invariant.2 put_send.ensures place
           (omega (arith, ends, place, l.invariant.3)),
       l.invariant.3,
       l.invariant.4,
@@ -198,13 +197,13 @@ returns c =
     let args = c.args in
     let if3 = c.if-out-size in
     let type_size = c.size_of-size in
-    let front-refusal = c.front_refusal-refusal in
+    let front_refusal = c.front_refusal-refusal in
     let if1 = c.if-refusal-ne0 in
     let put_front = c.put_front in
     let r = args.run in
     let if3 = if3.false in
     let size = type_size.ensures in
-    let ok = sends_tested r _ front-refusal.ensures if1.false l.k (omega arith) l.invariant.2 in
+    let ok = sends_tested r _ front_refusal.ensures if1.false l.k (omega arith) l.invariant.2 in
     let e : l2.m ≡ r.count = omega arith in
     let sent = rw e at l2.invariant.2 in
     write_yes r _ _ _ ok (omega (arith, if3, size)) size

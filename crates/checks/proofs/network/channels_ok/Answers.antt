@@ -2,13 +2,11 @@
 -- channel before. Assumes nothing.
 use Rattle.base.specs.All.{all_none}
 use mathlib.Core.Path.{◌≡◌, refl, sym, ◌∙◌}
-use mathlib.Core.Bool.{true}
-use Prim.Native.Nat.{◌-◌, ◌*◌}
+use Prim.Native.Nat.{◌*◌}
 use lib.ListN.{length-set}
 use native.Mathlib.Omega.{arith}
 use borrow.Author.Tests.{ltb-false}
 use Rattle.checks.proofs.NetworkLaws.{fed_none, fed_skip, no_channel_lem, too_high, fed_twice, fed_once, fed_now, input_known}
-use native.Mathlib.Omega.{arith}
 use Rattle.checks.proofs.network.channels_ok.Goals as goal
 
 pub overflow_mul-end : goal.overflow_mul-end
@@ -48,31 +46,31 @@ pub bounds-fed-input : goal.bounds-fed-input
 bounds-fed-input c =
     let wider = c.wider-input in
     let if2 = c.if-is_input in
-    let is-input = c.is_input in
+    let is_input = c.is_input in
     let args = c.args in
-    omega (arith, input_known _ _ args.network.sites _ wider.ensures.0 is-input.ensures if2.true)
+    omega (arith, input_known _ _ args.network.sites _ wider.ensures.0 is_input.ensures if2.true)
 
 pub returns-then-fed-input : goal.returns-then-fed-input
 returns-then-fed-input c =
     let if3 = c.if-fed-input in
     let wider = c.wider-input in
     let if2 = c.if-is_input in
-    let is-input = c.is_input in
+    let is_input = c.is_input in
     let if1 = c.if-channel in
-    let loop-test = c.loop-c-test in
+    let loop_test = c.loop-c-test in
     let loop = c.loop-c in
     let args = c.args in
-    let l = input_known _ _ args.network.sites _ wider.ensures.0 is-input.ensures if2.true in
+    let l = input_known _ _ args.network.sites _ wider.ensures.0 is_input.ensures if2.true in
     fed_twice args.network.channels loop.fed _ loop.c wider.result wider.ensures.0 loop.invariant.4
-    loop.invariant.3 loop-test.true if1.false l loop.invariant.1 if3.true
+    loop.invariant.3 loop_test.true if1.false l loop.invariant.1 if3.true
 
 pub bounds-fed-input-then-is_input : goal.bounds-fed-input-then-is_input
 bounds-fed-input-then-is_input c =
     let wider = c.wider-input in
     let if2 = c.if-is_input in
-    let is-input = c.is_input in
+    let is_input = c.is_input in
     let args = c.args in
-    omega (arith, input_known _ _ args.network.sites _ wider.ensures.0 is-input.ensures if2.true)
+    omega (arith, input_known _ _ args.network.sites _ wider.ensures.0 is_input.ensures if2.true)
 
 pub overflow_add-c-then-is_input : goal.overflow_add-c-then-is_input
 overflow_add-c-then-is_input c = omega arith
@@ -85,32 +83,32 @@ loop-c-preserved c =
     let if3 = c.if-fed-input in
     let wider = c.wider-input in
     let if2 = c.if-is_input in
-    let is-input = c.is_input in
+    let is_input = c.is_input in
     let if1 = c.if-channel in
-    let loop-test = c.loop-c-test in
+    let loop_test = c.loop-c-test in
     let loop = c.loop-c in
     let args = c.args in
-    let l = input_known _ _ args.network.sites _ wider.ensures.0 is-input.ensures if2.true in (
+    let l = input_known _ _ args.network.sites _ wider.ensures.0 is_input.ensures if2.true in (
       omega arith,
       omega arith,
       fed_once args.network.channels loop.fed _ loop.c wider.result wider.ensures.0 loop.invariant.4
-          loop.invariant.3 loop-test.true if1.false l loop.invariant.1 if3.false
+          loop.invariant.3 loop_test.true if1.false l loop.invariant.1 if3.false
           loop.invariant.2,
       simp length-set loop.invariant.3,
       fed_now args.network.channels loop.fed _ loop.c wider.result wider.ensures.0 loop.invariant.4
-          loop.invariant.3 loop-test.true if1.false l loop.invariant.1,
+          loop.invariant.3 loop_test.true if1.false l loop.invariant.1,
     )
 
 pub returns-in-loop-c : goal.returns-in-loop-c
 returns-in-loop-c c =
     let if2 = c.if-is_input in
-    let is-input = c.is_input in
+    let is_input = c.is_input in
     let if1 = c.if-channel in
-    let loop-test = c.loop-c-test in
+    let loop_test = c.loop-c-test in
     let loop = c.loop-c in
     let args = c.args in
-    too_high args.network.channels loop.fed _ loop.c _ refl loop-test.true if1.false
-    (ltb-false _ _ (sym is-input.ensures ∙ if2.false))
+    too_high args.network.channels loop.fed _ loop.c _ refl loop_test.true if1.false
+    (ltb-false _ _ (sym is_input.ensures ∙ if2.false))
 
 pub returns : goal.returns
 returns c =

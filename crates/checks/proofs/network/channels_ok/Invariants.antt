@@ -10,7 +10,9 @@ use Rattle.checks.proofs.NetworkLaws.{channel_in, Fed}
 use Rattle.checks.proofs.network.channels_ok.Given as goal
 
 abbrev pub invariant-loop-c : goal.invariant-loop-c
-invariant-loop-c l = (l.c ≤ l.end) × (l.end ≤ port_count * sites_most) × (all (channel_in l.channels l.end) l.c ≡ true) × (length l.fed ≡ port_count * sites_most) × Fed l.channels l.fed l.c
+invariant-loop-c l =
+    (l.c ≤ l.end) × (l.end ≤ port_count * sites_most) × (all (channel_in l.channels l.end) l.c ≡ true)
+    × (length l.fed ≡ port_count * sites_most) × Fed l.channels l.fed l.c
 
 abbrev pub decreases-loop-c : goal.decreases-loop-c
 decreases-loop-c l = l.end - l.c

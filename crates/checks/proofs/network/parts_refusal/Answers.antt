@@ -8,36 +8,36 @@ channels_ok-requires c = (sizes_few c.args.network (sym c.sizes_ok.ensures ∙ c
 
 pub routes_ok-requires : goal.routes_ok-requires
 routes_ok-requires c =
-    let sizes-ok = c.sizes_ok in
+    let sizes_ok = c.sizes_ok in
     let args = c.args in
-    (sizes_few args.network (sym sizes-ok.ensures ∙ c.if-sizes_ok.true)).0
+    (sizes_few args.network (sym sizes_ok.ensures ∙ c.if-sizes_ok.true)).0
 
 pub returns-then-routes_ok : goal.returns-then-routes_ok
 returns-then-routes_ok c =
-    let channels-ok = c.channels_ok in
+    let channels_ok = c.channels_ok in
     let if1 = c.if-sizes_ok in
-    let sizes-ok = c.sizes_ok in
+    let sizes_ok = c.sizes_ok in
     rw (
-      sym sizes-ok.ensures ∙ if1.true,
-      sym channels-ok.ensures ∙ c.if-channels_ok.true,
+      sym sizes_ok.ensures ∙ if1.true,
+      sym channels_ok.ensures ∙ c.if-channels_ok.true,
       sym c.routes_ok.ensures ∙ c.if-routes_ok.true,
     ) refl
 
 pub returns-then-channels_ok : goal.returns-then-channels_ok
 returns-then-channels_ok c =
-    let channels-ok = c.channels_ok in
+    let channels_ok = c.channels_ok in
     let if1 = c.if-sizes_ok in
-    let sizes-ok = c.sizes_ok in
+    let sizes_ok = c.sizes_ok in
     rw (
-      sym sizes-ok.ensures ∙ if1.true,
-      sym channels-ok.ensures ∙ c.if-channels_ok.true,
+      sym sizes_ok.ensures ∙ if1.true,
+      sym channels_ok.ensures ∙ c.if-channels_ok.true,
       sym c.routes_ok.ensures ∙ c.if-routes_ok.false,
     ) refl
 
 pub returns-then-sizes_ok : goal.returns-then-sizes_ok
 returns-then-sizes_ok c =
-    let sizes-ok = c.sizes_ok in
-    rw (sym sizes-ok.ensures ∙ c.if-sizes_ok.true, sym c.channels_ok.ensures ∙ c.if-channels_ok.false)
+    let sizes_ok = c.sizes_ok in
+    rw (sym sizes_ok.ensures ∙ c.if-sizes_ok.true, sym c.channels_ok.ensures ∙ c.if-channels_ok.false)
     refl
 
 pub returns : goal.returns

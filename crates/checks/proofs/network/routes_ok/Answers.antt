@@ -1,7 +1,5 @@
 -- `network::routes_ok` meets its contract: every row is tested, up to the first that fails. Assumes nothing.
 use mathlib.Core.Path.{◌≡◌, sym, ◌∙◌}
-use mathlib.Core.Bool.{true}
-use Prim.Native.Nat.{◌-◌}
 use native.Mathlib.Omega.{arith}
 use Rattle.base.specs.All.{all_none, all_more, all_fails}
 use Rattle.checks.proofs.network.routes_ok.Goals as goal

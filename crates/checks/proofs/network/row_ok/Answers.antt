@@ -1,7 +1,5 @@
 -- `network::row_ok` meets its contract: every route of the row is tested, up to the first that fails. Assumes nothing.
 use mathlib.Core.Path.{◌≡◌, sym, ◌∙◌}
-use mathlib.Core.Bool.{true}
-use Prim.Native.Nat.{◌-◌}
 use native.Mathlib.Omega.{arith}
 use Rattle.base.specs.Sizes.{sites_most}
 use Rattle.base.specs.All.{all_none, all_more, all_fails}
@@ -62,13 +60,13 @@ loop-t-preserved c = (omega arith, all_more _ _ c.loop-t.invariant.1 (sym c.rout
 
 pub returns-else-route_ok : goal.returns-else-route_ok
 returns-else-route_ok c =
-    let the-loop = c.loop-t in
-    let the-ports-of = c.ports_of-ports in
-    let the-args = c.args in
-    let loop = the-loop in
-    let ports-of = the-ports-of in
-    let args = the-args in
-    sym (sym (row_by args.network args.s _ _ ports-of.ensures)
+    let the_loop = c.loop-t in
+    let the_ports_of = c.ports_of-ports in
+    let the_args = c.args in
+    let loop = the_loop in
+    let ports_of = the_ports_of in
+    let args = the_args in
+    sym (sym (row_by args.network args.s _ _ ports_of.ensures)
     ∙ all_fails _ loop.t _ c.loop-t-test.true
     (sym c.route_ok.ensures ∙ c.if-route_ok.false))
 

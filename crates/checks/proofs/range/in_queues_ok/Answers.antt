@@ -1,5 +1,5 @@
 use mathlib.Core.Path.{ap, sym, ◌∙◌}
-use Prim.Native.Nat.{ℕ, ◌-◌}
+use Prim.Native.Nat.{ℕ}
 use native.Mathlib.Omega.{arith}
 use borrow.Author.Rules.{rules}
 use lib.ListN.{get_or}
@@ -7,8 +7,6 @@ use Rattle.base.specs.Sizes.{in_queue_count}
 use Rattle.base.specs.All.{all_none, all_next, all_end}
 use Rattle.model.specs.Types.{in_queue_d}
 use Rattle.model.specs.Range.{in_queue_ok}
-use native.Mathlib.Omega.{arith}
-use borrow.Author.Rules.{rules}
 use Rattle.checks.proofs.range.in_queues_ok.Goals as goal
 
 pub loop-m-init : goal.loop-m-init

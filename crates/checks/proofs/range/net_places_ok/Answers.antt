@@ -1,11 +1,7 @@
-use Prim.Native.Nat.{◌-◌}
 use native.Mathlib.Omega.{arith}
 use borrow.Author.Rules.{rules}
 use Rattle.base.specs.Sizes.{input_count}
-use Rattle.model.specs.Range.{input_ok, output_ok}
 use Rattle.checks.proofs.RangeLaws.{all_none_two, all_next_two, all_end_two}
-use native.Mathlib.Omega.{arith}
-use borrow.Author.Rules.{rules}
 use Rattle.checks.proofs.range.net_places_ok.Goals as goal
 
 pub loop-i-init : goal.loop-i-init

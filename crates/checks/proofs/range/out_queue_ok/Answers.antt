@@ -1,11 +1,8 @@
 use mathlib.Core.Path.{refl, sym}
-use Prim.Native.Nat.{◌-◌}
 use native.Mathlib.Omega.{arith}
 use borrow.Author.Rules.{rules}
 use Rattle.base.specs.Sizes.{queue_room}
 use Rattle.base.specs.All.{all_none, all_next, all_end}
-use native.Mathlib.Omega.{arith}
-use borrow.Author.Rules.{rules}
 use Rattle.checks.proofs.range.out_queue_ok.Goals as goal
 
 pub loop-m-init : goal.loop-m-init

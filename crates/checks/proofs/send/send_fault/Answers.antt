@@ -4,11 +4,11 @@ use Rattle.checks.proofs.send.send_fault.Goals as goal
 
 pub returns-then-entries-depth : goal.returns-then-entries-depth
 returns-then-entries-depth c =
-    let is-targets = c.is_targets in
+    let is_targets = c.is_targets in
     let if1 = c.if-site-sites in
     rw (
       lt-ltb _ _ if1.true,
-      ← is-targets.ensures,
+      ← is_targets.ensures,
       c.if-is_targets.true,
       lt-ltb _ _ c.if-counter-lt-PACKETS.true,
       lt-ltb _ _ c.if-entries-depth.true,
@@ -16,11 +16,11 @@ returns-then-entries-depth c =
 
 pub returns-then-counter-lt-PACKETS : goal.returns-then-counter-lt-PACKETS
 returns-then-counter-lt-PACKETS c =
-    let is-targets = c.is_targets in
+    let is_targets = c.is_targets in
     let if1 = c.if-site-sites in
     rw (
       lt-ltb _ _ if1.true,
-      ← is-targets.ensures,
+      ← is_targets.ensures,
       c.if-is_targets.true,
       lt-ltb _ _ c.if-counter-lt-PACKETS.true,
       le-ltb _ _ c.if-entries-depth.false,

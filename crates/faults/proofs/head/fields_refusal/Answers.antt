@@ -1,9 +1,7 @@
 -- `head::fields_refusal` meets its contract, one law of HeadLaws for each way. Assumes nothing.
-use mathlib.Core.Path.{◌≡◌, sym, ◌∙◌}
+use mathlib.Core.Path.{sym, ◌∙◌}
 use mathlib.Core.Bool.{true, false}
 use native.Mathlib.Omega.{arith}
-use Rattle.model.specs.Network.{sizes_ok}
-use Rattle.format.specs.Format.{network_of, run_of}
 use Rattle.faults.proofs.Versions.{edition_small}
 use Rattle.faults.proofs.HeadLaws.{seed_read, fields_sizes, fields_seed, fields_size}
 use Rattle.faults.proofs.head.fields_refusal.Goals as goal

@@ -1,10 +1,8 @@
 -- `search::first_channel` meets its contract: every channel is tested, up to the first that fails. Assumes nothing.
 use mathlib.Core.Path.{◌≡◌, sym, ◌∙◌}
-use mathlib.Core.Bool.{true}
-use Prim.Native.Nat.{◌-◌, ◌*◌}
+use Prim.Native.Nat.{◌*◌}
 use native.Mathlib.Omega.{arith}
 use Rattle.base.specs.All.{all_none, all_more}
-use Rattle.model.specs.Network.{channel_ok}
 use Rattle.format.specs.First.{left_at, left_none}
 use Rattle.faults.proofs.Held.{sized}
 use Rattle.faults.proofs.search.first_channel.Goals as goal

@@ -1,7 +1,5 @@
 -- `search::first_in_row` meets its contract: every route of the row is tested, up to the first that fails. Assumes
 -- nothing.
--- ---- the arguments: few sites, a row that begins within the room of all, routes that begin early enough
--- ---- the needs
 use mathlib.Core.Path.{◌≡◌}
 use mathlib.Core.Bool.{true}
 use Prim.Native.Nat.{◌-◌, ◌≤◌}

@@ -1,6 +1,5 @@
 -- `search::first_route` meets its contract: row by row is route by route. Assumes nothing.
-use mathlib.Core.Bool.{true}
-use Prim.Native.Nat.{◌*◌, ◌<◌, ◌-◌}
+use Prim.Native.Nat.{◌*◌, ◌<◌}
 use native.Mathlib.Omega.{arith}
 use Rattle.base.specs.Sizes.{sites_most}
 use Rattle.base.specs.All.{all_none, all_more}

@@ -1,16 +1,12 @@
 -- `search::first_send` meets its contract: every send is tested behind the last one's draw number, up to the first
 -- that fails. Assumes nothing.
 use mathlib.Core.Path.{◌≡◌, refl, sym, ap, ◌∙◌}
-use mathlib.Core.Bool.{true}
 use mathlib.Core.List.{List}
 use Prim.Native.Nat.{ℕ, ◌+◌, ◌*◌, ◌≤◌, ◌<◌}
 use native.Mathlib.Omega.{arith}
 use lib.ListN.{length}
 use Rattle.base.specs.All.{all_none, all_more}
-use Rattle.model.specs.Types.{send_at}
-use Rattle.model.specs.Runs.{send_ok}
-use Rattle.checks.specs.Sends.{draw_before}
-use Rattle.format.specs.Format.{word, send_width, sites_place, draws_place, sends_place, count_of, run_of}
+use Rattle.format.specs.Format.{word, send_width, sites_place, draws_place, sends_place, count_of}
 use Rattle.format.specs.First.{left_at, left_none}
 use Rattle.faults.specs.Head.{Read}
 use Rattle.faults.proofs.Versions.{edition_small, set_some}

@@ -1,8 +1,5 @@
 -- `search::first_send` meets its contract: every send is tested behind the last one's draw number, up to the first
 -- that fails. Assumes nothing.
--- ---- the stages: the arguments, the draws read, the place of send k known
--- ---- a send that was tested: what the test says of it, and the draw number that the next one is tested behind
--- ---- the needs
 use mathlib.Core.Path.{◌≡◌}
 use mathlib.Core.Bool.{true}
 use Prim.Native.Nat.{◌-◌, ◌≤◌}

@@ -1,6 +1,5 @@
 -- `tests::byte_is_first` meets its contract: the byte of every channel before is compared. Assumes nothing.
 use mathlib.Core.Path.{sym}
-use Prim.Native.Nat.{◌-◌}
 use native.Mathlib.Omega.{arith}
 use Rattle.base.specs.All.{all_none, all_next, all_end}
 use Rattle.faults.proofs.Fed.{byte_turn}

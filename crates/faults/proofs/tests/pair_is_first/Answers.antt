@@ -1,6 +1,5 @@
 -- `tests::pair_is_first` meets its contract: the two bytes of every channel before are compared. Assumes nothing.
 use mathlib.Core.Path.{sym}
-use Prim.Native.Nat.{◌-◌}
 use native.Mathlib.Omega.{arith}
 use Rattle.base.specs.All.{all_none, all_next, all_end}
 use Rattle.faults.proofs.Fed.{pair_turn}

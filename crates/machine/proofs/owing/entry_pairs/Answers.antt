@@ -1,7 +1,6 @@
 use mathlib.Core.Path.{refl}
 use native.Mathlib.Omega.{arith}
 use borrow.Author.Tests.{lt-ltb, le-ltb}
-use native.Mathlib.Omega.{arith}
 use Rattle.machine.proofs.owing.entry_pairs.Goals as goal
 
 pub returns-then-m-count : goal.returns-then-m-count

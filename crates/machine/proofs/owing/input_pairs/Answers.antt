@@ -4,7 +4,6 @@ use Rattle.model.specs.Types.{Terminator, input_d}
 use Rattle.model.specs.Owing.{pairs_as, pairs_input}
 use Rattle.machine.proofs.OwingSums.{none_yet, one_more, one_sum}
 use native.Mathlib.Omega.{arith}
-use Prim.Native.Nat.{◌-◌}
 use lib.ListN.{length, get_or}
 use borrow.Author.Rules.{rules}
 use Rattle.machine.proofs.owing.input_pairs.Goals as goal

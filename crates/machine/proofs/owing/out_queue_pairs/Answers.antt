@@ -4,7 +4,6 @@ use Rattle.model.specs.Types.{no_out_entry}
 use Rattle.model.specs.Owing.{pairs_out_entry}
 use Rattle.machine.proofs.OwingSums.{none_yet, one_more, one_queue}
 use native.Mathlib.Omega.{arith}
-use Prim.Native.Nat.{◌-◌}
 use lib.ListN.{length}
 use borrow.Author.Rules.{rules}
 use Rattle.machine.proofs.owing.out_queue_pairs.Goals as goal

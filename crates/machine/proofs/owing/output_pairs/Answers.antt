@@ -4,7 +4,6 @@ use Rattle.model.specs.Types.{no_output}
 use Rattle.model.specs.Owing.{pairs_output}
 use Rattle.machine.proofs.OwingSums.{none_yet, one_more, one_sum}
 use native.Mathlib.Omega.{arith}
-use Prim.Native.Nat.{◌-◌}
 use lib.ListN.{length}
 use borrow.Author.Rules.{rules}
 use Rattle.machine.proofs.owing.output_pairs.Goals as goal

@@ -3,7 +3,6 @@ use native.Mathlib.Omega.{arith}
 use Rattle.model.specs.Runs.{book_room}
 use Rattle.format.specs.Format.{version_of, count_place, count_of}
 use Rattle.machine.proofs.PlayerAnswers.{read_room, start_refused, start_short, start_done, start_playable}
-use native.Mathlib.Omega.{arith}
 use Rattle.machine.proofs.player.start.Goals as goal
 
 pub returns-then-refusal-ne0 : goal.returns-then-refusal-ne0

@@ -7,7 +7,6 @@ use Rattle.model.specs.Steps.{set_both}
 use Rattle.machine.specs.Step.{far_at, flags}
 use Rattle.machine.proofs.Lifts.{input_took}
 use Rattle.machine.proofs.Ready.{by_flags, flags_there}
-use native.Mathlib.Omega.{arith}
 use Rattle.machine.proofs.step.input_step.Goals as goal
 
 pub net_input-turn-requires : goal.net_input-turn-requires

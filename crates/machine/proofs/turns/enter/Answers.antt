@@ -2,7 +2,6 @@ use mathlib.Core.Path.{sym}
 use lib.ListN.{length-set}
 use native.Mathlib.Omega.{arith}
 use Rattle.machine.specs.Progress.{entered_at, no_room, room_left}
-use native.Mathlib.Omega.{arith}
 use Rattle.machine.proofs.turns.enter.Goals as goal
 
 pub returns-then-book-serviced : goal.returns-then-book-serviced

@@ -1,5 +1,5 @@
 use mathlib.Core.Path.{◌≡◌, refl, sym}
-use Prim.Native.Nat.{◌+◌, ◌-◌}
+use Prim.Native.Nat.{◌+◌}
 use native.Mathlib.Omega.{arith}
 use Rattle.machine.proofs.PlayerRoom.{sizes_none, sizes_next, sizes_most}
 use Rattle.machine.proofs.turns.room_of.Goals as goal

@@ -9,7 +9,10 @@ returns-then-byte-eq10 c = (c.add_bytes.ensures.0, rw (eq-eqb _ _ c.if-byte-eq10
 
 pub returns-then-byte-eq13 : goal.returns-then-byte-eq13
 unfolding shown_byte
-returns-then-byte-eq13 c = (c.add_bytes-then-byte-eq13.ensures.0, rw (ne_eqb _ _ c.if-byte-eq10.false, eq-eqb _ _ c.if-byte-eq13.true) c.add_bytes-then-byte-eq13.ensures.1)
+returns-then-byte-eq13 c = (
+  c.add_bytes-then-byte-eq13.ensures.0,
+  rw (ne_eqb _ _ c.if-byte-eq10.false, eq-eqb _ _ c.if-byte-eq13.true) c.add_bytes-then-byte-eq13.ensures.1,
+)
 
 pub returns-then-byte-eq9 : goal.returns-then-byte-eq9
 unfolding shown_byte

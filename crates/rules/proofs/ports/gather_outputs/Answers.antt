@@ -1,11 +1,9 @@
 use mathlib.Core.Path.{sym, ap, ◌∙◌}
-use Prim.Native.Nat.{◌-◌}
 use native.Mathlib.Omega.{arith}
 use borrow.Author.Tests.{lt-ltb}
 use Rattle.base.specs.Sizes.{set_bits}
 use Rattle.rules.specs.Router.{of_gathered}
 use Rattle.rules.proofs.Gather.{starts, done, pass_by, enter, no_port, next_port, port_in, with_port}
-use native.Mathlib.Omega.{arith}
 use Rattle.rules.proofs.ports.gather_outputs.Goals as goal
 
 pub targets-init : goal.targets-init

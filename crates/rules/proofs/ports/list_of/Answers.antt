@@ -1,7 +1,6 @@
 use native.Mathlib.Omega.{arith}
 use Rattle.base.specs.Sizes.{sites_most}
 use Rattle.base.specs.Flat.{place_below}
-use native.Mathlib.Omega.{arith}
 use Rattle.rules.proofs.ports.list_of.Goals as goal
 
 pub overflow_mul-s : goal.overflow_mul-s

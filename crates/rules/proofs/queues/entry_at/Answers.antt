@@ -1,7 +1,6 @@
 use mathlib.Core.Path.{◌≡◌, sym}
 use lib.ListN.{length, get_or-eq_default}
 use native.Mathlib.Omega.{arith}
-use native.Mathlib.Omega.{arith}
 use borrow.Author.Rules.{rules}
 use Rattle.rules.proofs.queues.entry_at.Goals as goal
 

@@ -3,7 +3,6 @@ use native.Mathlib.Omega.{arith}
 use borrow.Author.Tests.{eq-eqb, ne_eqb}
 use Rattle.rules.specs.Router.{of_choice, routes_only}
 use Rattle.rules.proofs.Search.{own_test, route_own, route_single, route_several, lowest_in, other_in}
-use native.Mathlib.Omega.{arith}
 use Rattle.rules.proofs.router.choose.Goals as goal
 
 pub returns-then-set-only : goal.returns-then-set-only

@@ -2,7 +2,6 @@ use mathlib.Core.Path.{refl}
 use native.Mathlib.Omega.{arith}
 use Rattle.model.specs.Router.{serves, unchosen}
 use Rattle.rules.proofs.Search.{found_at_most, is_port_lem}
-use native.Mathlib.Omega.{arith}
 use Rattle.rules.proofs.router.way_to.Goals as goal
 
 pub returns : goal.returns

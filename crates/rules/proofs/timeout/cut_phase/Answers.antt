@@ -15,5 +15,7 @@ pub returns-in-Last : goal.returns-in-Last
 returns-in-Last c = rw c.in-Last.is refl
 
 pub returns-in_default : goal.returns-in_default
-returns-in_default c = cut_kept
-    c.args.phase c.in_default.not-Open c.in_default.not-Wait c.in_default.not-Done c.in_default.not-Last
+returns-in_default c =
+    let d = c.in_default in
+    cut_kept c.args.phase
+    (record { not_open = d.not-Open; not_wait = d.not-Wait; not_done = d.not-Done; not_last = d.not-Last })

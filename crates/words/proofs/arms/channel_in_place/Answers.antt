@@ -6,28 +6,23 @@ use borrow.Author.Tests.{eq-eqb, ne_eqb}
 use borrow.Author.Rules.{rules}
 use Rattle.words.proofs.arms.channel_in_place.Goals as goal
 
--- src/arms.rt:60:9
 pub returns-then-is_at_rest : goal.returns-then-is_at_rest
 returns-then-is_at_rest c = pass_rests _ _ (search rules) _ _ _ (sym c.is_at_rest.ensures ∙ c.if-is_at_rest.true)
 
--- src/arms.rt:63:9
 pub returns-then-channel-eq-NO_CHANNEL : goal.returns-then-channel-eq-NO_CHANNEL
 returns-then-channel-eq-NO_CHANNEL c = pass_never _ _ (search rules) _ _ _ (ap not (eq-eqb _ _ c.if-channel-eq-NO_CHANNEL.true))
 
--- src/arms.rt:65:9
 pub channel_turn-turn-requires : goal.channel_turn-turn-requires
 channel_turn-turn-requires c =
     let pre = c.requires in
     (search rules, search rules, search rules, pre.3 (ap not (ne_eqb _ _ c.if-channel-eq-NO_CHANNEL.false)))
 
--- src/arms.rt:66:5
 pub put_channel-requires : goal.put_channel-requires
 put_channel-requires c =
     let if2 = c.if-channel-eq-NO_CHANNEL in
     let pre = c.requires in
     (search rules, search rules, search rules, pre.3 (ap not (ne_eqb _ _ if2.false)))
 
--- src/arms.rt:55:1
 pub returns : goal.returns
 returns c =
     let channel_turn = c.channel_turn-turn in

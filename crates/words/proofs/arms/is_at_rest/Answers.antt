@@ -1,5 +1,4 @@
 use Rattle.words.proofs.arms.is_at_rest.Goals as goal
 
--- src/arms.rt:33:1
 pub returns : goal.returns
 returns c = rw (c.is_stalled-stalled.ensures, c.is_used-used.ensures)

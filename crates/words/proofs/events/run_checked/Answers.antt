@@ -2,7 +2,6 @@ use Rattle.words.proofs.Publics.{runnable}
 use borrow.Author.Rules.{rules}
 use Rattle.words.proofs.events.run_checked.Goals as goal
 
--- src/events.rt:25:5
 pub run_in_place-requires : goal.run_in_place-requires
 run_in_place-requires c =
     let pre = c.requires in

@@ -1,6 +1,5 @@
 use mathlib.Core.Path.{sym, ap}
 use mathlib.Core.Bool.{Bool, ◌&&◌}
-use Prim.Native.Nat.{◌-◌}
 use lib.Dec.{ltb}
 use lib.ListN.{get_or}
 use native.Mathlib.Omega.{arith}
@@ -8,23 +7,18 @@ use Rattle.base.specs.Sizes.{sites_most}
 use Rattle.base.specs.All.{all_none, all_next, all_end}
 use Rattle.layout.specs.Layout.{counter_at}
 use Rattle.layout.specs.Words.{canonical}
-use native.Mathlib.Omega.{arith}
 use borrow.Author.Rules.{rules}
 use Rattle.words.proofs.form.is_canonical.Goals as goal
 
--- src/form.rt:78:5
 pub loop-s-init : goal.loop-s-init
 loop-s-init c = (omega arith, sym (all_none _))
 
--- src/form.rt:78:5
 pub loop-s-preserved : goal.loop-s-preserved
 loop-s-preserved c = (search rules, all_next _ c.loop-s.s _ _ c.loop-s.invariant.1 c.site_same-one.ensures)
 
--- src/form.rt:83:19
 pub bounds-words-4864 : goal.bounds-words-4864
 bounds-words-4864 c = omega (arith, c.requires)
 
--- src/form.rt:72:1
 pub returns : goal.returns
 unfolding canonical
 returns c =

@@ -1,13 +1,11 @@
 use Rattle.layout.proofs.Canonical.{zero_same, packed_same}
 use Rattle.words.proofs.form.place_same.Goals as goal
 
--- src/form.rt:53:9
 pub returns-then-w-eq0 : goal.returns-then-w-eq0
 returns-then-w-eq0 c =
     let a = c.args in
     zero_same a.words.now a.s _ _ c.requires.1 c.fields_at-w.ensures c.if-w-eq0.true
 
--- src/form.rt:47:1
 pub returns : goal.returns
 returns c =
     let fields_at = c.fields_at-w in

@@ -3,12 +3,10 @@ use borrow.Author.Tests.{lt-ltb, le-ltb}
 use Rattle.layout.specs.Words.{repacked}
 use Rattle.words.proofs.form.repacked.Goals as goal
 
--- src/form.rt:32:9
 pub returns-then-k-lt-OUTPUTS_FROM : goal.returns-then-k-lt-OUTPUTS_FROM
 unfolding repacked
 returns-then-k-lt-OUTPUTS_FROM c = rw (c.input_word.ensures.0, c.input_from.ensures, lt-ltb _ _ c.if-k-lt-OUTPUTS_FROM.true) refl
 
--- src/form.rt:35:9
 pub returns-then-k-lt-LEAVING_FROM : goal.returns-then-k-lt-LEAVING_FROM
 unfolding repacked
 returns-then-k-lt-LEAVING_FROM c =
@@ -20,7 +18,6 @@ returns-then-k-lt-LEAVING_FROM c =
           c.if-k-lt-LEAVING_FROM.true,
     ) refl
 
--- src/form.rt:38:9
 pub returns-then-k-lt-ARRIVED_FROM : goal.returns-then-k-lt-ARRIVED_FROM
 unfolding repacked
 returns-then-k-lt-ARRIVED_FROM c =
@@ -33,7 +30,6 @@ returns-then-k-lt-ARRIVED_FROM c =
       lt-ltb _ _ c.if-k-lt-ARRIVED_FROM.true,
     ) refl
 
--- src/form.rt:41:9
 pub returns-then-k-lt-COUNTS_FROM : goal.returns-then-k-lt-COUNTS_FROM
 unfolding repacked
 returns-then-k-lt-COUNTS_FROM c =
@@ -49,7 +45,6 @@ returns-then-k-lt-COUNTS_FROM c =
       lt-ltb _ _ c.if-k-lt-COUNTS_FROM.true,
     ) refl
 
--- src/form.rt:28:1
 pub returns : goal.returns
 unfolding repacked
 returns c =

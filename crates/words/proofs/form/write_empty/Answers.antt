@@ -3,11 +3,9 @@ use borrow.Author.Tests.{eq-eqb, ne_eqb}
 use Rattle.layout.specs.Words.{emptied}
 use Rattle.words.proofs.form.write_empty.Goals as goal
 
--- src/form.rt:102:9
 pub write_zeros-requires : goal.write_zeros-requires
 write_zeros-requires c = c.if-words-eq-WORDS.true
 
--- src/form.rt:103:9
 pub returns-then-words-eq-WORDS : goal.returns-then-words-eq-WORDS
 unfolding emptied
 returns-then-words-eq-WORDS c = (
@@ -16,7 +14,6 @@ returns-then-words-eq-WORDS c = (
       c.write_zeros.ensures,
 )
 
--- src/form.rt:98:1
 pub returns : goal.returns
 unfolding emptied
 returns c = (sym (ne_eqb _ _ c.if-words-eq-WORDS.false), rw (ne_eqb _ _ c.if-words-eq-WORDS.false) refl)

@@ -1,17 +1,13 @@
 use mathlib.Core.Path.{refl, sym, ◌∙◌}
-use Prim.Native.Nat.{◌-◌}
 use lib.ListN.{length-set}
 use native.Mathlib.Omega.{arith}
 use Rattle.base.specs.Over.{over_none, over_step}
 use Rattle.layout.proofs.Empty.{all_zeros}
-use native.Mathlib.Omega.{arith}
 use Rattle.words.proofs.form.write_zeros.Goals as goal
 
--- src/form.rt:113:5
 pub loop-m-init : goal.loop-m-init
 loop-m-init c = (omega arith, c.requires, sym (over_none _ _))
 
--- src/form.rt:113:5
 pub loop-m-preserved : goal.loop-m-preserved
 loop-m-preserved c = (
   omega arith,
@@ -20,10 +16,8 @@ loop-m-preserved c = (
       c.loop-m.invariant.2 refl (omega (arith, c.requires)),
 )
 
--- src/form.rt:108:1
 pub shape_of-words : goal.shape_of-words
 shape_of-words c = c.loop-m.invariant.1 ∙ sym c.requires
 
--- src/form.rt:108:1
 pub returns : goal.returns
 returns c = all_zeros _ _ c.loop-m.m c.requires (omega arith) c.loop-m.invariant.2

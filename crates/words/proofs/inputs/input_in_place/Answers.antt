@@ -3,14 +3,11 @@ use Rattle.words.proofs.InputArm.{quiet_none}
 use borrow.Author.Rules.{rules}
 use Rattle.words.proofs.inputs.input_in_place.Goals as goal
 
--- src/inputs.rt:213:9
 pub returns-then-number : goal.returns-then-number
 returns-then-number c = λ version D. quiet_none _ _ _ _ _ (search rules) c.state_of-number.ensures c.if-number.true
 
--- src/inputs.rt:216:9
 pub returns-then-number-eq1 : goal.returns-then-number-eq1
 returns-then-number-eq1 c = λ version D. c.seek_in_place.ensures version D _
 
--- src/inputs.rt:194:1
 pub returns : goal.returns
 returns c = λ version D. c.other_in_place.ensures _ refl

@@ -1,10 +1,8 @@
 use borrow.Author.Rules.{rules}
 use Rattle.words.proofs.inputs.is_ready.Goals as goal
 
--- src/inputs.rt:58:9
 pub is_heard-heard-requires : goal.is_heard-heard-requires
 is_heard-heard-requires c = (search rules, λ e. c.requires.4 _ (search rules) e)
 
--- src/inputs.rt:49:1
 pub returns : goal.returns
 returns c = rw (c.is_heard-heard.ensures, c.is_taken-taken.ensures)

@@ -1,7 +1,6 @@
 use Rattle.words.proofs.InputArm.{flags_done}
 use Rattle.words.proofs.inputs.other_in_place.Goals as goal
 
--- src/inputs.rt:162:1
 pub returns : goal.returns
 returns c =
     flags_done _ _ _ _ _ _ _ _ c.load_input-input.ensures c.readies-ready.ensures

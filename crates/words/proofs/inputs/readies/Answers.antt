@@ -1,6 +1,5 @@
 use Rattle.words.proofs.inputs.readies.Goals as goal
 
--- src/inputs.rt:77:1
 pub returns : goal.returns
 returns c =
     rw (

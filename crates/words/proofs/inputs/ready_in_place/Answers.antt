@@ -1,13 +1,11 @@
 use Rattle.words.proofs.InputArm.{waits_none, ready_done}
 use Rattle.words.proofs.inputs.ready_in_place.Goals as goal
 
--- src/inputs.rt:154:9
 pub returns-then-has_to_wait : goal.returns-then-has_to_wait
 returns-then-has_to_wait c =
     let pre = c.requires in
     waits_none _ _ _ _ _ _ pre.2 pre.3 c.has_to_wait.ensures c.if-has_to_wait.true
 
--- src/inputs.rt:138:1
 pub returns : goal.returns
 returns c =
     ready_done _ _ _ _ _ _ c.args.input _ _ c.requires.0 c.requires.3 c.requires.4 c.touched-marks.ensures

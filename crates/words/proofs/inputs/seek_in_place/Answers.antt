@@ -1,7 +1,6 @@
 use Rattle.words.proofs.InputArm.{sought_done}
 use Rattle.words.proofs.inputs.seek_in_place.Goals as goal
 
--- src/inputs.rt:199:1
 pub returns : goal.returns
 returns c =
     let pre = c.requires in

@@ -1,7 +1,6 @@
 use Rattle.words.proofs.InputArm.{sought_by}
 use Rattle.words.proofs.inputs.seeking.Goals as goal
 
--- src/inputs.rt:176:1
 pub returns : goal.returns
 returns c =
     let a = c.args in

@@ -4,10 +4,8 @@ use Rattle.layout.specs.Layout.{arrived_from, arrived_place}
 use Rattle.layout.specs.Words.{fields_at}
 use native.Mathlib.Omega.{arith}
 use Rattle.layout.proofs.Peeked.{lacks_peeked}
-use native.Mathlib.Omega.{arith}
 use Rattle.words.proofs.load.front_lacks.Goals as goal
 
--- src/load.rt:245:1
 pub returns : goal.returns
 returns c =
     let a = c.args in

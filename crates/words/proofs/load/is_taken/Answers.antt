@@ -1,6 +1,5 @@
 use Rattle.layout.proofs.Peeked.{taken_peeked}
 use Rattle.words.proofs.load.is_taken.Goals as goal
 
--- src/load.rt:190:1
 pub returns : goal.returns
 returns c = taken_peeked _ _ c.requires.0 _ _ c.requires.1 c.fields_at-w.ensures

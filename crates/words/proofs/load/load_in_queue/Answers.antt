@@ -2,14 +2,11 @@ use Rattle.layout.specs.Words.{arrived_at}
 use Rattle.layout.proofs.Rows.{eight_rows}
 use Rattle.layout.proofs.Decoded.{in_queue_loaded}
 use native.Mathlib.Omega.{arith}
-use native.Mathlib.Omega.{arith}
 use Rattle.words.proofs.load.load_in_queue.Goals as goal
 
--- src/load.rt:160:13
 pub load_in_entry-requires-8 : goal.load_in_entry-requires-8
 load_in_entry-requires-8 c = (c.requires.0, c.requires.1, omega arith, c.requires.2)
 
--- src/load.rt:147:1
 pub returns : goal.returns
 returns c =
     in_queue_loaded _ _ c.requires.0 c.args.q _ _ c.requires.1

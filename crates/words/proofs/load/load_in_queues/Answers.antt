@@ -4,7 +4,6 @@ use Rattle.layout.proofs.Rows.{two_rows}
 use Rattle.layout.proofs.Decoded.{in_queues_loaded}
 use Rattle.words.proofs.load.load_in_queues.Goals as goal
 
--- src/load.rt:166:1
 pub returns : goal.returns
 returns c =
     let a = c.args in

@@ -1,7 +1,6 @@
 use Rattle.layout.proofs.Decoded.{input_loaded}
 use Rattle.words.proofs.load.load_input.Goals as goal
 
--- src/load.rt:45:1
 pub returns : goal.returns
 returns c =
     input_loaded _ _ c.requires.0 _ _ _ _ c.requires.1

@@ -4,14 +4,13 @@ use Rattle.layout.proofs.Rows.{five_rows}
 use Rattle.layout.proofs.Decoded.{inputs_loaded}
 use Rattle.words.proofs.load.load_inputs.Goals as goal
 
--- src/load.rt:76:1
 pub returns : goal.returns
 returns c =
-    let load-input2 = c.load_input-2 in
-    let load-input = c.load_input in
+    let load_input2 = c.load_input-2 in
+    let load_input = c.load_input in
     let args = c.args in
     let pre = c.requires in
     let a = args in
     inputs_loaded _ _ pre.0 _
-    (five_rows (in_at (site_at (sites_of a.words.now) a.s)) _ _ _ _ _ load-input.ensures load-input2.ensures
+    (five_rows (in_at (site_at (sites_of a.words.now) a.s)) _ _ _ _ _ load_input.ensures load_input2.ensures
     c.load_input-3.ensures c.load_input-4.ensures c.load_input-5.ensures)

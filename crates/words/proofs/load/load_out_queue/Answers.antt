@@ -3,7 +3,6 @@ use Rattle.layout.proofs.Rows.{eight_rows}
 use Rattle.layout.proofs.Decoded.{out_queue_loaded}
 use Rattle.words.proofs.load.load_out_queue.Goals as goal
 
--- src/load.rt:125:1
 pub returns : goal.returns
 returns c =
     out_queue_loaded _ _ c.requires.0 _ _

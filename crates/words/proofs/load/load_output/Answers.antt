@@ -1,7 +1,6 @@
 use Rattle.layout.proofs.Decoded.{output_loaded}
 use Rattle.words.proofs.load.load_output.Goals as goal
 
--- src/load.rt:53:1
 pub returns : goal.returns
 returns c =
     output_loaded _ _ c.requires.0 _ _ _ _ c.requires.1

@@ -4,7 +4,6 @@ use Rattle.layout.proofs.Rows.{six_rows}
 use Rattle.layout.proofs.Decoded.{outputs_loaded}
 use Rattle.words.proofs.load.load_outputs.Goals as goal
 
--- src/load.rt:65:1
 pub returns : goal.returns
 returns c =
     let a = c.args in

@@ -1,7 +1,6 @@
 use mathlib.Core.Path.{refl}
 use Rattle.words.proofs.load.load_site.Goals as goal
 
--- src/load.rt:173:1
 pub returns : goal.returns
 returns c =
     rw (

@@ -1,6 +1,5 @@
 use Rattle.layout.proofs.Decoded.{out_count_loaded}
 use Rattle.words.proofs.load.out_count.Goals as goal
 
--- src/load.rt:111:1
 pub returns : goal.returns
 returns c = out_count_loaded _ _ c.requires.0 _ c.set_at.ensures

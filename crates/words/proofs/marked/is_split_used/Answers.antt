@@ -1,10 +1,8 @@
 use mathlib.Core.Path.{sym, ◌∙◌}
 use Rattle.words.proofs.marked.is_split_used.Goals as goal
 
--- src/marked.rt:138:9
 pub returns-then-is_restricted : goal.returns-then-is_restricted
 returns-then-is_restricted c = rw (sym c.is_restricted.ensures ∙ c.if-is_restricted.true) c.is_used.ensures
 
--- src/marked.rt:133:1
 pub returns : goal.returns
 returns c = rw (sym c.is_restricted.ensures ∙ c.if-is_restricted.false)

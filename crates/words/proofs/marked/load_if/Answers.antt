@@ -1,5 +1,4 @@
 use Rattle.words.proofs.marked.load_if.Goals as goal
 
--- src/marked.rt:29:9
 pub returns-then-marked : goal.returns-then-marked
 returns-then-marked c = rw c.if-marked.true c.load_output.ensures

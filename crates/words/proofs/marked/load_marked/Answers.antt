@@ -5,7 +5,6 @@ use Rattle.words.specs.Marked.{masked}
 use Rattle.layout.proofs.Rows.{six_rows}
 use Rattle.words.proofs.marked.load_marked.Goals as goal
 
--- src/marked.rt:34:1
 pub returns : goal.returns
 unfolding masked
 returns c =

@@ -1,7 +1,6 @@
 use Rattle.words.specs.Marked.{seen}
 use Rattle.words.proofs.marked.load_seen.Goals as goal
 
--- src/marked.rt:144:1
 pub returns : goal.returns
 unfolding seen
 returns c =

@@ -1,19 +1,14 @@
 use mathlib.Core.Path.{sym, ◌∙◌}
-use Prim.Native.Nat.{◌-◌}
 use native.Mathlib.Omega.{arith}
 use Rattle.words.proofs.MarkedStores.{none_marked, one_marked, all_marked}
-use native.Mathlib.Omega.{arith}
 use Rattle.words.proofs.marked.store_marked.Goals as goal
 
--- src/marked.rt:77:5
 pub loop-j-init : goal.loop-j-init
 loop-j-init c = (omega arith, none_marked _ _ c.args.marks c.args.outputs c.requires.1)
 
--- src/marked.rt:80:9
 pub store_if-requires : goal.store_if-requires
 store_if-requires c = (c.requires.0, omega arith, c.loop-j.invariant.1.size)
 
--- src/marked.rt:77:5
 pub loop-j-preserved : goal.loop-j-preserved
 loop-j-preserved c = (
   omega arith,
@@ -21,11 +16,9 @@ loop-j-preserved c = (
       c.store_if.ensures,
 )
 
--- src/marked.rt:63:1
 pub shape_of-words : goal.shape_of-words
 shape_of-words c = c.loop-j.invariant.1.size ∙ sym c.requires.1
 
--- src/marked.rt:63:1
 pub returns : goal.returns
 returns c =
     let args = c.args in

@@ -3,16 +3,13 @@ use mathlib.Core.Path.{sym, ◌∙◌}
 use Rattle.words.specs.Owing.{owed_words}
 use Rattle.words.proofs.owing.owed.Goals as goal
 
--- src/owing.rt:35:20
 pub owed_in_place-requires : goal.owed_in_place-requires
 owed_in_place-requires c = sized c.args.words.now (sym c.is_state.ensures ∙ c.if-is_state.true)
 
--- src/owing.rt:34:9
 pub returns-then-is_state : goal.returns-then-is_state
 unfolding owed_words
 returns-then-is_state c = rw (sym c.is_state.ensures ∙ c.if-is_state.true, c.owed_in_place.ensures)
 
--- src/owing.rt:30:1
 pub returns : goal.returns
 unfolding owed_words
 returns c = rw (sym c.is_state.ensures ∙ c.if-is_state.false)

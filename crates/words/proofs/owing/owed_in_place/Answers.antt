@@ -1,25 +1,20 @@
 use mathlib.Core.Path.{refl, ap, ◌∙◌}
 use native.Mathlib.Omega.{arith}
-use Prim.Native.Nat.{◌-◌}
 use lib.Seq.{take_all}
 use Rattle.base.specs.Sums.{isum, isum_next}
 use Rattle.model.specs.Types.{site_d}
 use Rattle.model.specs.Owing.{pairs_site, owed_pairs}
 use Rattle.layout.specs.Words.{sites_of}
 use Rattle.layout.proofs.Decoded.{all_sites}
-use native.Mathlib.Omega.{arith}
 use Rattle.words.proofs.owing.owed_in_place.Goals as goal
 
--- src/owing.rt:14:5
 pub loop-s-init : goal.loop-s-init
 unfolding isum
 loop-s-init c = (omega arith, omega arith, refl)
 
--- src/owing.rt:16:9
 pub overflow_add-n : goal.overflow_add-n
 overflow_add-n c = omega (arith, c.site_pairs-n.ensures.1)
 
--- src/owing.rt:14:5
 pub loop-s-preserved : goal.loop-s-preserved
 loop-s-preserved c =
     let loop = c.loop-s in
@@ -38,7 +33,6 @@ loop-s-preserved c =
       ),
     )
 
--- src/owing.rt:9:1
 pub returns : goal.returns
 unfolding owed_pairs
 returns c =

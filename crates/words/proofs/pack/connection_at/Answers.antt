@@ -1,19 +1,15 @@
 use borrow.Author.Tests.{eq-eqb, ne_eqb}
 use Rattle.words.proofs.pack.connection_at.Goals as goal
 
--- src/pack.rt:35:9
 pub returns-then-m-eq1 : goal.returns-then-m-eq1
 returns-then-m-eq1 c = rw (eq-eqb _ _ c.if-m-eq1.true)
 
--- src/pack.rt:38:9
 pub returns-then-m-eq2 : goal.returns-then-m-eq2
 returns-then-m-eq2 c = rw (ne_eqb _ _ c.if-m-eq1.false, eq-eqb _ _ c.if-m-eq2.true)
 
--- src/pack.rt:41:9
 pub returns-then-m-eq3 : goal.returns-then-m-eq3
 returns-then-m-eq3 c = rw (ne_eqb _ _ c.if-m-eq1.false, ne_eqb _ _ c.if-m-eq2.false, eq-eqb _ _ c.if-m-eq3.true)
 
--- src/pack.rt:44:9
 pub returns-then-m-eq4 : goal.returns-then-m-eq4
 returns-then-m-eq4 c =
     rw (
@@ -23,7 +19,6 @@ returns-then-m-eq4 c =
       eq-eqb _ _ c.if-m-eq4.true,
     )
 
--- src/pack.rt:47:9
 pub returns-then-m-eq5 : goal.returns-then-m-eq5
 returns-then-m-eq5 c =
     rw (
@@ -34,7 +29,6 @@ returns-then-m-eq5 c =
       eq-eqb _ _ c.if-m-eq5.true,
     )
 
--- src/pack.rt:31:1
 pub returns : goal.returns
 returns c =
     rw (

@@ -1,10 +1,8 @@
 use mathlib.Core.Path.{refl}
 use native.Mathlib.Omega.{arith}
 use Rattle.layout.specs.Packed.{in_entry_word}
-use native.Mathlib.Omega.{arith}
 use Rattle.words.proofs.pack.in_entry_word.Goals as goal
 
--- src/pack.rt:226:1
 pub returns : goal.returns
 unfolding in_entry_word
 returns c = (

@@ -2,7 +2,6 @@ use mathlib.Core.Path.{refl}
 use Rattle.layout.specs.Packed.{input_from}
 use Rattle.words.proofs.pack.input_from.Goals as goal
 
--- src/pack.rt:135:1
 pub returns : goal.returns
 unfolding input_from
 returns c = rw (c.phase_at-phase.ensures, c.received_at-received.ensures, c.connection_at-connection.ensures) refl

@@ -1,10 +1,8 @@
 use mathlib.Core.Path.{refl}
 use native.Mathlib.Omega.{arith}
 use Rattle.layout.specs.Packed.{input_word}
-use native.Mathlib.Omega.{arith}
 use Rattle.words.proofs.pack.input_word.Goals as goal
 
--- src/pack.rt:163:1
 pub returns : goal.returns
 unfolding input_word
 returns c =

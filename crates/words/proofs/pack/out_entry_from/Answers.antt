@@ -2,7 +2,6 @@ use mathlib.Core.Path.{refl}
 use Rattle.layout.specs.Packed.{out_entry_from}
 use Rattle.words.proofs.pack.out_entry_from.Goals as goal
 
--- src/pack.rt:198:1
 pub returns : goal.returns
 unfolding out_entry_from
 returns c = refl

@@ -1,17 +1,15 @@
 use mathlib.Core.Path.{refl}
 use native.Mathlib.Omega.{arith}
 use Rattle.layout.specs.Packed.{output_word}
-use native.Mathlib.Omega.{arith}
 use Rattle.words.proofs.pack.output_word.Goals as goal
 
--- src/pack.rt:185:1
 pub returns : goal.returns
 unfolding output_word
 returns c =
     let word2 = c.word-2 in
     let bit3 = c.bit-3 in
     let word = c.word in
-    let terminator-number = c.terminator_number in
+    let terminator_number = c.terminator_number in
     let bit2 = c.bit-2 in
     let bit = c.bit in (
       rw (
@@ -19,7 +17,7 @@ returns c =
         word2.ensures.0,
         bit3.ensures.0,
         word.ensures.0,
-        terminator-number.ensures,
+        terminator_number.ensures,
         bit2.ensures.0,
         bit.ensures.0,
       ) refl,

@@ -1,19 +1,15 @@
 use borrow.Author.Tests.{eq-eqb, ne_eqb}
 use Rattle.words.proofs.pack.phase_at.Goals as goal
 
--- src/pack.rt:76:9
 pub returns-then-m-eq0 : goal.returns-then-m-eq0
 returns-then-m-eq0 c = rw (eq-eqb _ _ c.if-m-eq0.true)
 
--- src/pack.rt:79:9
 pub returns-then-m-eq1 : goal.returns-then-m-eq1
 returns-then-m-eq1 c = rw (ne_eqb _ _ c.if-m-eq0.false, eq-eqb _ _ c.if-m-eq1.true)
 
--- src/pack.rt:82:9
 pub returns-then-m-eq2 : goal.returns-then-m-eq2
 returns-then-m-eq2 c = rw (ne_eqb _ _ c.if-m-eq0.false, ne_eqb _ _ c.if-m-eq1.false, eq-eqb _ _ c.if-m-eq2.true)
 
--- src/pack.rt:85:9
 pub returns-then-m-eq3 : goal.returns-then-m-eq3
 returns-then-m-eq3 c =
     rw (
@@ -24,7 +20,6 @@ returns-then-m-eq3 c =
           c.if-m-eq3.true,
     )
 
--- src/pack.rt:88:9
 pub returns-then-m-eq4 : goal.returns-then-m-eq4
 returns-then-m-eq4 c =
     rw (
@@ -35,7 +30,6 @@ returns-then-m-eq4 c =
       eq-eqb _ _ c.if-m-eq4.true,
     )
 
--- src/pack.rt:91:9
 pub returns-then-m-eq5 : goal.returns-then-m-eq5
 returns-then-m-eq5 c =
     let if3 = c.if-m-eq2 in
@@ -50,7 +44,6 @@ returns-then-m-eq5 c =
       eq-eqb _ _ c.if-m-eq5.true,
     )
 
--- src/pack.rt:94:9
 pub returns-then-m-eq6 : goal.returns-then-m-eq6
 returns-then-m-eq6 c =
     let if4 = c.if-m-eq3 in
@@ -67,7 +60,6 @@ returns-then-m-eq6 c =
       eq-eqb _ _ c.if-m-eq6.true,
     )
 
--- src/pack.rt:72:1
 pub returns : goal.returns
 returns c =
     let if4 = c.if-m-eq3 in

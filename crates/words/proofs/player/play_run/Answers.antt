@@ -2,21 +2,18 @@ use mathlib.Core.Path.{refl}
 use native.Mathlib.Omega.{arith}
 use Rattle.layout.specs.Words.{no_words}
 use Rattle.words.proofs.PlayLaws.{played_words}
-use native.Mathlib.Omega.{arith}
 use borrow.Author.Rules.{rules}
 use Rattle.words.proofs.player.play_run.Goals as goal
 
--- src/player.rt:180:9
 pub play_turns-t-requires : goal.play_turns-t-requires
 unfolding no_words
 play_turns-t-requires c =
     let pre = c.requires in
     record { run = pre; channels = search rules; routes = search rules; words = refl }
 
--- src/player.rt:160:1
 pub returns : goal.returns
 returns c =
-    let play-turns = c.play_turns-t in
+    let play_turns = c.play_turns-t in
     let fits = c.ranges in
     let pre = c.requires in
-    played_words _ _ _ _ _ (pre) (omega (arith, fits.draws)) play-turns.ensures _ c.owed_in_place-owed.ensures
+    played_words _ _ _ _ _ (pre) (omega (arith, fits.draws)) play_turns.ensures _ c.owed_in_place-owed.ensures

@@ -4,24 +4,21 @@ use native.Mathlib.Omega.{arith}
 use Rattle.words.proofs.TurnLaws.{refused_on, accepted_on}
 use Rattle.words.proofs.player.send_turn.Goals as goal
 
--- src/player.rt:50:9
 pub returns-in_default : goal.returns-in_default
 returns-in_default c =
-    let send-in-place = c.send_in_place-answer in
+    let send_in_place = c.send_in_place-answer in
     let wide = c.wide-site in
-    refused_on _ _ _ _ _ _ _ _ wide.ensures.0 send-in-place.ensures _ c.in_default.is
+    refused_on _ _ _ _ _ _ _ _ wide.ensures.0 send_in_place.ensures _ c.in_default.is
 
--- src/player.rt:60:16
 pub overflow_add-result-3 : goal.overflow_add-result-3
 overflow_add-result-3 c =
     let args = c.args in
     let pre = c.requires in
     omega (arith, pre.5, c.size.ensures, size_most set_bits args.order.set)
 
--- src/player.rt:41:1
 pub returns : goal.returns
 returns c =
-    let send-in-place = c.send_in_place-answer in
+    let send_in_place = c.send_in_place-answer in
     let wide = c.wide-site in
-    accepted_on _ _ _ _ _ _ _ _ wide.ensures.0 send-in-place.ensures _ _ c.in-Accepted.is
+    accepted_on _ _ _ _ _ _ _ _ wide.ensures.0 send_in_place.ensures _ _ c.in-Accepted.is
     c.size.ensures

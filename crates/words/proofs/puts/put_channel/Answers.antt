@@ -3,10 +3,8 @@ use mathlib.Core.Path.{refl}
 use borrow.Author.Rules.{rules}
 use Rattle.words.proofs.puts.put_channel.Goals as goal
 
--- src/puts.rt:44:9
 pub returns-then-turn : goal.returns-then-turn
 returns-then-turn c = λ n e. rw c.if-turn.true (did_pass_lem n _ _ _ _ _ _ _ e c.store_passed.ensures)
 
--- src/puts.rt:36:1
 pub returns : goal.returns
 returns c = λ n e. rw c.if-turn.false (did_nothing n _ _ _ (search rules) refl)

@@ -3,10 +3,8 @@ use Rattle.words.proofs.Acts.{did_own_lem, did_nothing}
 use borrow.Author.Rules.{rules}
 use Rattle.words.proofs.puts.put_input.Goals as goal
 
--- src/puts.rt:112:9
 pub returns-then-turn : goal.returns-then-turn
 returns-then-turn c = λ n. rw c.if-turn.true (did_own_lem n _ _ _ _ c.store_both.ensures)
 
--- src/puts.rt:94:1
 pub returns : goal.returns
 returns c = λ n. rw c.if-turn.false (did_nothing n _ _ _ (search rules) refl)

@@ -3,10 +3,8 @@ use mathlib.Core.Path.{refl}
 use borrow.Author.Rules.{rules}
 use Rattle.words.proofs.puts.put_queue.Goals as goal
 
--- src/puts.rt:57:9
 pub returns-then-turn : goal.returns-then-turn
 returns-then-turn c = λ n. rw c.if-turn.true (did_own_lem n _ _ _ _ c.store_leaving.ensures)
 
--- src/puts.rt:49:1
 pub returns : goal.returns
 returns c = λ n. rw c.if-turn.false (did_nothing n _ _ _ (search rules) refl)

@@ -3,20 +3,17 @@ use Rattle.words.proofs.Acts.{did_own_lem, did_serve_lem, did_nothing}
 use borrow.Author.Rules.{rules}
 use Rattle.words.proofs.puts.put_work.Goals as goal
 
--- src/puts.rt:85:13
 pub returns-then-turn-2 : goal.returns-then-turn-2
 returns-then-turn-2 c =
-    let store-queues = c.store_queues in
+    let store_queues = c.store_queues in
     let if1 = c.if-turn in
-    λ n. rw (if1.true, c.if-turn-2.true) (did_serve_lem n _ _ _ _ _ store-queues.ensures)
+    λ n. rw (if1.true, c.if-turn-2.true) (did_serve_lem n _ _ _ _ _ store_queues.ensures)
 
--- src/puts.rt:87:9
 pub returns-then-turn : goal.returns-then-turn
 returns-then-turn c =
-    let store-queues = c.store_queues in
+    let store_queues = c.store_queues in
     let if1 = c.if-turn in
-    λ n. rw (if1.true, c.if-turn-2.false) (did_own_lem n _ _ _ _ store-queues.ensures)
+    λ n. rw (if1.true, c.if-turn-2.false) (did_own_lem n _ _ _ _ store_queues.ensures)
 
--- src/puts.rt:75:1
 pub returns : goal.returns
 returns c = λ n. rw c.if-turn.false (did_nothing n _ _ _ (search rules) refl)

@@ -2,15 +2,13 @@ use Prim.Native.Nat.{ℕ, ◌-◌, ◌<◌}
 use native.Mathlib.Omega.{arith}
 use Rattle.base.specs.Sizes.{port_count}
 use Rattle.words.proofs.Codes.{by_input, by_local, by_channel_lem, by_queue, by_operator, by_timeout, by_none, seekable}
-use Rattle.words.proofs.Codes.{which_queue, past_local, past_all}
-use native.Mathlib.Omega.{arith}
+use Rattle.words.proofs.Codes.{which_queue}
 use borrow.Author.Rules.{rules}
 use Rattle.words.proofs.runs.run_in_place.Goals as goal
 
 port_below : (code : ℕ) → code < 10 → code - 6 < port_count
 port_below code h = omega arith
 
--- src/runs.rt:41:19
 pub local_in_place-requires : goal.local_in_place-requires
 local_in_place-requires c =
     let p = c.requires in (
@@ -19,7 +17,6 @@ local_in_place-requires c =
       p.words,
     )
 
--- src/runs.rt:50:20
 pub operator_in_place-requires : goal.operator_in_place-requires
 operator_in_place-requires c =
     let p = c.requires in (
@@ -28,7 +25,6 @@ operator_in_place-requires c =
       p.words,
     )
 
--- src/runs.rt:40:18
 pub input_in_place-requires : goal.input_in_place-requires
 input_in_place-requires c =
     let a = c.args in
@@ -56,7 +52,6 @@ offset_bounds-channels-s c = omega (arith, c.requires.site, c.requires.few)
 pub bounds-channels-s : goal.bounds-channels-s
 bounds-channels-s c = omega (arith, c.requires.site, c.requires.few, c.requires.channels)
 
--- src/runs.rt:42:18
 pub channel_in_place-requires : goal.channel_in_place-requires
 channel_in_place-requires c =
     let a = c.args in
@@ -64,34 +59,27 @@ channel_in_place-requires c =
     let j = port_below a.code (omega arith) in
     (omega (arith, p.site, p.few), j, p.words, λ e. p.ends (a.code - 6) j e)
 
--- src/runs.rt:16:1
 pub returns-in-5 : goal.returns-in-5
 returns-in-5 c = by_local _ _ _ _ _ _ c.in-5.is (c.local_in_place.ensures _)
 
--- src/runs.rt:16:1
 pub returns-in-10 : goal.returns-in-10
 returns-in-10 c = by_queue _ _ _ _ _ _ c.in-10.is (c.queue_in_place.ensures _)
 
--- src/runs.rt:16:1
 pub returns-in-11 : goal.returns-in-11
 returns-in-11 c = by_operator _ _ _ _ _ _ c.in-11.is (c.operator_in_place.ensures _)
 
--- src/runs.rt:16:1
 pub returns-in-12 : goal.returns-in-12
 returns-in-12 c = by_timeout _ _ _ _ _ _ c.in-12.is (c.timeout_in_place.ensures _)
 
--- src/runs.rt:16:1
 pub returns-in-0-to-4 : goal.returns-in-0-to-4
 returns-in-0-to-4 c = by_input _ _ _ _ _ _ (omega arith) (c.input_in_place.ensures _ _)
 
--- src/runs.rt:16:1
 pub returns-in-6-to-9 : goal.returns-in-6-to-9
 returns-in-6-to-9 c =
     let past : 5 < c.args.code = grind arith in
     let below : c.args.code < 10 = omega arith in
     by_channel_lem _ _ _ _ _ _ past below c.channel_in_place.ensures
 
--- src/runs.rt:16:1
 pub returns-in_default : goal.returns-in_default
 returns-in_default c =
     let none : 14 < c.args.code = grind arith in

@@ -1,6 +1,5 @@
 use Rattle.words.proofs.Taken.{no_entries}
 use Rattle.words.proofs.sends.out_entries.Goals as goal
 
--- src/sends.rt:22:1
 pub returns : goal.returns
 returns c = no_entries _ _ c.if-s-lt-SITES.false

@@ -1,6 +1,5 @@
 use mathlib.Core.Path.{refl}
 use Rattle.words.proofs.sends.own_refusal.Goals as goal
 
--- src/sends.rt:33:1
 pub returns : goal.returns
 returns c = rw (c.send_fault.ensures, c.out_entries-entries.ensures, c.load_counter-packet.ensures) refl

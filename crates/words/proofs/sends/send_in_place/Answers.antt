@@ -2,14 +2,11 @@ use Rattle.words.proofs.Taken.{acceptable, took_accepted, took_refused}
 use borrow.Author.Rules.{rules}
 use Rattle.words.proofs.sends.send_in_place.Goals as goal
 
--- src/sends.rt:83:9
 pub returns-then-refusal-ne0 : goal.returns-then-refusal-ne0
 returns-then-refusal-ne0 c = took_refused _ _ _ _ _ _ (search rules) c.own_refusal-refusal.ensures c.if-refusal-ne0.true
 
--- src/sends.rt:85:5
 pub accept-requires : goal.accept-requires
 accept-requires c = acceptable _ _ _ _ c.args.set _ c.requires c.own_refusal-refusal.ensures c.if-refusal-ne0.false
 
--- src/sends.rt:77:1
 pub returns : goal.returns
 returns c = took_accepted _ _ _ _ _ _ _ _ c.own_refusal-refusal.ensures c.if-refusal-ne0.false c.accept.ensures

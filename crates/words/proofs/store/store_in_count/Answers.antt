@@ -1,6 +1,5 @@
 use Rattle.layout.proofs.Storing.{stored_in_count}
 use Rattle.words.proofs.store.store_in_count.Goals as goal
 
--- src/store.rt:145:1
 pub returns : goal.returns
 returns c = stored_in_count _ _ c.requires.0 c.requires.2 _ _ c.requires.1

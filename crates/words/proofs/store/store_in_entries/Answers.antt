@@ -1,24 +1,19 @@
 use mathlib.Core.Path.{◌≡◌, sym, ◌∙◌}
-use Prim.Native.Nat.{◌-◌}
 use lib.ListN.{length}
 use native.Mathlib.Omega.{arith}
 use Rattle.layout.proofs.Chained.{arrived_part, arrived_kept, none_filled, one_filled, all_filled}
-use native.Mathlib.Omega.{arith}
 use borrow.Author.Rules.{rules}
 use Rattle.words.proofs.store.store_in_entries.Goals as goal
 
--- src/store.rt:99:5
 pub loop-m-init : goal.loop-m-init
 loop-m-init c = (omega arith, none_filled (arrived_part c.args.q) _ _ c.args.entries c.requires.2)
 
--- src/store.rt:101:9
 pub store_in_entry-requires : goal.store_in_entry-requires
 store_in_entry-requires c =
     let loop = c.loop-m in
     let pre = c.requires in
     (pre.0, pre.1, omega arith, loop.invariant.1.size)
 
--- src/store.rt:99:5
 pub loop-m-preserved : goal.loop-m-preserved
 loop-m-preserved c =
     let loop = c.loop-m in
@@ -28,11 +23,9 @@ loop-m-preserved c =
           c.store_in_entry.ensures,
     )
 
--- src/store.rt:94:1
 pub shape_of-words : goal.shape_of-words
 shape_of-words c = c.loop-m.invariant.1.size ∙ sym c.requires.2
 
--- src/store.rt:94:1
 pub returns : goal.returns
 returns c =
     let e : length c.args.entries ≡ 8 = search rules in

@@ -1,7 +1,6 @@
 use Rattle.layout.proofs.Storing.{stored_arrived}
 use Rattle.words.proofs.store.store_in_entry.Goals as goal
 
--- src/store.rt:90:1
 pub returns : goal.returns
 returns c =
     rw c.store_place.ensures

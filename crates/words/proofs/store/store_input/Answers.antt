@@ -1,7 +1,6 @@
 use Rattle.layout.proofs.Storing.{stored_input}
 use Rattle.words.proofs.store.store_input.Goals as goal
 
--- src/store.rt:36:1
 pub returns : goal.returns
 returns c =
     rw c.store_place.ensures

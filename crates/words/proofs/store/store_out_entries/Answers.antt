@@ -1,24 +1,19 @@
 use mathlib.Core.Path.{◌≡◌, sym, ◌∙◌}
-use Prim.Native.Nat.{◌-◌}
 use lib.ListN.{length}
 use native.Mathlib.Omega.{arith}
 use Rattle.layout.proofs.Chained.{leaving_part, leaving_kept, none_filled, one_filled, all_filled}
-use native.Mathlib.Omega.{arith}
 use borrow.Author.Rules.{rules}
 use Rattle.words.proofs.store.store_out_entries.Goals as goal
 
--- src/store.rt:86:5
 pub loop-m-init : goal.loop-m-init
 loop-m-init c = (omega arith, none_filled leaving_part _ _ c.args.entries c.requires.1)
 
--- src/store.rt:88:9
 pub store_out_entry-requires : goal.store_out_entry-requires
 store_out_entry-requires c =
     let loop = c.loop-m in
     let pre = c.requires in
     (pre.0, omega arith, loop.invariant.1.size)
 
--- src/store.rt:86:5
 pub loop-m-preserved : goal.loop-m-preserved
 loop-m-preserved c =
     let loop = c.loop-m in
@@ -28,11 +23,9 @@ loop-m-preserved c =
           c.store_out_entry.ensures,
     )
 
--- src/store.rt:81:1
 pub shape_of-words : goal.shape_of-words
 shape_of-words c = c.loop-m.invariant.1.size ∙ sym c.requires.1
 
--- src/store.rt:81:1
 pub returns : goal.returns
 returns c =
     let e : length c.args.entries ≡ 8 = search rules in

@@ -1,7 +1,6 @@
 use Rattle.layout.proofs.Storing.{stored_leaving}
 use Rattle.words.proofs.store.store_out_entry.Goals as goal
 
--- src/store.rt:77:1
 pub returns : goal.returns
 returns c =
     rw c.store_place.ensures

@@ -1,7 +1,6 @@
 use Rattle.layout.proofs.Storing.{stored_output}
 use Rattle.words.proofs.store.store_output.Goals as goal
 
--- src/store.rt:48:1
 pub returns : goal.returns
 returns c =
     rw c.store_place.ensures

@@ -2,7 +2,6 @@ use native.Mathlib.Numerals.{add-one}
 use Prim.Native.Nat.{◌%◌}
 use Rattle.words.proofs.turns.channel_turn.Goals as goal
 
--- src/turns.rt:39:1
 pub returns : goal.returns
 returns c =
     let wider = c.wider-b in

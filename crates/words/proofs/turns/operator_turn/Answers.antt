@@ -1,5 +1,4 @@
 use Rattle.words.proofs.turns.operator_turn.Goals as goal
 
--- src/turns.rt:78:1
 pub returns : goal.returns
 returns c = rw (c.operator.ensures, c.load_out_queue-outgoing.ensures, c.load_in_queue-incoming.ensures)

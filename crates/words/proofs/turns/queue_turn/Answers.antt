@@ -1,5 +1,4 @@
 use Rattle.words.proofs.turns.queue_turn.Goals as goal
 
--- src/turns.rt:49:1
 pub returns : goal.returns
 returns c = rw (c.out_queue.ensures, c.load_input-input.ensures, c.load_out_queue-queue.ensures)

@@ -1,5 +1,4 @@
 use Rattle.words.proofs.turns.timeout_turn.Goals as goal
 
--- src/turns.rt:93:1
 pub returns : goal.returns
 returns c = rw (c.time_out.ensures, c.load_marked-outputs.ensures, c.load_in_queue-queue.ensures)

@@ -1,12 +1,10 @@
 use mathlib.Core.Path.{sym, ap}
-use Prim.Native.Nat.{◌-◌}
 use native.Mathlib.Omega.{arith}
 use borrow.Author.Rules.{rules}
 use Rattle.base.specs.Sizes.{output_count}
 use Rattle.base.specs.All.{all_none, all_next, all_end}
 use Rattle.base.specs.Bools.{implies}
 use Rattle.model.specs.Types.{mark}
-use Rattle.model.specs.Range.{fed_by}
 use Rattle.checks.proofs.range.places.marks_ok.Goals as goal
 
 pub loop-j-init : goal.loop-j-init
