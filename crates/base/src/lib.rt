@@ -2,7 +2,11 @@
 // one. specs/Sizes.antt has the same sizes; the rest of specs/ holds the definitions and laws that every crate shares.
 #![tactic(auto)]
 
+mod refusal;
+
 ghost use Rattle.std.specs.Prelude.{◌≡◌, ◌<◌, ◌+◌, ◌-◌, ◌*◌};
+
+pub use refusal::Refusal;
 
 // Sites of a network at most, and of one of version 1.
 pub const SITES: usize = 64;

@@ -3,7 +3,7 @@
 use mathlib.Core.Path.{◌≡◌, refl, sym, ap, ap₂, ◌∙◌}
 use mathlib.Core.Bool.{Bool, true, false, not, ◌&&◌, ◌||◌, and-true, and-false, or-false, and_assoc}
 use mathlib.Core.List.{List}
-use Prim.Native.Nat.{ℕ, zero, suc, ◌+◌, ◌≤◌}
+use Prim.Native.Nat.{ℕ, zero, suc, ◌+◌}
 use native.Mathlib.Omega.{arith}
 use native.Mathlib.Numerals.{add-one}
 use borrow.Author.Tests.{le-ltb, le-leb, lt-leb, ne_eqb, eqb-true, not-true}
@@ -19,7 +19,7 @@ use Rattle.model.specs.Range.{tag_ok, any_mark, any_remote, zero_input, zero_out
 use Rattle.model.specs.Range.{out_entry_ok, in_entry_ok, out_queue_ok, in_queue_ok, depth_of, site_ok, zero_site}
 use Rattle.checks.specs.Range.{connection_ok, net_places_ok, in_queues_ok}
 
--- ---- a loop that makes two tests a turn
+-- ---- two tests of each number, and the second once more
 
 middle : (a b c d : Bool) → (a && b) && (c && d) ≡ (a && c) && (b && d)
 middle true true c d = refl
@@ -27,20 +27,15 @@ middle true false true d = refl
 middle true false false d = refl
 middle false b c d = refl
 
-pub all_next_two : (p q : ℕ → Bool) (n : ℕ) (ok one two : Bool) → ok ≡ all p n && all q n → one ≡ p n → two ≡ q n
-    → ok && (one && two) ≡ all p (n + 1) && all q (n + 1)
+both_of : (p q : ℕ → Bool) (n : ℕ) → all (λ i. p i && q i) n ≡ all p n && all q n
 unfolding all
-all_next_two p q n ok one two h e f = rw (h, e, f, add-one n) (middle (all p n) (all q n) (p n) (q n))
+both_of p q zero = refl
+both_of p q (suc n) = rw (both_of p q n) (middle (all p n) (all q n) (p n) (q n))
 
-pub all_none_two : (p q : ℕ → Bool) → true ≡ all p 0 && all q 0
+pub all_two : (p q : ℕ → Bool) (n : ℕ) (ok last : Bool) → ok ≡ all (λ i. p i && q i) n → last ≡ q n
+    → ok && last ≡ all p n && all q (n + 1)
 unfolding all
-all_none_two p q = refl
-
--- its end, and the second test once more
-pub all_end_two : (p q : ℕ → Bool) (b m : ℕ) (ok last : Bool) → m ≤ b → b ≤ m → ok ≡ all p m && all q m → last ≡ q b
-    → ok && last ≡ all p b && all q (b + 1)
-unfolding all
-all_end_two p q b m ok last h k e f = let z : m ≡ b = omega arith in rw (e, f, z, add-one b) (and_assoc (all p b) (all q b) (q b))
+all_two p q n ok last e f = rw (e, f, both_of p q n, add-one n) (and_assoc (all p n) (all q n) (q n))
 
 -- ---- a place in use, an empty one
 

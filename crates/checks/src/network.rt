@@ -4,23 +4,22 @@
 ghost use Rattle.std.specs.Prelude.{◌≡◌, ◌≤◌, ◌<◌, ◌*◌, ltb};
 ghost use Rattle.base.specs.Sizes.{sites_most, port_count};
 ghost use Rattle.base.specs.All.{all};
+ghost use Rattle.base.specs.Refusals.{refusal_of};
 ghost use Rattle.model.specs.Network.{sites_in, channels_ok, route_ok, routes_ok, network_refusal};
 ghost use Rattle.checks.specs.Network.{kind_in, sizes_in, parts_refusal, ports_by, ports_of, route_by};
 
+use base::Refusal;
 use types::Network;
 
 // 2 for a version that is neither 1 nor 2, 17 for an edition that is not 1, nor 2 or 3 in version 2, else 0.
-pub fn kind_refusal(version: u8, edition: u8) -> u8
-    ensures { result ≡ kind_in version edition }
+pub fn kind_refusal(version: u8, edition: u8) -> Result<(), Refusal>
+    ensures { refusal_of result ≡ kind_in version edition }
 {
-    let restricted = draws::is_restricted(edition);
-    if (version == 1) | (version == 2) {
-        if (edition == 1) | (((edition == 2) | restricted) & (version == 2)) {
-            return 0;
-        }
-        return 17;
+    match (version, edition) {
+        (1, 1) | (2, 1..=3) => Ok(()),
+        (1 | 2, _) => Err(Refusal::Edition),
+        _ => Err(Refusal::Version),
     }
-    2
 }
 
 // The sites of a version at most.
@@ -28,9 +27,10 @@ fn sites_in(version: u8) -> usize
     ensures { result ≡ sites_in version }
 {
     if version == 1 {
-        return base::FIRST_SITES;
+        base::FIRST_SITES
+    } else {
+        base::SITES
     }
-    base::SITES
 }
 
 // S, T and D within their limits, those of the version.
@@ -53,27 +53,19 @@ fn channels_ok(network: Network) -> bool
     requires { network.sites ≤ sites_most }
     ensures { result ≡ channels_ok network }
 {
-    let channels = network.channels;
-    let sites = network.sites;
-    let end = base::PORTS * sites;
     let mut fed = [false; base::PORTS * base::SITES];
-    let mut c: usize = 0;
-    while c < end {
-        let channel = channels[c];
+    for &channel in &network.channels[..base::PORTS * network.sites] {
         if channel == base::NO_CHANNEL {
-            c += 1;
             continue;
         }
-        if is_input(channel, sites) {
-            let input = base::wider(channel);
-            if fed[input] {
-                return false;
-            }
-            fed[input] = true;
-            c += 1;
-            continue;
+        if !is_input(channel, network.sites) {
+            return false;
         }
-        return false;
+        let input = base::wider(channel);
+        if fed[input] {
+            return false;
+        }
+        fed[input] = true;
     }
     true
 }
@@ -123,59 +115,38 @@ fn row_ok(network: Network, s: usize) -> bool
     requires { (s < network.sites) × (network.sites ≤ sites_most) }
     ensures { result ≡ all (route_ok network s) network.sites }
 {
-    let sites = network.sites;
-    let routes = network.routes;
     let ports = ports_of(network, s);
-    let mut t: usize = 0;
-    while t < sites {
-        let route = routes[s * sites + t];
-        if route_ok(ports, s, t, route) {
-            t += 1;
-        } else {
-            return false;
-        }
-    }
-    true
+    let row = s * network.sites;
+    (0..network.sites).all(|t| route_ok(ports, s, t, network.routes[row + t]))
 }
 
 fn routes_ok(network: Network) -> bool
     requires { network.sites ≤ sites_most }
     ensures { result ≡ routes_ok network }
 {
-    let mut s: usize = 0;
-    while s < network.sites {
-        if row_ok(network, s) {
-            s += 1;
-        } else {
-            return false;
-        }
-    }
-    true
+    (0..network.sites).all(|s| row_ok(network, s))
 }
 
 // 3 for S, T or D outside its limits, 6 for the channels, 7 for the routes, else 0.
-fn parts_refusal(network: Network) -> u8
-    ensures { result ≡ parts_refusal network }
+fn parts_refusal(network: Network) -> Result<(), Refusal>
+    ensures { refusal_of result ≡ parts_refusal network }
 {
-    if sizes_ok(network.version, network.sites, network.tries, network.depth) {
-        if channels_ok(network) {
-            if routes_ok(network) {
-                return 0;
-            }
-            return 7;
-        }
-        return 6;
+    if !sizes_ok(network.version, network.sites, network.tries, network.depth) {
+        return Err(Refusal::Sizes);
     }
-    3
+    if !channels_ok(network) {
+        return Err(Refusal::Channels);
+    }
+    if !routes_ok(network) {
+        return Err(Refusal::Routes);
+    }
+    Ok(())
 }
 
-// 2 for the version, 17 for the edition, then 3, 6 and 7; 0 for a valid network.
-pub fn network_refusal(network: Network) -> u8
-    ensures { result ≡ network_refusal network }
+// 2 for the version, 17 for the edition, then 3, 6 and 7; none of a valid network.
+pub fn network_refusal(network: Network) -> Result<(), Refusal>
+    ensures { refusal_of result ≡ network_refusal network }
 {
-    let kind = kind_refusal(network.version, network.edition);
-    if kind != 0 {
-        return kind;
-    }
+    kind_refusal(network.version, network.edition)?;
     parts_refusal(network)
 }

@@ -5,12 +5,14 @@ mod phases;
 mod places;
 
 ghost use Rattle.std.specs.Prelude.{◌≡◌, ◌&&◌};
+ghost use Rattle.base.specs.Refusals.{refusal_of};
 ghost use Rattle.model.specs.Range as spec;
 ghost use Rattle.model.specs.Events.{refusal_then};
 ghost use Rattle.checks.specs.Range.{net_places_ok, in_queues_ok};
 
 use crate::network::network_refusal;
 use crate::range::places::{in_entry_ok, input_ok, out_entry_ok, output_ok};
+use base::Refusal;
 use types::{InQueue, Input, Network, OutQueue, Output, Site, State};
 
 // The net-inputs and the net-outputs of a site: five of each, and the split output.
@@ -24,18 +26,11 @@ fn net_places_ok(
 ) -> bool
     ensures { result ≡ net_places_ok edition sites limit counter inputs outputs }
 {
-    let mut ok = true;
-    let mut i: usize = 0;
-    while i < base::INPUTS {
-        let input = inputs[i];
-        let output = outputs[i];
-        ok = ok
-            & (input_ok(edition, sites, limit, counter, outputs, i, input)
-                & output_ok(edition, sites, counter, i, output));
-        i += 1;
-    }
     let split = outputs[base::SPLIT_PORT];
-    ok & output_ok(edition, sites, counter, base::SPLIT_PORT, split)
+    (0..base::INPUTS).all(|i| {
+        input_ok(edition, sites, limit, counter, outputs, i, inputs[i])
+            & output_ok(edition, sites, counter, i, outputs[i])
+    }) & output_ok(edition, sites, counter, base::SPLIT_PORT, split)
 }
 
 // The out-queue: eight places.
@@ -43,14 +38,8 @@ fn out_queue_ok(sites: usize, depth: usize, counter: u8, queue: OutQueue) -> boo
     ensures { result ≡ spec.out_queue_ok sites depth counter queue }
 {
     let count = queue.count;
-    let mut ok = true;
-    let mut m: usize = 0;
-    while m < base::QUEUE {
-        let entry = queue.entries[m];
-        ok = ok & out_entry_ok(sites, counter, count, m, entry);
-        m += 1;
-    }
-    (count <= depth) & ok
+    (count <= depth)
+        & (0..base::QUEUE).all(|m| out_entry_ok(sites, counter, count, m, queue.entries[m]))
 }
 
 // An in-queue: eight places.
@@ -58,25 +47,19 @@ fn in_queue_ok(sites: usize, depth: usize, counter: u8, queue: InQueue) -> bool
     ensures { result ≡ spec.in_queue_ok sites depth counter queue }
 {
     let count = queue.count;
-    let mut ok = true;
-    let mut m: usize = 0;
-    while m < base::QUEUE {
-        let entry = queue.entries[m];
-        ok = ok & in_entry_ok(sites, counter, count, m, entry);
-        m += 1;
-    }
-    (count <= depth) & ok
+    (count <= depth)
+        & (0..base::QUEUE).all(|m| in_entry_ok(sites, counter, count, m, queue.entries[m]))
 }
 
 // The depth of in-queue m: that of the split output has none but in edition 3.
 fn depth_of(edition: u8, depth: usize, m: usize) -> usize
     ensures { result ≡ spec.depth_of edition depth m }
 {
-    let restricted = draws::is_restricted(edition);
-    if (m == 0) | restricted {
-        return depth;
+    if (m == 0) | draws::is_restricted(edition) {
+        depth
+    } else {
+        0
     }
-    0
 }
 
 // Both in-queues.
@@ -89,15 +72,12 @@ fn in_queues_ok(
 ) -> bool
     ensures { result ≡ in_queues_ok edition sites depth counter incoming }
 {
-    let mut ok = true;
-    let mut m: usize = 0;
-    while m < base::IN_QUEUES {
-        let queue = incoming[m];
-        let most = depth_of(edition, depth, m);
-        ok = ok & in_queue_ok(sites, most, counter, queue);
-        m += 1;
-    }
-    ok
+    (0..base::IN_QUEUES).all(|m| in_queue_ok(
+        sites,
+        depth_of(edition, depth, m),
+        counter,
+        incoming[m],
+    ))
 }
 
 // The queues of a site.
@@ -119,12 +99,8 @@ fn queues_ok(
 fn site_ok(edition: u8, sites: usize, limit: u8, depth: usize, counter: u8, site: Site) -> bool
     ensures { result ≡ spec.site_ok edition sites limit depth counter site }
 {
-    let inputs = site.inputs;
-    let outputs = site.outputs;
-    let outgoing = site.outgoing;
-    let incoming = site.incoming;
-    net_places_ok(edition, sites, limit, counter, inputs, outputs)
-        & queues_ok(edition, sites, depth, counter, outgoing, incoming)
+    net_places_ok(edition, sites, limit, counter, site.inputs, site.outputs)
+        & queues_ok(edition, sites, depth, counter, site.outgoing, site.incoming)
 }
 
 // Place s of a state's sites, with the edition, S, T, D and the counter: a site of the network, or room beyond S.
@@ -149,31 +125,24 @@ pub fn place_ok(
 pub fn is_in_range(network: Network, state: State) -> bool
     ensures { result ≡ spec.in_range network state }
 {
-    let edition = network.edition;
-    let sites = network.sites;
-    let limit = network.tries;
-    let depth = network.depth;
+    let Network {
+        edition,
+        sites,
+        tries,
+        depth,
+        ..
+    } = network;
     let counter = state.counter;
-    let mut ok = true;
-    let mut s: usize = 0;
-    while s < base::SITES {
-        let site = state.sites[s];
-        ok = ok & place_ok(edition, sites, limit, depth, counter, s, site);
-        s += 1;
-    }
-    ok
+    (0..base::SITES).all(|s| place_ok(edition, sites, tries, depth, counter, s, state.sites[s]))
 }
 
-// The refusals that SEND and RUN share: 2, 17, 3, 6, 7 of the network, 13 for a state that is not in range, else 0.
-pub fn event_refusal(network: Network, state: State) -> u8
-    ensures { result ≡ refusal_then network state 0 }
+// The refusals that SEND and RUN share: 2, 17, 3, 6, 7 of the network, 13 for a state that is not in range.
+pub fn event_refusal(network: Network, state: State) -> Result<(), Refusal>
+    ensures { refusal_of result ≡ refusal_then network state 0 }
 {
-    let refusal = network_refusal(network);
-    if refusal != 0 {
-        return refusal;
+    network_refusal(network)?;
+    if !is_in_range(network, state) {
+        return Err(Refusal::State);
     }
-    if is_in_range(network, state) {
-        return 0;
-    }
-    13
+    Ok(())
 }

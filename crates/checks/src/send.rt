@@ -1,7 +1,10 @@
 // The refusal of a SEND's own, and the test of a stored send, from the numbers that they look at. Both take any numbers.
 ghost use Rattle.std.specs.Prelude.{◌≡◌};
+ghost use Rattle.base.specs.Refusals.{refusal_of};
 ghost use Rattle.model.specs.Events.{send_fault_by};
 ghost use Rattle.checks.specs.Sends.{send_after};
+
+use base::Refusal;
 
 // 9, 10, 12, 11 or 0 for SEND (site, set), with S, D, the counter and the entries of the site's out-queue.
 pub fn send_fault(
@@ -11,22 +14,22 @@ pub fn send_fault(
     entries: usize,
     site: usize,
     set: u64,
-) -> u8
-    ensures { result ≡ send_fault_by sites depth counter entries site set }
+) -> Result<(), Refusal>
+    ensures { refusal_of result ≡ send_fault_by sites depth counter entries site set }
 {
-    if site < sites {
-        if sets::is_targets(set, sites) {
-            if counter < base::PACKETS {
-                if entries < depth {
-                    return 0;
-                }
-                return 11;
-            }
-            return 12;
-        }
-        return 10;
+    if sites <= site {
+        return Err(Refusal::Unknown);
     }
-    9
+    if !sets::is_targets(set, sites) {
+        return Err(Refusal::Targets);
+    }
+    if base::PACKETS <= counter {
+        return Err(Refusal::Packets);
+    }
+    if depth <= entries {
+        return Err(Refusal::Queue);
+    }
+    Ok(())
 }
 
 // A stored send behind one with draw number `last`, or the first with 0 there: its site, set and draw number possible, and

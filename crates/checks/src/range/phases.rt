@@ -8,16 +8,7 @@ use types::{Connection, Phase, Terminator};
 pub(crate) fn is_connected(phase: Phase) -> bool
     ensures { result ≡ connected phase }
 {
-    match phase {
-        Phase::Free => false,
-        Phase::Seek => false,
-        Phase::Open(_) => true,
-        Phase::Wait(_) => true,
-        Phase::Done(_, _) => true,
-        Phase::Last(_, _) => true,
-        Phase::Abort(_) => true,
-        Phase::FinAbort(_, _) => true,
-    }
+    !matches!(phase, Phase::Free | Phase::Seek)
 }
 
 // The states with connection 3 or 4.
@@ -25,14 +16,9 @@ pub(crate) fn is_splitting(phase: Phase) -> bool
     ensures { result ≡ splitting phase }
 {
     match phase {
-        Phase::Free => false,
-        Phase::Seek => false,
-        Phase::Open(c) => types::is_split(c),
-        Phase::Wait(c) => types::is_split(c),
-        Phase::Done(c, _) => types::is_split(c),
-        Phase::Last(c, _) => types::is_split(c),
-        Phase::Abort(c) => types::is_split(c),
-        Phase::FinAbort(c, _) => types::is_split(c),
+        Phase::Free | Phase::Seek => false,
+        Phase::Open(c) | Phase::Wait(c) | Phase::Abort(c) => types::is_split(c),
+        Phase::Done(c, _) | Phase::Last(c, _) | Phase::FinAbort(c, _) => types::is_split(c),
     }
 }
 
@@ -40,14 +26,7 @@ pub(crate) fn is_splitting(phase: Phase) -> bool
 fn is_branch(connection: Connection) -> bool
     ensures { result ≡ branches connection }
 {
-    match connection {
-        Connection::Unicast => false,
-        Connection::Passthru => false,
-        Connection::AllRemote => false,
-        Connection::SomeLocal => false,
-        Connection::Handed => false,
-        Connection::Branch => true,
-    }
+    matches!(connection, Connection::Branch)
 }
 
 // The states with it.
@@ -55,14 +34,9 @@ pub(crate) fn is_branching(phase: Phase) -> bool
     ensures { result ≡ branching phase }
 {
     match phase {
-        Phase::Free => false,
-        Phase::Seek => false,
-        Phase::Open(c) => is_branch(c),
-        Phase::Wait(c) => is_branch(c),
-        Phase::Done(c, _) => is_branch(c),
-        Phase::Last(c, _) => is_branch(c),
-        Phase::Abort(c) => is_branch(c),
-        Phase::FinAbort(c, _) => is_branch(c),
+        Phase::Free | Phase::Seek => false,
+        Phase::Open(c) | Phase::Wait(c) | Phase::Abort(c) => is_branch(c),
+        Phase::Done(c, _) | Phase::Last(c, _) | Phase::FinAbort(c, _) => is_branch(c),
     }
 }
 
@@ -70,25 +44,11 @@ pub(crate) fn is_branching(phase: Phase) -> bool
 pub(crate) fn is_aborting(phase: Phase) -> bool
     ensures { result ≡ aborting phase }
 {
-    match phase {
-        Phase::Free => false,
-        Phase::Seek => false,
-        Phase::Open(_) => false,
-        Phase::Wait(_) => false,
-        Phase::Done(_, _) => false,
-        Phase::Last(_, _) => false,
-        Phase::Abort(_) => true,
-        Phase::FinAbort(_, _) => true,
-    }
+    matches!(phase, Phase::Abort(_) | Phase::FinAbort(_, _))
 }
 
 pub(crate) fn is_keep(terminator: Terminator) -> bool
     ensures { result ≡ is_keep terminator }
 {
-    match terminator {
-        Terminator::None => false,
-        Terminator::End => false,
-        Terminator::Abort => false,
-        Terminator::KeepLocal => true,
-    }
+    matches!(terminator, Terminator::KeepLocal)
 }

@@ -82,14 +82,7 @@ fn fed_by(i: usize, output: Output) -> bool
 fn marks_ok(outputs: [Output; base::OUTPUTS], i: usize, marks: [bool; base::OUTPUTS]) -> bool
     ensures { result ≡ all (λ j. implies (mark marks j) (spec.fed_by i (out_of outputs j))) output_count }
 {
-    let mut ok = true;
-    let mut j: usize = 0;
-    while j < base::OUTPUTS {
-        let output = outputs[j];
-        ok = ok & (!marks[j] | fed_by(i, output));
-        j += 1;
-    }
-    ok
+    (0..base::OUTPUTS).all(|j| !marks[j] | fed_by(i, outputs[j]))
 }
 
 // Connection 6 exactly where the split output is marked, and in edition 3 alone, where 3 and 4 are not.

@@ -1,117 +1,72 @@
 -- `network::channels_ok` meets its contract: the table of inputs that are fed stands for the test against every
 -- channel before. Assumes nothing.
-use Rattle.base.specs.All.{all_none}
-use mathlib.Core.Path.{◌≡◌, refl, sym, ◌∙◌}
-use Prim.Native.Nat.{◌*◌}
-use lib.ListN.{length-set}
-use native.Mathlib.Omega.{arith}
+use Rattle.std.proofs.Common.{◌≡◌, ◌*◌, ◌<◌, ◌≤◌, ℕ, List, refl, sym, ◌∙◌, length, take, get_or, rules, arith}
+use Rattle.std.proofs.lemmas.List.{get_or-take, length-take-le}
 use borrow.Author.Tests.{ltb-false}
-use Rattle.checks.proofs.NetworkLaws.{fed_none, fed_skip, no_channel_lem, too_high, fed_twice, fed_once, fed_now, input_known}
+use lib.ListN.{length-set}
+use Rattle.base.specs.Sizes.{port_count, sites_most, no_channel}
+use Rattle.base.specs.All.{all_none}
+use Rattle.checks.proofs.NetworkLaws.{fed_none, fed_skip, no_channel_lem, too_high, fed_twice, fed_once, fed_now, input_known, place_at}
 use Rattle.checks.proofs.network.channels_ok.Goals as goal
 
-pub overflow_mul-end : goal.overflow_mul-end
-overflow_mul-end c = omega (arith, c.requires)
+-- a place of the first n channels
+module _ (cs : List ℕ) (n i : ℕ) (long : n ≤ length cs) (below : i < length (take n cs)) where
+  place_below : i < n
+  place_below = omega (arith, length-take-le n cs long, below)
 
-pub loop-c-init : goal.loop-c-init
-loop-c-init c =
-    let pre = c.requires in
-    let args = c.args in
-    (omega arith, omega (arith, pre), all_none _, refl, fed_none args.network.channels)
+  place_same : get_or (take n cs) i 0 ≡ place_at cs i
+  place_same = get_or-take n cs i 0 place_below
 
-pub offset_bounds-channels-c : goal.offset_bounds-channels-c
-offset_bounds-channels-c c = omega arith
+pub loop-channel-init : goal.loop-channel-init
+loop-channel-init c = (all_none _, fed_none c.args.network.channels, refl)
 
-pub bounds-channels-c : goal.bounds-channels-c
-bounds-channels-c c = omega arith
-
-pub overflow_add-c : goal.overflow_add-c
-overflow_add-c c = omega arith
-
-pub loop-c-smaller-then-channel : goal.loop-c-smaller-then-channel
-loop-c-smaller-then-channel c = omega arith
-
-pub loop-c-preserved-then-channel : goal.loop-c-preserved-then-channel
-loop-c-preserved-then-channel c =
-    let if1 = c.if-channel in
-    let loop = c.loop-c in
-    let args = c.args in (
-      omega arith,
-      omega arith,
-      no_channel_lem args.network.channels loop.fed _ loop.c _ refl loop.invariant.2 if1.true,
-      loop.invariant.3,
-      fed_skip args.network.channels loop.fed loop.c loop.invariant.4 if1.true,
+pub loop-channel-preserved-then-channel : goal.loop-channel-preserved-then-channel
+loop-channel-preserved-then-channel c =
+    let l = c.loop-channel in
+    let cs = c.args.network.channels in
+    let none = sym (place_same cs (port_count * c.args.network.sites) l.channel-index (search rules) c.loop-channel-test.true)
+    ∙ c.if-channel.true in (
+      no_channel_lem cs l.fed _ l.channel-index _ refl l.invariant.0 none,
+      fed_skip cs l.fed l.channel-index l.invariant.1 none,
+      l.invariant.2,
     )
 
-pub bounds-fed-input : goal.bounds-fed-input
-bounds-fed-input c =
-    let wider = c.wider-input in
-    let if2 = c.if-is_input in
-    let is_input = c.is_input in
-    let args = c.args in
-    omega (arith, input_known _ _ args.network.sites _ wider.ensures.0 is_input.ensures if2.true)
+pub returns-then-not-is_input : goal.returns-then-not-is_input
+returns-then-not-is_input c =
+    let l = c.loop-channel in
+    let n = c.args.network in
+    let end = port_count * n.sites in
+    let long : end ≤ length n.channels = search rules in
+    let same = place_same n.channels end l.channel-index long c.loop-channel-test.true in
+    too_high n.channels l.fed _ l.channel-index _ same (place_below n.channels end l.channel-index long c.loop-channel-test.true)
+    (λ z. c.if-channel.false (same ∙ z)) (ltb-false _ _ (sym c.is_input.ensures ∙ c.if-not-is_input.true))
 
 pub returns-then-fed-input : goal.returns-then-fed-input
 returns-then-fed-input c =
-    let if3 = c.if-fed-input in
-    let wider = c.wider-input in
-    let if2 = c.if-is_input in
-    let is_input = c.is_input in
-    let if1 = c.if-channel in
-    let loop_test = c.loop-c-test in
-    let loop = c.loop-c in
-    let args = c.args in
-    let l = input_known _ _ args.network.sites _ wider.ensures.0 is_input.ensures if2.true in
-    fed_twice args.network.channels loop.fed _ loop.c wider.result wider.ensures.0 loop.invariant.4
-    loop.invariant.3 loop_test.true if1.false l loop.invariant.1 if3.true
+    let l = c.loop-channel in
+    let n = c.args.network in
+    let end = port_count * n.sites in
+    let long : end ≤ length n.channels = search rules in
+    let same = place_same n.channels end l.channel-index long c.loop-channel-test.true in
+    let known = input_known _ _ n.sites _ c.wider-input.ensures.0 c.is_input.ensures c.if-not-is_input.false in
+    fed_twice n.channels l.fed end l.channel-index _ (c.wider-input.ensures.0 ∙ same) l.invariant.1 l.invariant.2
+    (place_below n.channels end l.channel-index long c.loop-channel-test.true) (λ z. c.if-channel.false (same ∙ z)) known
+    (omega (arith, c.requires)) c.if-fed-input.true
 
-pub bounds-fed-input-then-is_input : goal.bounds-fed-input-then-is_input
-bounds-fed-input-then-is_input c =
-    let wider = c.wider-input in
-    let if2 = c.if-is_input in
-    let is_input = c.is_input in
-    let args = c.args in
-    omega (arith, input_known _ _ args.network.sites _ wider.ensures.0 is_input.ensures if2.true)
-
-pub overflow_add-c-then-is_input : goal.overflow_add-c-then-is_input
-overflow_add-c-then-is_input c = omega arith
-
-pub loop-c-smaller : goal.loop-c-smaller
-loop-c-smaller c = omega arith
-
-pub loop-c-preserved : goal.loop-c-preserved
-loop-c-preserved c =
-    let if3 = c.if-fed-input in
-    let wider = c.wider-input in
-    let if2 = c.if-is_input in
-    let is_input = c.is_input in
-    let if1 = c.if-channel in
-    let loop_test = c.loop-c-test in
-    let loop = c.loop-c in
-    let args = c.args in
-    let l = input_known _ _ args.network.sites _ wider.ensures.0 is_input.ensures if2.true in (
-      omega arith,
-      omega arith,
-      fed_once args.network.channels loop.fed _ loop.c wider.result wider.ensures.0 loop.invariant.4
-          loop.invariant.3 loop_test.true if1.false l loop.invariant.1 if3.false
-          loop.invariant.2,
-      simp length-set loop.invariant.3,
-      fed_now args.network.channels loop.fed _ loop.c wider.result wider.ensures.0 loop.invariant.4
-          loop.invariant.3 loop_test.true if1.false l loop.invariant.1,
+pub loop-channel-preserved : goal.loop-channel-preserved
+loop-channel-preserved c =
+    let l = c.loop-channel in
+    let n = c.args.network in
+    let end = port_count * n.sites in
+    let long : end ≤ length n.channels = search rules in
+    let same = place_same n.channels end l.channel-index long c.loop-channel-test.true in
+    let below = place_below n.channels end l.channel-index long c.loop-channel-test.true in
+    let known = input_known _ _ n.sites _ c.wider-input.ensures.0 c.is_input.ensures c.if-not-is_input.false in
+    let same_input = c.wider-input.ensures.0 ∙ same in
+    let other : place_at n.channels l.channel-index ≡ no_channel → ⊥ = λ z. c.if-channel.false (same ∙ z) in
+    let few : end ≤ port_count * sites_most = omega (arith, c.requires) in (
+      fed_once n.channels l.fed end l.channel-index _ same_input l.invariant.1 l.invariant.2 below other known few
+          c.if-fed-input.false l.invariant.0,
+      fed_now n.channels l.fed end l.channel-index _ same_input l.invariant.1 l.invariant.2 below other known few,
+      simp length-set l.invariant.2,
     )
-
-pub returns-in-loop-c : goal.returns-in-loop-c
-returns-in-loop-c c =
-    let if2 = c.if-is_input in
-    let is_input = c.is_input in
-    let if1 = c.if-channel in
-    let loop_test = c.loop-c-test in
-    let loop = c.loop-c in
-    let args = c.args in
-    too_high args.network.channels loop.fed _ loop.c _ refl loop_test.true if1.false
-    (ltb-false _ _ (sym is_input.ensures ∙ if2.false))
-
-pub returns : goal.returns
-returns c =
-    let loop = c.loop-c in
-    let args = c.args in
-    let e : loop.c ≡ 4 * args.network.sites = omega arith in sym (rw e at loop.invariant.2)

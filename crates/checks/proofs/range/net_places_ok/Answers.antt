@@ -1,18 +1,19 @@
-use native.Mathlib.Omega.{arith}
-use borrow.Author.Rules.{rules}
+use Rattle.std.proofs.Common.{rules, refl}
+use lib.ListN.{get_or}
+use mathlib.Core.Bool.{◌&&◌}
 use Rattle.base.specs.Sizes.{input_count}
-use Rattle.checks.proofs.RangeLaws.{all_none_two, all_next_two, all_end_two}
+use Rattle.base.specs.Ranges.{all_in_range}
+use Rattle.model.specs.Types.{input_d, out_of}
+use Rattle.model.specs.Range.{input_ok, output_ok}
+use Rattle.checks.proofs.RangeLaws.{all_two}
 use Rattle.checks.proofs.range.net_places_ok.Goals as goal
-
-pub loop-i-init : goal.loop-i-init
-loop-i-init c = (omega arith, all_none_two _ _)
-
-pub loop-i-preserved : goal.loop-i-preserved
-loop-i-preserved c =
-    let l = c.loop-i in
-    (search rules, all_next_two _ _ l.i _ _ _ l.invariant.1 c.input_ok.ensures c.output_ok.ensures)
 
 pub returns : goal.returns
 returns c =
-    let l = c.loop-i in
-    all_end_two _ _ input_count l.i _ _ l.invariant.0 (search rules) l.invariant.1 c.output_ok-2.ensures
+    let a = c.args in
+    all_two (λ i. input_ok a.edition a.sites a.limit a.counter a.outputs i (get_or a.inputs i input_d))
+    (λ j. output_ok a.edition a.sites a.counter j (out_of a.outputs j)) input_count _ _
+    (all_in_range (λ i. input_ok a.edition a.sites a.limit a.counter a.outputs i (get_or a.inputs i input_d)
+    && output_ok a.edition a.sites a.counter i (out_of a.outputs i)) input_count _ _ _ c.all.ensures.ran refl
+    (λ x b q k. search rules))
+    c.output_ok.ensures
