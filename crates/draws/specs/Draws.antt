@@ -1,8 +1,10 @@
 -- Draws, and the event that a draw names. The quoted phrases are document 01's. Assumes nothing.
-use Rattle.std.specs.Prelude.{Bool, cond, ◌&&◌, ◌≡◌, ℕ, zero, suc, ◌+◌, ◌*◌, ◌/◌, ◌%◌, ◌^◌, ◌≤◌, ◌<◌, eqb, leb}
+use Rattle.std.specs.Prelude.{Bool, cond, ◌&&◌, ◌≡◌, ℕ, zero, suc, ◌+◌, ◌*◌, ◌/◌, ◌%◌, ◌^◌, ◌≤◌, ◌<◌, eqb, leb, Result, Ok, Err}
 use Rattle.std.specs.Int.Bits.{bit_xor}
 use Rattle.base.specs.Sizes.{sites_most, code_count, split_code_count}
-use Rattle.draws.specs.declared.DrawnEvent.{DrawnEvent}
+use Rattle.base.specs.declared.refusal.Refusal.{Refusal}
+use Rattle.base.specs.Refusals.{number}
+use Rattle.draws.specs.declared.Event.{Event}
 
 -- "32 bits": a value with itself shifted left by k, cut to 32 bits, xored into it
 abbrev pub left_xor : ℕ → ℕ → ℕ
@@ -47,6 +49,17 @@ pub record Shares (codes share : ℕ) : Type 0 where
   pub small : share ≤ 65536
   pub divides : (m : ℕ) → m < split_code_count * sites_most → m * share / 65536 ≡ m / codes
   pub rests : (m : ℕ) → codes * (m / codes) + m % codes ≡ m
+
+-- the event RUN (site, code) that a value names; "A refusal's other numbers are zero."
+pub record DrawnEvent : Type 0 where
+  pub refusal : ℕ
+  pub site : ℕ
+  pub code : ℕ
+
+-- an answer in these numbers
+abbrev pub told : Result Event Refusal → DrawnEvent
+told (Ok e) = record { refusal = 0; site = e.site; code = e.code }
+told (Err r) = record { refusal = number r; site = 0; code = 0 }
 
 -- the event in a network of S sites; "3 | S, T or D outside its limits", and "A refusal's other numbers are zero."
 unfoldable pub event_of : ℕ → ℕ → ℕ → DrawnEvent

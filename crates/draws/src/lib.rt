@@ -6,15 +6,16 @@ ghost use Rattle.std.specs.Prelude.{◌≡◌, ◌*◌, ◌/◌, ◌%◌, ◌≤
 ghost use Rattle.base.specs.Sizes.{sites_most, code_count, split_code_count};
 ghost use Rattle.draws.specs.Draws as spec;
 
+use base::Refusal;
+
 // 65536 / 13 and 65536 / 15, rounded up.
 const THIRTEENTH: usize = 5042;
 
 const FIFTEENTH: usize = 4370;
 
-// The event RUN (site, code) that a value names; with a refusal other than 0 it names none, and both are 0.
+// The event RUN (site, code) that a value names.
 #[derive(Clone, Copy)]
-pub struct DrawnEvent {
-    pub refusal: u8,
+pub struct Event {
     pub site: usize,
     pub code: usize,
 }
@@ -48,32 +49,27 @@ pub fn codes_in(edition: u8) -> usize
 
 // The event that a value names among so many sites and codes. The whole division by the codes is a product with their share of
 // 65536: a division by a number that is known only when the program runs would be the dearest part of a draw.
-fn named(value: u32, sites: usize, codes: usize, share: usize) -> DrawnEvent
+fn named(value: u32, sites: usize, codes: usize, share: usize) -> Event
     requires { (1 ≤ sites) × (sites ≤ sites_most) × (code_count ≤ codes) × (codes ≤ split_code_count) × spec.Shares codes share }
-    ensures { result ≡ record { refusal = 0; site = value % (codes * sites) / codes; code = value % (codes * sites) % codes } }
+    ensures { result ≡ record { site = value % (codes * sites) / codes; code = value % (codes * sites) % codes } }
 {
     let m = (value as usize) % (codes * sites);
     let site = m * share / 65536;
-    DrawnEvent {
-        refusal: 0,
+    Event {
         site,
         code: m - codes * site,
     }
 }
 
 // The event that a value names in a network of so many sites by an edition's codes; refusal 3 where no network has so many.
-pub fn event_of(value: u32, sites: usize, edition: u8) -> DrawnEvent
-    ensures { result ≡ spec.event_of edition sites value }
+pub fn event_of(value: u32, sites: usize, edition: u8) -> Result<Event, Refusal>
+    ensures { spec.told result ≡ spec.event_of edition sites value }
 {
     if (1 <= sites) & (sites <= base::SITES) {
         if is_restricted(edition) {
-            return named(value, sites, base::SPLIT_CODES, FIFTEENTH);
+            return Ok(named(value, sites, base::SPLIT_CODES, FIFTEENTH));
         }
-        return named(value, sites, base::CODES, THIRTEENTH);
+        return Ok(named(value, sites, base::CODES, THIRTEENTH));
     }
-    DrawnEvent {
-        refusal: 3,
-        site: 0,
-        code: 0,
-    }
+    Err(Refusal::Sizes)
 }

@@ -1,5 +1,8 @@
 -- `draws::event_of` meets its contract. Assumes nothing.
-use mathlib.Core.Path.{◌≡◌, refl, sym, ◌∙◌}
+use Rattle.std.proofs.Common.{Ok}
+use Rattle.draws.specs.declared.Event.{Event}
+use Rattle.draws.specs.Draws.{told}
+use mathlib.Core.Path.{◌≡◌, refl, sym, ap, ◌∙◌}
 use mathlib.Core.Bool.{true, ◌&&◌}
 use Prim.Native.Nat.{ℕ, ◌≤◌}
 use native.Mathlib.Omega.{arith}
@@ -20,7 +23,7 @@ pub returns-then-is_restricted : goal.returns-then-is_restricted
 returns-then-is_restricted c =
     let a = c.args in
     let l = limits a.sites c.if-sites.true in
-    c.named.ensures
+    ap (λ (e : Event). told (Ok e)) c.named.ensures
     ∙ sym (event_named a.edition a.sites a.value l.0 l.1 ∙ rw (← c.is_restricted.ensures, c.if-is_restricted.true) refl)
 
 pub named-requires-then-sites : goal.named-requires-then-sites
@@ -30,7 +33,7 @@ pub returns-then-sites : goal.returns-then-sites
 returns-then-sites c =
     let a = c.args in
     let l = limits a.sites c.if-sites.true in
-    c.named-then-sites.ensures
+    ap (λ (e : Event). told (Ok e)) c.named-then-sites.ensures
     ∙ sym (event_named a.edition a.sites a.value l.0 l.1 ∙ rw (← c.is_restricted.ensures, c.if-is_restricted.false) refl)
 
 pub returns : goal.returns
