@@ -8,7 +8,7 @@ use native.Mathlib.Omega.{arith}
 use Rattle.base.specs.Bools.{cond_ok}
 use Rattle.latency.specs.Latency.{arguments_ok, ceiling, twice_unicast, twice_multi, twice_resumable, twice_restricted}
 use Rattle.latency.specs.Latency.{by_cycles, outside, latencies}
-use Rattle.latency.specs.declared.Latencies.{Latencies}
+use Rattle.latency.specs.Latency.{Latencies}
 
 -- ---- one target
 

@@ -11,7 +11,7 @@ use lib.Dec.{eqb, leb}
 use Rattle.base.specs.Bools.{cond_ok, both, both3}
 use Rattle.latency.specs.Latency.{argument_most, argument_ok, arguments_ok, ceiling, twice_unicast, twice_multi}
 use Rattle.latency.specs.Latency.{twice_resumable, twice_restricted, by_cycles, outside, latencies}
-use Rattle.latency.specs.declared.Latencies.{Latencies}
+use Rattle.latency.specs.Latency.{Latencies}
 
 -- ---- the arguments
 

@@ -17,7 +17,7 @@ use Rattle.lines.specs.Add.{Added}
 use Rattle.lines.specs.Text.{ascii, decimal, answer_line, refused_line}
 use Rattle.report.proofs.Numbers.{decimal_most}
 use Rattle.report.proofs.Puts.{front_counts}
-use Rattle.latency.specs.declared.Latencies.{Latencies}
+use Rattle.latency.specs.Latency.{Latencies}
 use Rattle.quote.specs.Text.{half_line, whole_line, value_line, value_lines, latencies_text, text_most}
 use Rattle.quote.specs.Text.{latencies_of, quote_text, quote_of}
 use Rattle.quote.specs.declared.text.Quoted.{Quoted}

@@ -3,7 +3,7 @@
 use Rattle.std.specs.Prelude.{ℕ, ◌/◌, ◌%◌, Bool, cond, List, [], ◌++◌, eqb, length, get_or}
 use Rattle.lines.specs.Text.{ascii, decimal, refused_line}
 use Rattle.latency.specs.Latency.{latencies}
-use Rattle.latency.specs.declared.Latencies.{Latencies}
+use Rattle.latency.specs.Latency.{Latencies}
 use Rattle.quote.specs.declared.text.Quoted.{Quoted}
 
 -- the half of v: `40` for 80, `89.5` for 179

@@ -1,19 +1,15 @@
 -- `latency::ceiling` meets its contract. Assumes nothing.
-use mathlib.Core.Path.{refl}
-use Prim.Native.Nat.{◌%◌}
-use native.Mathlib.Nat.{div-le_self}
-use native.Mathlib.Omega.{arith}
+use Rattle.std.proofs.Common.{◌≡◌, ◌∙◌, ℕ, zero, suc, ◌+◌, ◌/◌, ◌%◌, min, cond, eqb, arith}
 use borrow.Author.Tests.{ne_eqb}
 use Rattle.latency.specs.Latency.{ceiling}
 use Rattle.latency.proofs.ceiling.Goals as goal
 
-pub returns-then-x-w-eq0 : goal.returns-then-x-w-eq0
-unfolding ceiling
-returns-then-x-w-eq0 c = rw c.if-x-w-eq0.true refl
-
-pub overflow_add-result : goal.overflow_add-result
-overflow_add-result c = let a = c.args in omega (arith, div-le_self a.x a.w, c.requires.1)
+-- one more where a rest is left
+one_more : (q r : ℕ) → q + min 1 r ≡ cond (eqb r 0) q (q + 1)
+one_more q zero = let e : q + min 1 0 ≡ q = omega arith in e
+one_more q (suc r) =
+    let e : q + min 1 (suc r) ≡ q + 1 = omega arith in rw (ne_eqb (suc r) 0 (λ z. omega (arith, z))) e
 
 pub returns : goal.returns
 unfolding ceiling
-returns c = let a = c.args in rw (ne_eqb (a.x % a.w) 0 c.if-x-w-eq0.false) refl
+returns c = let a = c.args in c.div_ceil.ensures ∙ one_more (a.x / a.w) (a.x % a.w)
