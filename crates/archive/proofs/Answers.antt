@@ -17,8 +17,8 @@ use Rattle.model.specs.Types.{send_at}
 use Rattle.model.specs.Network.{version_ok, edition_ok, sizes_ok, channels_ok, routes_ok, network_refusal}
 use Rattle.theorems.proofs.Networks.{kind_known}
 use Rattle.model.specs.Runs.{sends_ok, stored_refusal}
-use Rattle.format.specs.declared.Decoded.{Decoded}
-use Rattle.format.specs.declared.Written.{Written}
+use Rattle.format.specs.Refusals.{Decoded}
+use Rattle.format.specs.Refusals.{Written}
 use Rattle.format.specs.Format.{length_of, encode, run_of, no_run}
 use Rattle.base.specs.Put.{put, put_front}
 use Rattle.archive.specs.Code.{front_refusal}

@@ -15,7 +15,7 @@ use Rattle.base.specs.Put.{put, put_front}
 use Rattle.types.specs.declared.Run.{Run}
 use Rattle.model.specs.Network.{version_ok, edition_ok, sites_in, sizes_ok, channels_ok, routes_ok, network_under}
 use Rattle.model.specs.Runs.{sends_ok, body_refusal}
-use Rattle.format.specs.declared.Written.{Written}
+use Rattle.format.specs.Refusals.{Written}
 use Rattle.format.specs.Format.{length_of, version_of, network_of, run_of}
 use Rattle.format.specs.Refusals.{least_length, length_ok, size_ok, head_then, read_refusal}
 use Rattle.format.specs.Moves.{run_under, file_under, file_refusal, goes_into, go_refusal, move_refusal, move_answer}

@@ -5,6 +5,7 @@ pub mod Versions
 pub mod HeadLaws
 pub mod Held
 pub mod Fed
+pub mod Searched
 pub mod Rows
 pub mod Parts
 pub mod Theorems

@@ -14,7 +14,7 @@ use Rattle.model.specs.Network.{version_ok, edition_ok, sizes_ok}
 use Rattle.model.specs.Runs.{body_refusal}
 use Rattle.format.specs.Format.{network_of, run_of}
 use Rattle.format.specs.Refusals.{length_ok, size_ok, head_then, read_refusal}
-use Rattle.format.specs.declared.Fault.{Fault}
+use Rattle.format.specs.Faults.{Fault}
 use Rattle.format.specs.First.{first}
 use Rattle.format.specs.Faults.{item_count, place_of, fault_of}
 use Rattle.faults.proofs.HeadLaws.{head_then_lem}

@@ -10,7 +10,7 @@ use Rattle.base.specs.All.{all, all_at, all_by}
 use Rattle.base.specs.Flat.{place_below}
 use Rattle.types.specs.declared.Network.{Network}
 use Rattle.model.specs.Network.{route_ok, routes_ok}
-use Rattle.format.specs.First.{first, first_at, left_none, found_at}
+use Rattle.format.specs.First.{Fails}
 use Rattle.format.specs.Faults.{numbered_ok}
 use Rattle.faults.proofs.Numbers.{row_below, rest_below}
 
@@ -71,23 +71,21 @@ module _ (n : Network) (s : ℕ) (rows : all (λ k. all (route_ok n k) n.sites) 
           let q : i / n.sites ≡ s = omega (arith, row_or_rest n.sites s t i l h) in
           ap (λ (k : ℕ). route_ok n k (i % n.sites)) q ∙ f (i % n.sites) (rest_before n.sites s t i h q)
 
-  -- t is where the search through row s ends
-  found : (t : ℕ) → s < n.sites → t ≡ first (route_ok n s) n.sites → t < n.sites
-      → s * n.sites + t ≡ first (numbered_ok n) (n.sites * n.sites)
-  found t ls e l =
-      let f = found_at (route_ok n s) n.sites t e l in
-      sym
-      (first_at (numbered_ok n) (n.sites * n.sites) (s * n.sites + t)
-      (place_below s t n.sites n.sites ls l (le_refl n.sites))
-      (route_numbered n s t l ∙ f.here)
-      (λ i h. earlier t i l f.before h))
+  -- t is the first that fails in row s
+  found : (t : ℕ) → s < n.sites → Fails (route_ok n s) n.sites t → Fails (numbered_ok n) (n.sites * n.sites) (s * n.sites + t)
+  found t ls f =
+      record {
+        below = place_below s t n.sites n.sites ls f.below (le_refl n.sites);
+        here = route_numbered n s t f.below ∙ f.here;
+        before = λ i h. earlier t i f.below f.before h;
+      }
 
 -- with S as the code has it
 module _ (n : Network) (S s : ℕ) (eS : S ≡ n.sites) (rows : all (λ k. all (route_ok n k) S) s ≡ true) where
-  pub row_found : (t : ℕ) → s < S → t ≡ first (route_ok n s) S → t < S → s * S + t ≡ first (numbered_ok n) (S * S)
-  row_found t ls e l = rw eS (found n s (rw eS at rows) t (rw eS at ls) (rw eS at e) (rw eS at l))
+  pub row_found : (t : ℕ) → s < S → Fails (route_ok n s) S t → Fails (numbered_ok n) (S * S) (s * S + t)
+  row_found t ls f = rw eS (found n s (rw eS at rows) t (rw eS at ls) (rw eS at f))
 
-  pub rows_passed : s ≡ S → S * S ≡ first (numbered_ok n) (S * S)
+  pub rows_passed : s ≡ S → all (numbered_ok n) (S * S) ≡ true
   rows_passed e =
       let all-rows : all (λ k. all (route_ok n k) n.sites) n.sites ≡ true = rw (e, eS) at rows in
-      rw eS (left_none (numbered_ok n) (n.sites * n.sites) (routes_numbered n ∙ all-rows))
+      rw eS (routes_numbered n ∙ all-rows)

@@ -1,10 +1,12 @@
 // The head of an archive: the refusals 1, 2, 17, 3, 4 and 5.
 ghost use Rattle.std.specs.Prelude.{◌≡◌, ◌+◌, ◌≤◌, ◌<◌, length};
+ghost use Rattle.base.specs.Refusals.{refusal_of};
 ghost use Rattle.model.specs.Network.{sizes_ok};
 ghost use Rattle.format.specs.Format.{word, quad, version_of, network_of};
 ghost use Rattle.format.specs.Refusals.{least_length, size_ok, fields_then, head_then};
 
 use crate::places::{edition_of, fields_place, size_of};
+use base::Refusal;
 
 // The two bytes from place i on.
 pub(crate) fn word_at(b: &[u8], i: usize) -> u16
@@ -45,37 +47,34 @@ fn has_length(b: &[u8], version: u8) -> bool
     b.len() == size_of(version, b[p], b[p + 9])
 }
 
-// 3, 4 or 5, or 0: the fields behind version and edition.
-fn fields_refusal(b: &[u8], version: u8) -> u8
+// 3, 4 or 5: the fields behind version and edition.
+fn fields_refusal(b: &[u8], version: u8) -> Result<(), Refusal>
     requires { (least_length ≤ length b.now) × (version ≡ version_of b.now) }
-    ensures { result ≡ fields_then b.now 0 }
+    ensures { refusal_of result ≡ fields_then b.now 0 }
 {
-    if has_sizes(b, version) {
-        if quad_at(b, fields_place(version) + 3) == 0 {
-            return 4;
-        }
-        if has_length(b, version) {
-            return 0;
-        }
-        return 5;
+    if !has_sizes(b, version) {
+        return Err(Refusal::Sizes);
     }
-    3
+    if quad_at(b, fields_place(version) + 3) == 0 {
+        return Err(Refusal::Seed);
+    }
+    if !has_length(b, version) {
+        return Err(Refusal::Count);
+    }
+    Ok(())
 }
 
-// 1, 2, 17, 3, 4 or 5, or 0.
-pub(crate) fn head_refusal(b: &[u8]) -> u8
-    ensures { result ≡ head_then b.now 0 }
+// 1, 2, 17, 3, 4 or 5.
+pub(crate) fn head_refusal(b: &[u8]) -> Result<(), Refusal>
+    ensures { refusal_of result ≡ head_then b.now 0 }
 {
     if b.len() < 13 {
-        return 1;
+        return Err(Refusal::Length);
     }
-    if (word_at(b, 0) as usize) != b.len() {
-        return 1;
+    if base::wider(word_at(b, 0)) != b.len() {
+        return Err(Refusal::Length);
     }
     let version = b[2];
-    let kind = checks::kind_refusal(version, edition_of(version, b[3]));
-    if kind != 0 {
-        return kind;
-    }
+    checks::kind_refusal(version, edition_of(version, b[3]))?;
     fields_refusal(b, version)
 }

@@ -5,50 +5,47 @@
 #![tactic(auto)]
 
 ghost use Rattle.std.specs.Prelude.{◌≡◌};
-ghost use Rattle.format.specs.Faults.{fault_of};
+ghost use Rattle.format.specs.Faults.{fault_of, told_fault};
 
 mod head;
 mod places;
 mod search;
 mod tests;
 
+use base::Refusal;
 pub use format::Fault;
 pub use places::{
     channel_of, channel_place, edition_of, fields_place, routes_place, send_place, size_of,
 };
 
-fn fault(refusal: u8, place: usize) -> Fault
-    ensures { result ≡ record { refusal = refusal; place = place } }
+// The reader's refusal of these bytes, and its place; none where they are an archive.
+pub fn find(bytes: &[u8]) -> Option<Fault>
+    ensures { told_fault result ≡ fault_of bytes.now }
 {
-    Fault {
-        refusal: refusal,
-        place: place,
-    }
-}
-
-// The reader's refusal of these bytes, and its place.
-pub fn find(bytes: &[u8]) -> Fault
-    ensures { result ≡ fault_of bytes.now }
-{
-    let refusal = head::head_refusal(bytes);
-    if refusal != 0 {
-        return fault(refusal, 0);
+    if let Err(refusal) = head::head_refusal(bytes) {
+        return Some(Fault { refusal, place: 0 });
     }
     let version = bytes[2];
     let p = fields_place(version);
     let sites = base::wide(bytes[p]);
-    let channel = search::first_channel(bytes, version, sites);
-    if channel < base::PORTS * sites {
-        return fault(6, channel);
+    if let Some(place) = search::first_channel(bytes, version, sites) {
+        return Some(Fault {
+            refusal: Refusal::Channels,
+            place,
+        });
     }
-    let route = search::first_route(bytes, version, sites);
-    if route < sites * sites {
-        return fault(7, route);
+    if let Some(place) = search::first_route(bytes, version, sites) {
+        return Some(Fault {
+            refusal: Refusal::Routes,
+            place,
+        });
     }
     let sends = base::wide(bytes[p + 9]);
-    let send = search::first_send(bytes, version, sites, sends);
-    if send < sends {
-        return fault(8, send);
+    if let Some(place) = search::first_send(bytes, version, sites, sends) {
+        return Some(Fault {
+            refusal: Refusal::Sends,
+            place,
+        });
     }
-    fault(0, 0)
+    None
 }

@@ -25,10 +25,8 @@ fn byte_is_first(b: &[u8], m: usize, byte: u8) -> bool
     ensures { result ≡ all (byte_differs b.now byte) m }
 {
     let mut is_new = true;
-    let mut i: usize = 0;
-    while i < m {
+    for i in 0..m {
         is_new = is_new & (b[13 + i] != byte);
-        i += 1;
     }
     is_new
 }
@@ -39,10 +37,8 @@ fn pair_is_first(b: &[u8], m: usize, high: u8, low: u8) -> bool
     ensures { result ≡ all (pair_differs b.now high low) m }
 {
     let mut is_new = true;
-    let mut i: usize = 0;
-    while i < m {
+    for i in 0..m {
         is_new = is_new & ((b[14 + 2 * i] != high) | (b[15 + 2 * i] != low));
-        i += 1;
     }
     is_new
 }

@@ -9,7 +9,7 @@ use Rattle.base.specs.All.{all}
 use Rattle.model.specs.Runs.{body_refusal}
 use Rattle.format.specs.Format.{network_of, run_of}
 use Rattle.format.specs.Refusals.{head_then, read_refusal}
-use Rattle.format.specs.declared.Fault.{Fault}
+use Rattle.format.specs.Faults.{Fault}
 use Rattle.format.specs.First.{first}
 use Rattle.format.specs.Faults.{item_count, item_ok, place_of, fault_of}
 

@@ -1,5 +1,5 @@
 -- The first number below a bound at which a test fails, and what it is known by. Assumes nothing.
-use Rattle.std.specs.Prelude.{◌≡◌, refl, Bool, true, false, cond, ℕ, zero, suc, ◌≤◌, ◌<◌}
+use Rattle.std.specs.Prelude.{◌≡◌, refl, Bool, true, false, cond, ℕ, zero, suc, ◌≤◌, ◌<◌, Option, MatchOption}
 use Rattle.std.proofs.Common.{sym, ap, ◌∙◌, subst, suc-le-suc, not-suc-le-zero, le_of_suc-le-suc, zero-lt-suc, arith}
 use Rattle.base.specs.Bools.{clash, either_way}
 use Rattle.base.specs.All.{all, all_at, all_by, all_fails}
@@ -14,6 +14,10 @@ pub record Fails (p : ℕ → Bool) (n k : ℕ) : Type 0 where
   pub below : k < n
   pub here : p k ≡ false
   pub before : (i : ℕ) → i < k → p i ≡ true
+
+-- what a search below n for it answers
+abbrev pub Found : (ℕ → Bool) → ℕ → Option ℕ → Type 0
+Found p n r = MatchOption r (all p n ≡ true) (Fails p n)
 
 -- what holds at 0 and of each number after it
 from_first : (p : ℕ → Bool) (n : ℕ) → p zero ≡ true → ((i : ℕ) → i < n → p (suc i) ≡ true)
@@ -42,6 +46,9 @@ left_at p n k h a e = sym (first_at p n k h e (λ i l. all_at p i k l a))
 
 pub left_none : (p : ℕ → Bool) (n : ℕ) → all p n ≡ true → n ≡ first p n
 left_none p n a = sym (first_none p n (λ i l. all_at p i n l a))
+
+pub fails_next : (p : ℕ → Bool) (n k : ℕ) → k < n → all p k ≡ true → p k ≡ false → Fails p n k
+fails_next p n k l a e = record { below = l; here = e; before = λ i h. all_at p i k h a }
 
 -- ---- what is found
 

@@ -6,9 +6,8 @@ use Rattle.base.specs.Sizes.{first_sites}
 use Rattle.base.specs.Answers.{or_next, at_front}
 use Rattle.types.specs.declared.Run.{Run}
 use Rattle.model.specs.Runs.{under}
-use Rattle.format.specs.declared.Written.{Written}
 use Rattle.format.specs.Format.{in_version, length_of, encode, version_of, run_of}
-use Rattle.format.specs.Refusals.{length_ok, read_refusal}
+use Rattle.format.specs.Refusals.{Written, length_ok, read_refusal}
 
 -- the run of bytes b under version v, and its file
 abbrev pub run_under : ℕ → List ℕ → Run

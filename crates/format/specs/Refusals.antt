@@ -1,12 +1,12 @@
 -- What reader and writer answer (document 01, "Numbers given back when something is turned down", and L4's 2 and 17): the
 -- refusal, and what stands beside it. The network's and the run's own tests are the model's.
-use Rattle.std.specs.Prelude.{Bool, cond, ◌&&◌, List, ℕ, eqb, ltb, leb, length}
+use Rattle.std.specs.Prelude.{Bool, cond, ◌&&◌, List, ℕ, eqb, ltb, leb, length, Result, Ok, Err}
 use Rattle.types.specs.declared.Run.{Run}
 use Rattle.base.specs.Answers.{or_next, at_front}
 use Rattle.model.specs.Network.{kind_then, sizes_ok}
 use Rattle.model.specs.Runs.{body_refusal, stored_refusal}
-use Rattle.format.specs.declared.Decoded.{Decoded}
-use Rattle.format.specs.declared.Written.{Written}
+use Rattle.base.specs.declared.refusal.Refusal.{Refusal}
+use Rattle.base.specs.Refusals.{number}
 use Rattle.format.specs.Format.{word, length_place, length_of, encode, network_of, run_of, no_run}
 
 -- ---- the reader, "1 to 8", with 17 behind 2
@@ -36,6 +36,15 @@ unfoldable pub read_refusal : List ℕ → ℕ
 read_refusal b = head_then b (body_refusal (run_of b))
 
 -- the run, or the refusal and the all-zero run
+pub record Decoded : Type 0 where
+  pub refusal : ℕ
+  pub run : Run
+
+-- an answer of the code in these words
+abbrev pub told_run : Result Run Refusal → Decoded
+told_run (Ok r) = record { refusal = 0; run = r }
+told_run (Err e) = record { refusal = number e; run = no_run }
+
 unfoldable pub decode : List ℕ → Decoded
 decode b =
     cond (eqb (read_refusal b) 0) (record { refusal = 0; run = run_of b })
@@ -47,7 +56,16 @@ decode b =
 unfoldable pub write_refusal : Run → ℕ → ℕ
 write_refusal r room = or_next (stored_refusal r) (cond (ltb room (length_of r)) 14 0)
 
--- "A refusal's other numbers are zero."
+-- the bytes written, or the refusal and 0: "A refusal's other numbers are zero."
+pub record Written : Type 0 where
+  pub refusal : ℕ
+  pub length : ℕ
+
+-- an answer of the code in these words
+abbrev pub told_length : Result ℕ Refusal → Written
+told_length (Ok n) = record { refusal = 0; length = n }
+told_length (Err e) = record { refusal = number e; length = 0 }
+
 unfoldable pub write_answer : Run → ℕ → Written
 write_answer r room =
     cond (eqb (write_refusal r room) 0) (record { refusal = 0; length = length_of r })

@@ -11,24 +11,10 @@ pub const LONGEST: usize = 14
     + 2 * base::SITES * base::SITES
     + 11 * base::SENDS;
 
-// What the reader answers: the run, or the refusal and the all-zero run.
-#[derive(Clone, Copy)]
-pub struct Decoded {
-    pub refusal: u8,
-    pub run: types::Run,
-}
-
-// What the writer and a move answer: how many bytes they wrote, or the refusal and 0.
-#[derive(Clone, Copy)]
-pub struct Written {
-    pub refusal: u8,
-    pub length: usize,
-}
-
-// What the reader answers, and the number of the first channel (4 x site + port - 1), route (from-site x S + to-site)
-// or send at fault; 0 where nothing is wrong or the head is.
+// Where the reader finds bytes at fault: its refusal, and the number of the first channel (4 x site + port - 1), route (from-site
+// x S + to-site) or send at fault; 0 where the head is.
 #[derive(Clone, Copy)]
 pub struct Fault {
-    pub refusal: u8,
+    pub refusal: base::Refusal,
     pub place: usize,
 }

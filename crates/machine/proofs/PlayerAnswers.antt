@@ -13,7 +13,7 @@ use Rattle.types.specs.declared.Counts.{Counts}
 use Rattle.types.specs.declared.Run.{Run}
 use Rattle.model.specs.Types.{send_d}
 use Rattle.model.specs.Runs.{stored_refusal, no_sends, book_room, played_run, counts_of}
-use Rattle.format.specs.declared.Decoded.{Decoded}
+use Rattle.format.specs.Refusals.{Decoded}
 use Rattle.format.specs.Format.{run_of, send_of, send_width, sends_place, version_of, sites_of, count_of, no_run}
 use Rattle.format.specs.Refusals.{read_refusal, decode}
 use Rattle.archive.proofs.Passed.{stored_read}

@@ -12,7 +12,7 @@ use Rattle.types.specs.declared.StoredSend.{StoredSend}
 use Rattle.model.specs.Types.{send_d}
 use Rattle.model.specs.Runs.{stored_refusal, book_bytes, book_room, played_run, counts_of}
 use Rattle.format.specs.Format.{run_of}
-use Rattle.format.specs.declared.Decoded.{Decoded}
+use Rattle.format.specs.Refusals.{Decoded}
 use Rattle.format.specs.Refusals.{read_refusal, decode}
 use Rattle.machine.specs.declared.player.PlayAnswer.{PlayAnswer}
 

@@ -1,6 +1,6 @@
 -- `fennqualo_over` meets its contract: the refusal of a move's answer. Assumes nothing.
 use mathlib.Core.Path.{ap, ◌∙◌}
-use Rattle.format.specs.declared.Written.{Written}
+use Rattle.format.specs.Refusals.{Written}
 use Rattle.archive.proofs.MoveLaws.{answer_refusal}
 use Rattle.exports.proofs.fennqualo_over.Goals as goal
 

@@ -1,6 +1,6 @@
 -- `mover::file_refusal` meets its contract: 1, then 2, then the reader's refusals. Assumes nothing.
 use mathlib.Core.Path.{ap, ◌∙◌}
-use Rattle.format.specs.declared.Fault.{Fault}
+use Rattle.format.specs.Faults.{Fault}
 use Rattle.archive.proofs.Answers.{fault_refusal}
 use Rattle.archive.proofs.MoveLaws.{file_short, file_bytes, file_other, file_read}
 use native.Mathlib.Omega.{arith}

@@ -1,7 +1,7 @@
 -- `reader::read` meets its contract, one law of Answers for each way. Assumes nothing.
 use mathlib.Core.Path.{sym, ap, ◌∙◌}
 use native.Mathlib.Omega.{arith}
-use Rattle.format.specs.declared.Fault.{Fault}
+use Rattle.format.specs.Faults.{Fault}
 use Rattle.faults.proofs.HeadLaws.{read_passes}
 use Rattle.archive.proofs.Answers.{fault_refusal, decode_no, decode_yes}
 use Rattle.archive.proofs.reader.read.Goals as goal

@@ -6,7 +6,7 @@ use Prim.Native.Nat.{ℕ, ◌≤◌}
 use native.Mathlib.Omega.{arith}
 use Rattle.base.specs.All.{all_none, all_more}
 use Rattle.format.specs.Format.{routes_place}
-use Rattle.format.specs.First.{left_at, left_none}
+use Rattle.format.specs.First.{fails_next}
 use Rattle.faults.specs.Head.{Read}
 use Rattle.faults.proofs.Versions.{routes_begin}
 use Rattle.faults.proofs.Held.{sized, route_tested, row_small, route_inside}
@@ -59,31 +59,21 @@ word_at-route-requires c =
       route_inside args.b.now args.version args.sites pre.0 args.s c.loop-t.t pre.1 c.loop-t-test.true,
     )
 
-pub overflow_add-t : goal.overflow_add-t
-overflow_add-t c = omega arith
-
-pub loop-t-smaller : goal.loop-t-smaller
-loop-t-smaller c = omega arith
-
 pub loop-t-preserved : goal.loop-t-preserved
 loop-t-preserved c =
     let pre = c.requires in
     let tested =
     route_tested _ _ _ pre.0 c.args.s c.loop-t.t _ _ _ _ pre.1 c.loop-t-test.true (omega (arith, c.routes_place.ensures))
     c.ports_at-ports.ensures c.word_at-route.ensures c.route_ok.ensures in
-    (omega arith, all_more _ _ c.loop-t.invariant.1 (sym tested ∙ c.if-route_ok.true))
+    (omega arith, all_more _ _ c.loop-t.invariant.1 (sym tested ∙ c.if-not-route_ok.false))
 
-pub returns-else-route_ok : goal.returns-else-route_ok
-returns-else-route_ok c =
+pub returns : goal.returns
+returns c = let e : c.loop-t.t ≡ c.args.sites = omega arith in rw e at c.loop-t.invariant.1
+
+pub returns-then-not-route_ok : goal.returns-then-not-route_ok
+returns-then-not-route_ok c =
     let pre = c.requires in
     let tested =
     route_tested _ _ _ pre.0 c.args.s c.loop-t.t _ _ _ _ pre.1 c.loop-t-test.true (omega (arith, c.routes_place.ensures))
     c.ports_at-ports.ensures c.word_at-route.ensures c.route_ok.ensures in
-    left_at _ _ _ c.loop-t-test.true c.loop-t.invariant.1 (sym tested ∙ c.if-route_ok.false)
-
-pub returns : goal.returns
-returns c =
-    let loop = c.loop-t in
-    let sites = c.args.sites in
-    let e : loop.t ≡ sites = omega arith in
-    left_none _ sites (rw e at loop.invariant.1)
+    fails_next _ _ _ c.loop-t-test.true c.loop-t.invariant.1 (sym tested ∙ c.if-not-route_ok.true)

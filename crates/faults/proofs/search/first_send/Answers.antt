@@ -7,7 +7,7 @@ use native.Mathlib.Omega.{arith}
 use lib.ListN.{length}
 use Rattle.base.specs.All.{all_none, all_more}
 use Rattle.format.specs.Format.{word, send_width, sites_place, draws_place, sends_place, count_of}
-use Rattle.format.specs.First.{left_at, left_none}
+use Rattle.format.specs.First.{fails_next}
 use Rattle.faults.specs.Head.{Read}
 use Rattle.faults.proofs.Versions.{edition_small, set_some}
 use Rattle.faults.proofs.Held.{sized, send_tested, draw_kept, send_inside}
@@ -62,12 +62,6 @@ bounds-b-at c =
     let pre = c.requires in
     omega (arith, inside _ _ _ _ _ _ pre.0 pre.1 c.loop-k-test.true c.send_place-at.ensures)
 
-pub overflow_add-k : goal.overflow_add-k
-overflow_add-k c = omega arith
-
-pub loop-k-smaller : goal.loop-k-smaller
-loop-k-smaller c = omega arith
-
 pub loop-k-preserved : goal.loop-k-preserved
 loop-k-preserved c =
     let pre = c.requires in
@@ -78,20 +72,16 @@ loop-k-preserved c =
     let kept =
     draw_kept _ _ _ pre.0 _ _ _ pre.1 c.send_place-at.ensures c.loop-k-test.true pre.2 _ _ c.word_at-draw.ensures
     c.set_at-set.ensures in
-    (omega arith, kept, all_more _ _ c.loop-k.invariant.2 (sym tested ∙ c.if-stored_ok.true))
+    (omega arith, kept, all_more _ _ c.loop-k.invariant.2 (sym tested ∙ c.if-not-stored_ok.false))
 
-pub returns-else-stored_ok : goal.returns-else-stored_ok
-returns-else-stored_ok c =
+pub returns : goal.returns
+returns c = let e : c.loop-k.k ≡ c.args.sends = omega arith in rw e at c.loop-k.invariant.2
+
+pub returns-then-not-stored_ok : goal.returns-then-not-stored_ok
+returns-then-not-stored_ok c =
     let pre = c.requires in
     let draws = draws_read _ _ _ _ c.fields_place.ensures c.word_at-draws.ensures in
     let tested =
     send_tested _ _ _ pre.0 _ _ _ pre.1 c.send_place-at.ensures c.loop-k-test.true pre.2 _ _ c.word_at-draw.ensures
     c.set_at-set.ensures _ _ _ draws c.loop-k.invariant.1 c.stored_ok.ensures in
-    left_at _ _ _ c.loop-k-test.true c.loop-k.invariant.2 (sym tested ∙ c.if-stored_ok.false)
-
-pub returns : goal.returns
-returns c =
-    let loop = c.loop-k in
-    let sends = c.args.sends in
-    let e : loop.k ≡ sends = omega arith in
-    left_none _ sends (rw e at loop.invariant.2)
+    fails_next _ _ _ c.loop-k-test.true c.loop-k.invariant.2 (sym tested ∙ c.if-not-stored_ok.true)

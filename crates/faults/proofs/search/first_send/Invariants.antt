@@ -2,7 +2,7 @@
 -- that fails. Assumes nothing.
 use mathlib.Core.Path.{◌≡◌}
 use mathlib.Core.Bool.{true}
-use Prim.Native.Nat.{◌-◌, ◌≤◌}
+use Prim.Native.Nat.{◌≤◌}
 use Rattle.base.specs.All.{all}
 use Rattle.model.specs.Types.{send_at}
 use Rattle.model.specs.Runs.{send_ok}
@@ -12,6 +12,3 @@ use Rattle.faults.proofs.search.first_send.Given as goal
 
 abbrev pub invariant-loop-k : goal.invariant-loop-k
 invariant-loop-k l = (l.k ≤ l.sends) × (l.last ≡ draw_before (send_at (run_of l.b)) l.k) × (all (send_ok (run_of l.b)) l.k ≡ true)
-
-abbrev pub decreases-loop-k : goal.decreases-loop-k
-decreases-loop-k l = l.sends - l.k

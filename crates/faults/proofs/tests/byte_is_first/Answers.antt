@@ -8,18 +8,6 @@ use Rattle.faults.proofs.tests.byte_is_first.Goals as goal
 pub loop-i-init : goal.loop-i-init
 loop-i-init c = (omega arith, sym (all_none _))
 
-pub overflow_add-is_new : goal.overflow_add-is_new
-overflow_add-is_new c = omega arith
-
-pub bounds-b-i : goal.bounds-b-i
-bounds-b-i c = omega arith
-
-pub overflow_add-i : goal.overflow_add-i
-overflow_add-i c = omega arith
-
-pub loop-i-smaller : goal.loop-i-smaller
-loop-i-smaller c = omega arith
-
 pub loop-i-preserved : goal.loop-i-preserved
 loop-i-preserved c =
     let loop = c.loop-i in
