@@ -1,6 +1,6 @@
 -- The answers of reader and writer, one law for each way through them. Assumes nothing.
 use mathlib.Core.Path.{◌≡◌, refl, sym, ap, ◌∙◌}
-use mathlib.Core.Bool.{Bool, true, false, cond, ◌||◌}
+use mathlib.Core.Bool.{Bool, true, false, cond}
 use mathlib.Core.List.{List}
 use Prim.Native.Nat.{ℕ, ◌≤◌, ◌<◌}
 use native.Mathlib.Omega.{arith}
@@ -21,7 +21,7 @@ use Rattle.format.specs.Refusals.{Decoded}
 use Rattle.format.specs.Refusals.{Written}
 use Rattle.format.specs.Format.{length_of, encode, run_of, no_run}
 use Rattle.base.specs.Put.{put, put_front}
-use Rattle.archive.specs.Code.{front_refusal}
+use Rattle.archive.specs.Code.{early, front_refusal}
 use Rattle.checks.specs.Sends.{send_in}
 use Rattle.format.specs.Faults.{fault_of}
 use Rattle.format.specs.Refusals.{read_refusal, decode, write_refusal, write_answer, written}
@@ -37,9 +37,6 @@ refusal_by v e s rest = cond v (cond e (cond s rest 3) 17) 2
 
 abbrev joins_by : Bool → Bool → ℕ
 joins_by c t = cond c (cond t 0 7) 6
-
-abbrev early : ℕ → Bool
-early f = eqb f 2 || eqb f 17 || eqb f 3
 
 not_early : (c t : Bool) → early (joins_by c t) ≡ false
 not_early true true = refl

@@ -1,6 +1,6 @@
 -- What the functions of this crate ask and compute on the way: a network and a number of sends that an archive can
 -- hold, a file that can be moved, the writer's first refusals, the front of an archive. Assumes nothing.
-use Rattle.std.specs.Prelude.{◌≡◌, ◌⊎◌, cond, List, ℕ, ◌+◌, ◌*◌, ◌≤◌, ◌<◌, eqb, leb}
+use Rattle.std.specs.Prelude.{◌≡◌, ◌⊎◌, Bool, ◌||◌, cond, List, ℕ, ◌+◌, ◌*◌, ◌≤◌, ◌<◌, eqb, leb}
 use Rattle.base.specs.Sizes.{sites_most, port_count, queue_room, sends_most, no_channel}
 use Rattle.base.specs.Put.{put}
 use Rattle.types.specs.declared.Network.{Network}
@@ -33,6 +33,10 @@ pub record Movable (b : List ℕ) (from to : ℕ) : Type 0 where
 -- the bytes of S, T, D, seed, draws and N, as bytes b have them from place p on
 abbrev pub fields_in : List ℕ → ℕ → List ℕ
 fields_in b p = fields_with (at b p) (at b (p + 1)) (at b (p + 2)) (quad b (p + 3)) (word b (p + 7)) (at b (p + 9))
+
+-- 2, 17 or 3: what stands before the writer's 4 and 5
+abbrev pub early : ℕ → Bool
+early f = eqb f 2 || eqb f 17 || eqb f 3
 
 -- 2, 17 and 3 to 7 of the writer, or 0, from the network, the seed and the number of sends
 unfoldable pub front_refusal : Network → ℕ → ℕ → ℕ

@@ -8,7 +8,6 @@ mod mover;
 mod reader;
 mod writer;
 
-pub use format::{Decoded, Written};
 pub use mover::{move_back, move_over};
 pub use reader::{check, read};
 pub use writer::write;

@@ -8,25 +8,42 @@ ghost use Rattle.format.specs.Format.{word, in_version, word_bytes, head_bytes, 
 ghost use Rattle.format.specs.Format.{send_bytes, sends_bytes, channel_in, channels_of, routes_of, send_of, sends_of};
 ghost use Rattle.format.specs.Format.{head_length, channel_place, channel_width, sends_place, send_width, length_of};
 ghost use Rattle.format.specs.Moves.{run_under, file_under, file_refusal, go_refusal, move_answer, moved};
+ghost use Rattle.base.specs.Refusals.{number, refusal_of};
+ghost use Rattle.format.specs.Refusals.{told_length};
 ghost use Rattle.archive.specs.Code.{Narrow, AllNarrow, Movable, fields_in};
 
-use crate::reader::{quad_at, send_at};
-use crate::writer::{put_channel, put_fields, put_send, put_start, put_word, turned_down};
-use format::Written;
+use crate::reader::{check, quad_at, send_at};
+use crate::writer::{put_channel, put_fields, put_send, put_start, put_word};
+use base::Refusal;
 
-// 1, 2 where the version is another than `from`, 17, 3 to 8, or 0.
-fn file_refusal(b: &[u8], from: u8) -> u8
-    ensures { result ≡ file_refusal from b.now }
+// 1.
+fn is_length(refusal: Refusal) -> bool
+    ensures { result ≡ eqb (number refusal) 1 }
 {
-    let fault = faults::find(b);
-    let refusal = fault.refusal;
-    if refusal == 1 {
-        return 1;
+    matches!(refusal, Refusal::Length)
+}
+
+fn is_refused_for_length(judged: Result<(), Refusal>) -> bool
+    ensures { result ≡ eqb (refusal_of judged) 1 }
+{
+    match judged {
+        Ok(()) => false,
+        Err(refusal) => is_length(refusal),
+    }
+}
+
+// 1, 2 where the version is another than `from`, 17, 3 to 8.
+fn file_refusal(b: &[u8], from: u8) -> Result<(), Refusal>
+    ensures { refusal_of result ≡ file_refusal from b.now }
+{
+    let judged = check(b);
+    if is_refused_for_length(judged) {
+        return judged;
     }
     if b[2] != from {
-        return 2;
+        return Err(Refusal::Version);
     }
-    refusal
+    judged
 }
 
 // Whether a run with so many sites, of this edition, can be stored in version `to`.
@@ -39,19 +56,16 @@ fn goes_into(to: u8, sites: u8, edition: u8) -> bool
     true
 }
 
-// 1 to 8 and 17, then 15 where the run does not go into version `to`, or 0.
-fn go_refusal(b: &[u8], from: u8, to: u8) -> u8
-    ensures { result ≡ go_refusal from to b.now }
+// 1 to 8 and 17, then 15 where the run does not go into version `to`.
+fn go_refusal(b: &[u8], from: u8, to: u8) -> Result<(), Refusal>
+    ensures { refusal_of result ≡ go_refusal from to b.now }
 {
-    let refusal = file_refusal(b, from);
-    if refusal != 0 {
-        return refusal;
-    }
+    file_refusal(b, from)?;
     let p = faults::fields_place(from);
-    if goes_into(to, b[p], faults::edition_of(from, b[3])) {
-        return 0;
+    if !goes_into(to, b[p], faults::edition_of(from, b[3])) {
+        return Err(Refusal::Back);
     }
-    15
+    Ok(())
 }
 
 // Channel k. Behind the last channel there are routes, so that a second byte is there in version 1 too.
@@ -71,10 +85,8 @@ fn move_channels(b: &[u8], from: u8, out: &mut [u8], to: u8, n: usize)
         × (channel_place to n ≤ length out.old) × AllNarrow to (channels_of from b.now n) n }
     ensures { out.new ≡ put out.old (head_length to) (channel_bytes to (channels_of from b.now n) n) }
 {
-    let mut k: usize = 0;
-    while k < n {
+    for k in 0..n {
         move_channel(b, from, out, to, k);
-        k += 1;
     }
 }
 
@@ -90,10 +102,8 @@ fn move_routes(b: &[u8], p: usize, out: &mut [u8], q: usize, n: usize)
     requires { (n ≤ sites_most * sites_most) × (p + 2 * n ≤ length b.now) × (q + 2 * n ≤ length out.old) }
     ensures { out.new ≡ put out.old q (route_bytes (routes_of b.now p n) n) }
 {
-    let mut k: usize = 0;
-    while k < n {
+    for k in 0..n {
         move_route(b, p + 2 * k, out, q + 2 * k);
-        k += 1;
     }
 }
 
@@ -116,10 +126,8 @@ fn move_sends(b: &[u8], from: u8, out: &mut [u8], to: u8, sites: u8, n: usize)
         ≡ put out.old (sends_place to sites)
         (sends_bytes to (sends_of from b.now (sends_place from sites) n) n) }
 {
-    let mut k: usize = 0;
-    while k < n {
+    for k in 0..n {
         move_send(b, from, out, to, sites, k as u8);
-        k += 1;
     }
 }
 
@@ -166,31 +174,25 @@ fn move_parts(b: &[u8], from: u8, out: &mut [u8], to: u8, size: usize)
     move_sends(b, from, out, to, first, count);
 }
 
-// From a version to another.
-fn moved_file(b: &[u8], from: u8, out: &mut [u8], to: u8) -> Written
-    ensures { (result ≡ move_answer from to b.now (length out.old))
+// From a version to another. Answers the length of the moved file.
+fn moved_file(b: &[u8], from: u8, out: &mut [u8], to: u8) -> Result<usize, Refusal>
+    ensures { (told_length result ≡ move_answer from to b.now (length out.old))
         × (out.new ≡ moved from to b.now out.old) }
 {
-    let refusal = go_refusal(b, from, to);
-    if refusal != 0 {
-        return turned_down(refusal);
-    }
+    go_refusal(b, from, to)?;
     let p = faults::fields_place(from);
     let size = faults::size_of(to, b[p], b[p + 9]);
     if out.len() < size {
-        return turned_down(14);
+        return Err(Refusal::Room);
     }
     move_parts(b, from, out, to, size);
-    Written {
-        refusal: 0,
-        length: size,
-    }
+    Ok(size)
 }
 
-// Moves an archive of version 1 over to version 2, to the front of the room; or nothing where it answers a refusal: 1, 2
-// where the version is not 1, 3 to 8, or 14 where the room is below the moved file's length.
-pub fn move_over(bytes: &[u8], out: &mut [u8]) -> Written
-    ensures { (result ≡ move_answer 1 2 bytes.now (length out.old))
+// Moves an archive of version 1 over to version 2, to the front of the room, and answers how many bytes that are; or nothing
+// where it answers a refusal: 1, 2 where the version is not 1, 3 to 8, or 14 where the room is below the moved file's length.
+pub fn move_over(bytes: &[u8], out: &mut [u8]) -> Result<usize, Refusal>
+    ensures { (told_length result ≡ move_answer 1 2 bytes.now (length out.old))
         × (out.new ≡ moved 1 2 bytes.now out.old) }
 {
     moved_file(bytes, 1, out, 2)
@@ -198,8 +200,8 @@ pub fn move_over(bytes: &[u8], out: &mut [u8]) -> Written
 
 // Moves an archive of version 2 back to version 1 in the same way: 1, 2 where the version is not 2, 17, 3 to 8, 15 where
 // it has more than 16 sites or an edition other than 1, or 14.
-pub fn move_back(bytes: &[u8], out: &mut [u8]) -> Written
-    ensures { (result ≡ move_answer 2 1 bytes.now (length out.old))
+pub fn move_back(bytes: &[u8], out: &mut [u8]) -> Result<usize, Refusal>
+    ensures { (told_length result ≡ move_answer 2 1 bytes.now (length out.old))
         × (out.new ≡ moved 2 1 bytes.now out.old) }
 {
     moved_file(bytes, 2, out, 1)

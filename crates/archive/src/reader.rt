@@ -4,11 +4,12 @@ ghost use Rattle.std.specs.Prelude.{◌≡◌, ◌+◌, ◌*◌, ◌≤◌, ◌<
 ghost use Rattle.base.specs.Sizes.{sites_most, port_count, sends_most};
 ghost use Rattle.faults.specs.Head.{Head};
 ghost use Rattle.format.specs.Format.{quad, channel_place, sends_place, set_width, send_width, set_in, send_of};
-ghost use Rattle.format.specs.Format.{channels_of, routes_of, sends_of, network_of, run_of, no_run};
-ghost use Rattle.format.specs.Refusals.{read_refusal, decode};
+ghost use Rattle.format.specs.Format.{channels_of, routes_of, sends_of, network_of, run_of};
+ghost use Rattle.base.specs.Refusals.{refusal_of};
+ghost use Rattle.format.specs.Refusals.{read_refusal, decode, told_run};
 ghost use Rattle.model.specs.Runs.{no_sends};
 
-use format::Decoded;
+use base::Refusal;
 use types::{Network, Run, StoredSend};
 
 // Behind the last channel there are routes, so that a second byte is there in version 1 too.
@@ -17,11 +18,9 @@ fn read_channels(b: &[u8], version: u8, n: usize) -> [u16; base::PORTS * base::S
     ensures { result ≡ channels_of version b.now n }
 {
     let mut channels = [0u16; base::PORTS * base::SITES];
-    let mut c: usize = 0;
-    while c < n {
+    for c in 0..n {
         let p = faults::channel_place(version, c as u8);
         channels[c] = faults::channel_of(version, b[p], b[p + 1]);
-        c += 1;
     }
     channels
 }
@@ -31,11 +30,9 @@ fn read_routes(b: &[u8], p: usize, n: usize) -> [u16; base::SITES * base::SITES]
     ensures { result ≡ routes_of b.now p n }
 {
     let mut routes = [0u16; base::SITES * base::SITES];
-    let mut k: usize = 0;
-    while k < n {
+    for k in 0..n {
         let at = p + 2 * k;
         routes[k] = base::word(b[at], b[at + 1]);
-        k += 1;
     }
     routes
 }
@@ -91,10 +88,8 @@ fn read_sends(b: &[u8], version: u8, sites: u8, n: usize) -> [StoredSend; base::
     ensures { result ≡ sends_of version b.now (sends_place version sites) n }
 {
     let mut sends = no_sends(n);
-    let mut k: usize = 0;
-    while k < n {
+    for k in 0..n {
         sends[k] = send_at(b, version, faults::send_place(version, sites, k as u8));
-        k += 1;
     }
     sends
 }
@@ -113,13 +108,13 @@ fn read_network(b: &[u8]) -> Network
     let channels = read_channels(b, version, base::PORTS * sites);
     let routes = read_routes(b, faults::routes_place(version, first), sites * sites);
     Network {
-        sites: sites,
-        depth: depth,
-        tries: tries,
-        version: version,
-        edition: edition,
-        channels: channels,
-        routes: routes,
+        sites,
+        depth,
+        tries,
+        version,
+        edition,
+        channels,
+        routes,
     }
 }
 
@@ -135,65 +130,28 @@ fn read_run(b: &[u8]) -> Run
     let count = base::wide(b[p + 9]);
     let sends = read_sends(b, version, b[p], count);
     Run {
-        network: network,
-        seed: seed,
-        draws: draws,
-        count: count,
-        sends: sends,
+        network,
+        seed,
+        draws,
+        count,
+        sends,
     }
 }
 
-fn refused(refusal: u8) -> Decoded
-    ensures { result ≡ record { refusal = refusal; run = no_run } }
+// The run that the bytes stand for, with room beyond S sites and N sends zero; or the refusal, 1 to 8 or 17.
+pub fn read(bytes: &[u8]) -> Result<Run, Refusal>
+    ensures { told_run result ≡ decode bytes.now }
 {
-    let sends = no_sends(0);
-    let network = Network {
-        sites: 0,
-        depth: 0,
-        tries: 0,
-        version: 0,
-        edition: 0,
-        channels: [0u16; base::PORTS * base::SITES],
-        routes: [0u16; base::SITES * base::SITES],
-    };
-    let run = Run {
-        network: network,
-        seed: 0,
-        draws: 0,
-        count: 0,
-        sends: sends,
-    };
-    Decoded {
-        refusal: refusal,
-        run: run,
-    }
-}
-
-// The run that the bytes stand for, with room beyond S sites and N sends zero; or the refusal, 1 to 8 or 17, and the
-// all-zero run. The refusals above 5 (behind the head, and 17) and the others return apart: with one return for both
-// the compiler lays the sends where each fourth of them crosses a line of the cache (docs/PERFORMANCE.md).
-pub fn read(bytes: &[u8]) -> Decoded
-    ensures { result ≡ decode bytes.now }
-{
-    let fault = faults::find(bytes);
-    let refusal = fault.refusal;
-    if 5 < refusal {
-        return refused(refusal);
-    }
-    if refusal != 0 {
-        return refused(refusal);
-    }
-    let run = read_run(bytes);
-    Decoded {
-        refusal: 0,
-        run: run,
-    }
+    check(bytes)?;
+    Ok(read_run(bytes))
 }
 
 // The reader's refusal alone.
-pub fn check(bytes: &[u8]) -> u8
-    ensures { result ≡ read_refusal bytes.now }
+pub fn check(bytes: &[u8]) -> Result<(), Refusal>
+    ensures { refusal_of result ≡ read_refusal bytes.now }
 {
-    let fault = faults::find(bytes);
-    fault.refusal
+    match faults::find(bytes) {
+        Some(fault) => Err(fault.refusal),
+        None => Ok(()),
+    }
 }

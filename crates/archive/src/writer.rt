@@ -7,27 +7,47 @@ ghost use Rattle.format.specs.Format.{word_bytes, quad_bytes, channel_part, set_
 ghost use Rattle.format.specs.Format.{route_bytes, send_bytes};
 ghost use Rattle.format.specs.Format.{sites_place, channel_width, set_width, send_width, head_length, channel_place};
 ghost use Rattle.format.specs.Format.{sends_place};
-ghost use Rattle.format.specs.Refusals.{write_answer, written};
-ghost use Rattle.archive.specs.Code.{Narrow, AllNarrow, Fit, put_front, front_refusal};
+ghost use Rattle.base.specs.Refusals.{number, refusal_of};
+ghost use Rattle.format.specs.Refusals.{write_answer, written, told_length};
+ghost use Rattle.archive.specs.Code.{Narrow, AllNarrow, Fit, put_front, early, front_refusal};
 
-use format::Written;
+use base::Refusal;
 use types::{Network, Run, StoredSend};
 
-// 2, 17 and 3 to 7, or 0: all but what the sends themselves are turned down for.
-fn front_refusal(network: Network, seed: u32, count: usize) -> u8
-    ensures { result ≡ front_refusal network seed count }
+// 2, 17 or 3: what stands before the writer's 4 and 5.
+fn is_early(refusal: Refusal) -> bool
+    ensures { result ≡ early (number refusal) }
 {
-    let refusal = checks::network_refusal(network);
-    if (refusal == 2) | (refusal == 17) | (refusal == 3) {
-        return refusal;
+    matches!(
+        refusal,
+        Refusal::Version | Refusal::Edition | Refusal::Sizes
+    )
+}
+
+fn is_refused_early(judged: Result<(), Refusal>) -> bool
+    ensures { result ≡ early (refusal_of judged) }
+{
+    match judged {
+        Ok(()) => false,
+        Err(refusal) => is_early(refusal),
+    }
+}
+
+// 2, 17 and 3 to 7: all but what the sends themselves are turned down for.
+fn front_refusal(network: Network, seed: u32, count: usize) -> Result<(), Refusal>
+    ensures { refusal_of result ≡ front_refusal network seed count }
+{
+    let judged = checks::network_refusal(network);
+    if is_refused_early(judged) {
+        return judged;
     }
     if seed == 0 {
-        return 4;
+        return Err(Refusal::Seed);
     }
     if base::SENDS < count {
-        return 5;
+        return Err(Refusal::Count);
     }
-    refusal
+    judged
 }
 
 // A byte at place p; a number as two bytes from there on, and as four.
@@ -106,15 +126,13 @@ fn put_channels(out: &mut [u8], version: u8, channels: [u16; base::PORTS * base:
     requires { (n ≤ port_count * sites_most) × (channel_place version n ≤ length out.old) × AllNarrow version channels n }
     ensures { out.new ≡ put out.old (head_length version) (channel_bytes version channels n) }
 {
-    let mut k: usize = 0;
-    while k < n {
+    for k in 0..n {
         put_channel(
             out,
             faults::channel_place(version, k as u8),
             version,
             channels[k],
         );
-        k += 1;
     }
 }
 
@@ -122,10 +140,8 @@ fn put_routes(out: &mut [u8], routes: [u16; base::SITES * base::SITES], p: usize
     requires { (n ≤ sites_most * sites_most) × (p + 2 * n ≤ length out.old) }
     ensures { out.new ≡ put out.old p (route_bytes routes n) }
 {
-    let mut k: usize = 0;
-    while k < n {
+    for k in 0..n {
         put_word(out, p + 2 * k, routes[k] as u64);
-        k += 1;
     }
 }
 
@@ -184,59 +200,34 @@ fn put_front(network: Network, seed: u32, draws: u16, count: usize, size: usize,
     );
 }
 
-// Writes the archive of a run at the front of `out`, or nothing where it answers a refusal: 2, 17, 3 to 8, or 14 where
-// the room is below the archive's length. The sends are tested and written where they stand: a function that goes
-// through them has them copied to it first, all 255.
-pub fn write(run: Run, out: &mut [u8]) -> Written
-    ensures { (result ≡ write_answer run (length out.old)) × (out.new ≡ written run out.old) }
+// Writes the archive of a run at the front of `out`, and answers how many bytes that are; or nothing where it answers a
+// refusal: 2, 17, 3 to 8, or 14 where the room is below the archive's length. The sends are tested and written where they
+// stand: a function that goes through them has them copied to it first, all 255.
+pub fn write(run: Run, out: &mut [u8]) -> Result<usize, Refusal>
+    ensures { (told_length result ≡ write_answer run (length out.old)) × (out.new ≡ written run out.old) }
 {
     let network = run.network;
     let version = network.version;
     let sites = network.sites;
     let draws = run.draws;
     let count = run.count;
-    let refusal = front_refusal(network, run.seed, count);
-    if refusal != 0 {
-        return turned_down(refusal);
-    }
+    front_refusal(network, run.seed, count)?;
     let mut last: u16 = 0;
-    let mut k: usize = 0;
-    while k < count {
+    for k in 0..count {
         let send = run.sends[k];
-        if checks::stored_ok(send.draw, send.site, send.set, sites, draws, last) {
-            last = send.draw;
-            k += 1;
-        } else {
-            return turned_down(8);
+        if !checks::stored_ok(send.draw, send.site, send.set, sites, draws, last) {
+            return Err(Refusal::Sends);
         }
+        last = send.draw;
     }
     let size = faults::size_of(version, sites as u8, count as u8);
     if out.len() < size {
-        return turned_down(14);
+        return Err(Refusal::Room);
     }
     put_front(network, run.seed, draws, count, size, out);
-    let mut m: usize = 0;
-    while m < count {
-        let send = run.sends[m];
-        put_send(
-            out,
-            faults::send_place(version, sites as u8, m as u8),
-            version,
-            send,
-        );
-        m += 1;
+    for m in 0..count {
+        let place = faults::send_place(version, sites as u8, m as u8);
+        put_send(out, place, version, run.sends[m]);
     }
-    Written {
-        refusal: 0,
-        length: size,
-    }
-}
-
-pub(crate) fn turned_down(refusal: u8) -> Written
-    ensures { result ≡ record { refusal = refusal; length = 0 } }
-{
-    Written {
-        refusal: refusal,
-        length: 0,
-    }
+    Ok(size)
 }

@@ -1,5 +1,6 @@
 -- A refusal's number, and what an answer is in such numbers: 0, or that of its refusal. Assumes nothing.
 use Rattle.std.specs.Prelude.{◌≡◌, refl, false, cond, ℕ, eqb, Result, Ok, Err}
+use borrow.Author.Tests.{eqb-false}
 use Rattle.base.specs.declared.refusal.Refusal.{Refusal}
 use Rattle.base.specs.declared.refusal.Refusal.TheVariants.{Length, Version, Edition, Sizes, Seed, Count, Channels, Routes, Sends}
 use Rattle.base.specs.declared.refusal.Refusal.TheVariants.{Unknown, Targets, Queue, Packets, State, Room, Back, Argument}
@@ -73,3 +74,6 @@ numbered State = refl
 numbered Room = refl
 numbered Back = refl
 numbered Argument = refl
+
+pub number_nonzero : (e : Refusal) → number e ≡ 0 → ⊥
+number_nonzero e = eqb-false (number e) 0 (number_some e)

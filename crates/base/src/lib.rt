@@ -41,39 +41,39 @@ pub const SET: usize = 64;
 pub fn wide(x: u8) -> usize
     ensures { (result ≡ x) × (result < 256) }
 {
-    x as usize
+    usize::from(x)
 }
 
 pub fn wider(x: u16) -> usize
     ensures { (result ≡ x) × (result < 65536) }
 {
-    x as usize
+    usize::from(x)
 }
 
 // The number of two bytes, the higher first.
 pub fn word(high: u8, low: u8) -> u16
     ensures { result ≡ high * 256 + low }
 {
-    (wide(high) * 256 + wide(low)) as u16
+    u16::from_be_bytes([high, low])
 }
 
 // The number of four bytes, by the words of the higher two and of the lower two.
 pub fn quad(high: u16, low: u16) -> u32
     ensures { result ≡ high * 65536 + low }
 {
-    (high as u32) * 65536 + (low as u32)
+    u32::from(high) * 65536 + u32::from(low)
 }
 
 // The number of eight bytes, by those of the higher four and of the lower four.
 pub fn oct(high: u32, low: u32) -> u64
     ensures { result ≡ high * 4294967296 + low }
 {
-    (high as u64) * 4294967296 + (low as u64)
+    u64::from(high) * 4294967296 + u64::from(low)
 }
 
 // One less, and 0 of 0.
 pub fn one_less(n: usize) -> usize
     ensures { result ≡ n - 1 }
 {
-    if n == 0 { 0 } else { n - 1 }
+    n.saturating_sub(1)
 }

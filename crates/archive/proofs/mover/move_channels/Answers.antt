@@ -28,12 +28,6 @@ move_channel-requires c =
       subst (Narrow a.to) there (pre.3 l.k test),
     )
 
-pub overflow_add-k : goal.overflow_add-k
-overflow_add-k c = omega arith
-
-pub loop-k-smaller : goal.loop-k-smaller
-loop-k-smaller c = omega arith
-
 pub loop-k-preserved : goal.loop-k-preserved
 loop-k-preserved c =
     let loop_test = c.loop-k-test in

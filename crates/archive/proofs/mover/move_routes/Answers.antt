@@ -23,12 +23,6 @@ overflow_add-q c = omega arith
 pub move_route-requires : goal.move_route-requires
 move_route-requires c = omega arith
 
-pub overflow_add-k : goal.overflow_add-k
-overflow_add-k c = omega arith
-
-pub loop-k-smaller : goal.loop-k-smaller
-loop-k-smaller c = omega arith
-
 pub loop-k-preserved : goal.loop-k-preserved
 loop-k-preserved c =
     let loop_test = c.loop-k-test in

@@ -1,6 +1,6 @@
 -- `mover::move_routes` meets its contract: a route a turn. Assumes nothing.
 use mathlib.Core.Path.{◌≡◌}
-use Prim.Native.Nat.{◌≤◌, ◌-◌}
+use Prim.Native.Nat.{◌≤◌}
 use lib.ListN.{length}
 use Rattle.base.specs.Put.{put}
 use Rattle.format.specs.Format.{route_bytes, routes_of}
@@ -8,6 +8,3 @@ use Rattle.archive.proofs.mover.move_routes.Given as goal
 
 abbrev pub invariant-loop-k : goal.invariant-loop-k
 invariant-loop-k l = (l.k ≤ l.n) × (length l.out ≡ length l.initial.out) × (l.out ≡ put l.initial.out l.q (route_bytes (routes_of l.b l.p l.n) l.k))
-
-abbrev pub decreases-loop-k : goal.decreases-loop-k
-decreases-loop-k l = l.n - l.k

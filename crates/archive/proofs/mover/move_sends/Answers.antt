@@ -24,12 +24,6 @@ move_send-requires c =
     let ends = part_ends (send_width a.to) l.k a.n c.loop-k-test.true in
     (omega (arith, own, pre.1), omega (arith, ends, pre.2, l.invariant.1))
 
-pub overflow_add-k : goal.overflow_add-k
-overflow_add-k c = omega arith
-
-pub loop-k-smaller : goal.loop-k-smaller
-loop-k-smaller c = omega arith
-
 pub loop-k-preserved : goal.loop-k-preserved
 loop-k-preserved c =
     let loop_test = c.loop-k-test in

@@ -44,12 +44,6 @@ offset_bounds-channels-c c = omega arith
 pub bounds-channels-c : goal.bounds-channels-c
 bounds-channels-c c = omega arith
 
-pub overflow_add-c : goal.overflow_add-c
-overflow_add-c c = omega arith
-
-pub loop-c-smaller : goal.loop-c-smaller
-loop-c-smaller c = omega arith
-
 pub loop-c-preserved : goal.loop-c-preserved
 loop-c-preserved c =
     let channel_place = c.channel_place-p in

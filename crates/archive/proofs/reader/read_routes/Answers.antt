@@ -28,12 +28,6 @@ offset_bounds-routes-k c = omega arith
 pub bounds-routes-k : goal.bounds-routes-k
 bounds-routes-k c = omega arith
 
-pub overflow_add-k : goal.overflow_add-k
-overflow_add-k c = omega arith
-
-pub loop-k-smaller : goal.loop-k-smaller
-loop-k-smaller c = omega arith
-
 pub loop-k-preserved : goal.loop-k-preserved
 loop-k-preserved c =
     let loop = c.loop-k in

@@ -27,12 +27,6 @@ offset_bounds-sends-k c = omega arith
 pub bounds-sends-k : goal.bounds-sends-k
 bounds-sends-k c = omega arith
 
-pub overflow_add-k : goal.overflow_add-k
-overflow_add-k c = omega arith
-
-pub loop-k-smaller : goal.loop-k-smaller
-loop-k-smaller c = omega arith
-
 pub loop-k-preserved : goal.loop-k-preserved
 loop-k-preserved c =
     let here = c.send_place.ensures in

@@ -31,12 +31,6 @@ put_channel-requires c =
     let ends = part_ends (channel_width a.version) l.k a.n test in
     (omega (arith, ends, c.channel_place.ensures, pre.1, l.invariant.1), pre.2 l.k test)
 
-pub overflow_add-k : goal.overflow_add-k
-overflow_add-k c = omega arith
-
-pub loop-k-smaller : goal.loop-k-smaller
-loop-k-smaller c = omega arith
-
 pub loop-k-preserved : goal.loop-k-preserved
 loop-k-preserved c =
     let a = c.args in

@@ -1,6 +1,6 @@
 -- `writer::put_routes` meets its contract: a route a turn. Assumes nothing.
 use mathlib.Core.Path.{◌≡◌}
-use Prim.Native.Nat.{◌≤◌, ◌-◌}
+use Prim.Native.Nat.{◌≤◌}
 use lib.ListN.{length}
 use Rattle.base.specs.Put.{put}
 use Rattle.format.specs.Format.{route_bytes}
@@ -8,6 +8,3 @@ use Rattle.archive.proofs.writer.put_routes.Given as goal
 
 abbrev pub invariant-loop-k : goal.invariant-loop-k
 invariant-loop-k l = (l.k ≤ l.n) × (length l.out ≡ length l.initial.out) × (l.out ≡ put l.initial.out l.p (route_bytes l.routes l.k))
-
-abbrev pub decreases-loop-k : goal.decreases-loop-k
-decreases-loop-k l = l.n - l.k

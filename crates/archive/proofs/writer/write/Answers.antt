@@ -14,17 +14,19 @@ use Rattle.archive.proofs.Parts.{length_send}
 use Rattle.archive.proofs.Put.{sends_none, sends_turn, length_put, put_head, put_parts}
 use Rattle.archive.proofs.Answers.{few_sends, front_refused, sends_tested, run_tested, sends_failed, write_no}
 use Rattle.archive.proofs.Answers.{write_short, write_yes}
+use borrow.Author.Rules.{rules}
+use Rattle.base.specs.Refusals.{number, number_nonzero}
+use Rattle.format.specs.Refusals.{told_length}
 use Rattle.archive.proofs.writer.write.Goals as goal
 
-pub returns-then-refusal-ne0 : goal.returns-then-refusal-ne0
-returns-then-refusal-ne0 c =
-    let args = c.args in
-    let if1 = c.if-refusal-ne0 in
-    let turned_down = c.turned_down in
-    let front_refusal = c.front_refusal-refusal in
-    let r = args.run in
-    let refused = if1.true in
-    rw turned_down.ensures (write_no r _ _ (front_refused r _ front_refusal.ensures refused) refused)
+pub returns-in_err-front_refusal : goal.returns-in_err-front_refusal
+returns-in_err-front_refusal c =
+    let r = c.args.run in
+    let e = c.in_err-front_refusal.field-0.0 in
+    let some = number_nonzero e in
+    let told : told_length c.from_residual.result ≡ record { refusal = number e; length = 0 } = search rules in
+    let no = write_no r c.args.out.now (number e) (front_refused r (number e) c.in_err-front_refusal.ensures some) some in
+    (told ∙ no.0, no.1)
 
 pub loop-k-init : goal.loop-k-init
 loop-k-init c = (omega arith, refl, all_none _)
@@ -32,26 +34,12 @@ loop-k-init c = (omega arith, refl, all_none _)
 pub offset_bounds-run-k : goal.offset_bounds-run-k
 offset_bounds-run-k c =
     let args = c.args in
-    let front_refusal = c.front_refusal-refusal in
-    let if1 = c.if-refusal-ne0 in
-    omega (arith, few_sends args.run (sym front_refusal.ensures ∙ if1.false))
+    omega (arith, few_sends args.run (sym c.in_ok-front_refusal.ensures))
 
 pub bounds-run-k : goal.bounds-run-k
 bounds-run-k c =
     let args = c.args in
-    let front_refusal = c.front_refusal-refusal in
-    let if1 = c.if-refusal-ne0 in
-    omega (arith, few_sends args.run (sym front_refusal.ensures ∙ if1.false))
-
-pub overflow_add-k : goal.overflow_add-k
-overflow_add-k c =
-    let args = c.args in
-    let front_refusal = c.front_refusal-refusal in
-    let if1 = c.if-refusal-ne0 in
-    omega (arith, few_sends args.run (sym front_refusal.ensures ∙ if1.false))
-
-pub loop-k-smaller : goal.loop-k-smaller
-loop-k-smaller c = omega arith
+    omega (arith, few_sends args.run (sym c.in_ok-front_refusal.ensures))
 
 pub loop-k-preserved : goal.loop-k-preserved
 loop-k-preserved c =
@@ -60,76 +48,58 @@ loop-k-preserved c =
     let e =
     c.stored_ok.ensures
     ∙ ap (λ (d : ℕ). send_after r.network.sites r.draws d (send_at r l.k)) l.invariant.1 in
-    (omega arith, draw_next (send_at r) l.k, all_more _ _ l.invariant.2 (sym e ∙ c.if-stored_ok.true))
+    (omega arith, draw_next (send_at r) l.k, all_more _ _ l.invariant.2 (sym e ∙ c.if-not-stored_ok.false))
 
-pub returns-else-stored_ok : goal.returns-else-stored_ok
-returns-else-stored_ok c =
+pub returns-then-not-stored_ok : goal.returns-then-not-stored_ok
+returns-then-not-stored_ok c =
     let l = c.loop-k in
-    let args = c.args in
-    let stored_ok = c.stored_ok in
-    let front_refusal = c.front_refusal-refusal in
-    let if1 = c.if-refusal-ne0 in
-    let loop_test = c.loop-k-test in
-    let if2 = c.if-stored_ok in
-    let turned_down2 = c.turned_down-else-stored_ok in
-    let r = args.run in
+    let r = c.args.run in
     let e =
-    stored_ok.ensures
+    c.stored_ok.ensures
     ∙ ap (λ (d : ℕ). send_after r.network.sites r.draws d (send_at r l.k)) l.invariant.1 in
     let failed =
-    sends_failed r _ front_refusal.ensures if1.false l.k loop_test.true (sym e ∙ if2.false) in
-    rw turned_down2.ensures (write_no r _ 8 failed (λ q. omega arith))
+    sends_failed r 0 c.in_ok-front_refusal.ensures refl l.k c.loop-k-test.true (sym e ∙ c.if-not-stored_ok.true) in
+    write_no r _ 8 failed (λ q. omega arith)
 
 pub overflow_cast-sites : goal.overflow_cast-sites
 overflow_cast-sites c =
     let l = c.loop-k in
     let args = c.args in
-    let front_refusal = c.front_refusal-refusal in
-    let if1 = c.if-refusal-ne0 in
-    let z = run_tested args.run _ front_refusal.ensures if1.false l.k (omega arith) l.invariant.2 in
+    let z = run_tested args.run 0 c.in_ok-front_refusal.ensures refl l.k (omega arith) l.invariant.2 in
     omega (arith, z.fit.few)
 
 pub overflow_cast-count : goal.overflow_cast-count
 overflow_cast-count c =
     let args = c.args in
-    let front_refusal = c.front_refusal-refusal in
-    let if1 = c.if-refusal-ne0 in
-    omega (arith, few_sends args.run (sym front_refusal.ensures ∙ if1.false))
+    omega (arith, few_sends args.run (sym c.in_ok-front_refusal.ensures))
 
 pub returns-then-out-size : goal.returns-then-out-size
 returns-then-out-size c =
     let l = c.loop-k in
     let args = c.args in
-    let front_refusal = c.front_refusal-refusal in
-    let if1 = c.if-refusal-ne0 in
-    let turned_down3 = c.turned_down-then-out-size in
     let if3 = c.if-out-size in
     let type_size = c.size_of-size in
     let r = args.run in
-    let ok = sends_tested r _ front_refusal.ensures if1.false l.k (omega arith) l.invariant.2 in
-    rw turned_down3.ensures (write_short r _ ok (omega (arith, if3.true, type_size.ensures)))
+    let ok = sends_tested r 0 c.in_ok-front_refusal.ensures refl l.k (omega arith) l.invariant.2 in
+    (write_short r _ ok (omega (arith, if3.true, type_size.ensures)))
 
 pub put_front-requires : goal.put_front-requires
 put_front-requires c =
     let l = c.loop-k in
     let args = c.args in
-    let front_refusal = c.front_refusal-refusal in
-    let if1 = c.if-refusal-ne0 in
     let if3 = c.if-out-size in
     let type_size = c.size_of-size in
-    let z = run_tested args.run _ front_refusal.ensures if1.false l.k (omega arith) l.invariant.2 in
+    let z = run_tested args.run 0 c.in_ok-front_refusal.ensures refl l.k (omega arith) l.invariant.2 in
     (z.fit, omega (arith, if3.false, type_size.ensures))
 
 pub loop-m-init : goal.loop-m-init
 loop-m-init c =
     let l = c.loop-k in
     let args = c.args in
-    let front_refusal = c.front_refusal-refusal in
-    let if1 = c.if-refusal-ne0 in
     let type_size = c.size_of-size in
     let if3 = c.if-out-size in
     let r = args.run in
-    let z = run_tested r _ front_refusal.ensures if1.false l.k (omega arith) l.invariant.2 in
+    let z = run_tested r 0 c.in_ok-front_refusal.ensures refl l.k (omega arith) l.invariant.2 in
     let size = type_size.ensures in (
       omega arith,
       refl,
@@ -156,23 +126,17 @@ put_send-requires c =
     let l = c.loop-m in
     let args = c.args in
     let loop2_test = c.loop-m-test in
-    let send_place = c.send_place in
+    let send_place = c.send_place-place in
     let r = args.run in
     let ends = part_ends (send_width r.network.version) l.m r.count loop2_test.true in
     omega (arith, ends, send_place.ensures, l.invariant.1, l.invariant.3)
-
-pub overflow_add-m : goal.overflow_add-m
-overflow_add-m c = omega arith
-
-pub loop-m-smaller : goal.loop-m-smaller
-loop-m-smaller c = omega arith
 
 pub loop-m-preserved : goal.loop-m-preserved
 loop-m-preserved c =
     let l = c.loop-m in
     let put_send = c.put_send in
     let args = c.args in
-    let send_place = c.send_place in
+    let send_place = c.send_place-place in
     let loop2_test = c.loop-m-test in
     let r = args.run in
     let v = r.network.version in
@@ -197,13 +161,11 @@ returns c =
     let args = c.args in
     let if3 = c.if-out-size in
     let type_size = c.size_of-size in
-    let front_refusal = c.front_refusal-refusal in
-    let if1 = c.if-refusal-ne0 in
     let put_front = c.put_front in
     let r = args.run in
     let if3 = if3.false in
     let size = type_size.ensures in
-    let ok = sends_tested r _ front_refusal.ensures if1.false l.k (omega arith) l.invariant.2 in
+    let ok = sends_tested r 0 c.in_ok-front_refusal.ensures refl l.k (omega arith) l.invariant.2 in
     let e : l2.m ≡ r.count = omega arith in
     let sent = rw e at l2.invariant.2 in
     write_yes r _ _ _ ok (omega (arith, if3, size)) size

@@ -2,7 +2,7 @@
 -- nothing.
 use mathlib.Core.Path.{◌≡◌}
 use mathlib.Core.Bool.{true}
-use Prim.Native.Nat.{◌+◌, ◌-◌, ◌*◌, ◌≤◌}
+use Prim.Native.Nat.{◌+◌, ◌*◌, ◌≤◌}
 use lib.ListN.{length}
 use Rattle.base.specs.Sizes.{sites_most, sends_most}
 use Rattle.base.specs.All.{all}
@@ -17,9 +17,6 @@ invariant-loop-k l =
     let tested = all (send_in l.run.network.sites l.run.draws (send_at l.run)) l.k in
     (l.k ≤ l.count) × (l.last ≡ draw_before (send_at l.run) l.k) × (tested ≡ true)
 
-abbrev pub decreases-loop-k : goal.decreases-loop-k
-decreases-loop-k l = l.count - l.k
-
 abbrev pub invariant-loop-m : goal.invariant-loop-m
 invariant-loop-m l =
     (l.m ≤ l.count)
@@ -28,6 +25,3 @@ invariant-loop-m l =
     × (sends_place l.version l.sites + send_width l.version * l.count ≤ length l.initial.out)
     × (l.count ≤ sends_most)
     × (l.sites ≤ sites_most)
-
-abbrev pub decreases-loop-m : goal.decreases-loop-m
-decreases-loop-m l = l.count - l.m
