@@ -3,43 +3,31 @@ use native.Mathlib.Omega.{arith}
 use borrow.Author.Tests.{lt-ltb}
 use Rattle.base.specs.Sizes.{set_bits}
 use Rattle.rules.specs.Router.{of_gathered}
-use Rattle.rules.proofs.Gather.{starts, done, pass_by, enter, no_port, next_port, port_in, with_port}
+use Rattle.rules.proofs.Gather.{starts, done, pass_by, not_served, served}
 use Rattle.rules.proofs.ports.gather_outputs.Goals as goal
+use Rattle.rules.proofs.ports.gather_outputs.Goals.{then-member+in_ok-p, else-member}
 
-pub targets-init : goal.targets-init
-targets-init c = starts
+pub loop-t-init : goal.loop-t-init
+loop-t-init c = starts
 
-pub loop-k-init : goal.loop-k-init
-loop-k-init c =
-    enter c.targets.invariant c.list_of-list.result
-    c.targets-test.true (sym c.member.ensures ∙ c.if-member.true) c.list_of-list.ensures
+pub loop-t-preserved : goal.loop-t-preserved
+loop-t-preserved c =
+    let l = c.loop-t in
+    let q = c.args.search in
+    elim c.if-member.branch [
+      | then-member+in_ok-p w ↦
+          let found = rw w.list_of.ensures at w.first_serving.ensures.first in
+          rw (w.sets-is, w.with.ensures, lt-ltb l.t set_bits (omega (arith, q.routed.few)))
+          (served l.invariant c.loop-t-test.true (sym c.member.ensures ∙ w.if-member.true) _ (sym found ∙ w.in_ok-p.was))
+      | else-member w ↦ rw w.sets-is (pass_by l.invariant c.loop-t-test.true (sym c.member.ensures ∙ w.if-member.false))
+    ]
 
-pub offset_bounds-sets-p : goal.offset_bounds-sets-p
-offset_bounds-sets-p c = omega (arith, port_in c.loop-k.invariant (sym c.can_serve.ensures ∙ c.if-can_serve.true))
-
-pub bounds-sets-p : goal.bounds-sets-p
-bounds-sets-p c = omega (arith, port_in c.loop-k.invariant (sym c.can_serve.ensures ∙ c.if-can_serve.true))
-
-pub offset_bounds-sets-p-then-can_serve : goal.offset_bounds-sets-p-then-can_serve
-offset_bounds-sets-p-then-can_serve c = omega (arith, port_in c.loop-k.invariant (sym c.can_serve.ensures ∙ c.if-can_serve.true))
-
-pub bounds-sets-p-then-can_serve : goal.bounds-sets-p-then-can_serve
-bounds-sets-p-then-can_serve c = omega (arith, port_in c.loop-k.invariant (sym c.can_serve.ensures ∙ c.if-can_serve.true))
-
-pub targets-preserved-then-can_serve : goal.targets-preserved-then-can_serve
-targets-preserved-then-can_serve c =
-    let l = c.loop-k in
-    rw (c.with.ensures, lt-ltb c.targets.t set_bits (omega arith)) (with_port l.invariant
-    c.loop-k-test.true (sym c.can_serve.ensures ∙ c.if-can_serve.true))
-
-pub loop-k-preserved : goal.loop-k-preserved
-loop-k-preserved c = next_port c.loop-k.invariant c.loop-k-test.true (sym c.can_serve.ensures ∙ c.if-can_serve.false)
-
-pub returns-then-member : goal.returns-then-member
-returns-then-member c = ap of_gathered (sym (no_port c.loop-k.invariant c.loop-k-test.false))
-
-pub targets-preserved : goal.targets-preserved
-targets-preserved c = pass_by c.targets.invariant c.targets-test.true (sym c.member.ensures ∙ c.if-member.false)
+pub returns-in_err-p : goal.returns-in_err-p
+returns-in_err-p c =
+    let found = rw c.list_of.ensures at c.first_serving.ensures.first in
+    rw c.from_residual.ensures
+    (sym (ap of_gathered (not_served c.loop-t.invariant c.loop-t-test.true (sym c.member.ensures ∙ c.if-member.true)
+    (sym found ∙ c.in_err-p.was))))
 
 pub returns : goal.returns
-returns c = ap of_gathered (sym (done c.targets.invariant c.targets-test.false))
+returns c = ap of_gathered (sym (done c.loop-t.invariant c.loop-t-test.false))
