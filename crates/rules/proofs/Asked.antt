@@ -16,7 +16,7 @@ use Rattle.types.specs.declared.Output.{Output}
 use Rattle.model.specs.Network.{list_of}
 use Rattle.model.specs.Router.{first_port, serves, gets, unchosen, gather_from, gather, route}
 use Rattle.rules.specs.Routed.{Routed}
-use Rattle.rules.specs.Router.{spread_or_pass, proper, askable}
+use Rattle.rules.specs.Router.{proper, askable}
 
 pub asked : (l : List ℕ) (S s X : ℕ) → askable l S s X ≡ true → Routed l S s × ((0 < X) × (X < 2 ^ S))
 asked l S s X e =

@@ -2,10 +2,13 @@
 use mathlib.Core.Path.{◌≡◌, refl, sym, ap, ◌∙◌}
 use mathlib.Core.Bool.{Bool, true, false, cond, ◌&&◌, ◌||◌}
 use mathlib.Core.List.{List, [], ◌∷◌}
-use Prim.Native.Nat.{ℕ, ◌^◌, ◌≤◌, ◌<◌}
+use Prim.Native.Nat.{ℕ, ◌+◌, ◌^◌, ◌≤◌, ◌<◌}
 use native.Mathlib.Omega.{arith}
 use borrow.Author.Tests.{lt-ltb, eqb-true, eqb-false, leb-true, ne_eqb}
 use lib.Dec.{eqb, ltb, leb}
+use lib.ListN.{get_or, length, drop, drop_of_length-le}
+use lib.Seq.{drop-cons}
+use native.Mathlib.Numerals.{add-one}
 use Rattle.std.specs.Prelude.{Option, None, Some}
 use Rattle.std.specs.Option.{unwrap_or, option_map}
 use Rattle.std.specs.List.{find, count_by}
@@ -57,6 +60,27 @@ some_port j p e = by_test (eqb j 0) refl e
     by_test : (b : Bool) → eqb j 0 ≡ b → cond b None (Some j) ≡ Some p → (j ≡ p) × (0 < j)
     by_test true h i = absurd (cc)
     by_test false h i = let n : j ≡ 0 → ⊥ = eqb-false j 0 h in (cc, omega arith)
+
+-- what the search from place k on finds
+module _ (ok : ℕ → Bool) (l : List ℕ) (k : ℕ) (h : k < length l) where
+  pub port_hit : ok (get_or l k 0) ≡ true → first_port ok (drop k l) ≡ get_or l k 0
+  unfolding first_port
+  port_hit e = rw (drop-cons l k 0 h, e)
+
+  pub port_miss : ok (get_or l k 0) ≡ false → first_port ok (drop (k + 1) l) ≡ first_port ok (drop k l)
+  unfolding first_port
+  port_miss e = rw (drop-cons l k 0 h, e, add-one k)
+
+pub port_none : (ok : ℕ → Bool) (l : List ℕ) (k : ℕ) → length l ≤ k → first_port ok (drop k l) ≡ 0
+unfolding first_port
+port_none ok l k h = rw (drop_of_length-le l h)
+
+-- a port that serves is one of the four
+pub is_port_lem : (os : List Output) (sets : List ℕ) (p : ℕ) → serves os sets p ≡ true → (1 ≤ p) × (p ≤ port_count)
+is_port_lem os sets p e =
+    let a = both (leb 1 p && leb p port_count) (is_empty os p || is_chosen sets p) e in
+    let b = both (leb 1 p) (leb p port_count) a.0 in
+    (leb-true 1 p b.0, leb-true p port_count b.1)
 
 -- the first of four ports is one of them, or 0
 pub first_chosen_below : (sets : List ℕ) → first_chosen sets ≤ port_count

@@ -1,5 +1,5 @@
 // The router's search: the ports of a route, the first that can serve, and an output for each of several targets.
-ghost use Rattle.std.specs.Prelude.{◌≡◌, ◌<◌, ◌≤◌, IfSome};
+ghost use Rattle.std.specs.Prelude.{◌≡◌, ◌<◌, ◌≤◌, IfSome, IsTrue};
 ghost use Rattle.base.specs.Sizes.{port_count};
 ghost use Rattle.model.specs.Network.{choices, list_of};
 ghost use Rattle.model.specs.Router.{serves, first_port, gather};
@@ -22,7 +22,8 @@ fn ports(route: u16) -> [usize; base::PORTS]
 
 // Whether port p can take a target: one of 1 to 4, empty or already chosen for this packet.
 fn can_serve(outputs: &[Output; base::OUTPUTS], sets: &[u64; base::OUTPUTS], p: usize) -> bool
-    ensures { result ≡ serves outputs.now sets.now p }
+    ensures serves { result ≡ serves outputs.now sets.now p }
+    ensures within { IsTrue result → p ≤ port_count }
 {
     (1..=base::PORTS).contains(&p) && (!outputs[p].used || sets[p] != 0)
 }
@@ -47,6 +48,7 @@ pub(crate) fn list_of(search: Search, t: usize) -> [usize; base::PORTS]
     ports(search.routes[search.site * search.sites + t])
 }
 
+// A search over targets and their ports, left by a label: a form that the specification names.
 // For each target in `others`, ascending, the first output in its list that is empty or already chosen.
 pub(crate) fn gather_outputs(
     search: Search,
@@ -56,10 +58,15 @@ pub(crate) fn gather_outputs(
     ensures { result ≡ of_gathered (gather (searched search.entry) search.entry.site outputs others) }
 {
     let mut sets = [0u64; base::OUTPUTS];
-    for t in 0..search.sites {
+    'targets: for t in 0..search.sites {
         if sets::member(others, t) {
-            let p = first_serving(&outputs, &sets, list_of(search, t))?;
-            sets[p] = sets::with(sets[p], t);
+            for p in list_of(search, t) {
+                if can_serve(&outputs, &sets, p) {
+                    sets[p] = sets::with(sets[p], t);
+                    continue 'targets;
+                }
+            }
+            return None;
         }
     }
     Some(sets)

@@ -13,25 +13,41 @@ struct Cell {
     local: Terminator,
 }
 
-// The table's cell for a received kind and a connection: abort gives abort; end gives end, but output 0 of all-remote
-// abort, and of some-local keep-local.
+const ENDS: Cell = Cell {
+    remote: Terminator::End,
+    local: Terminator::End,
+};
+
+const ABORTS: Cell = Cell {
+    remote: Terminator::Abort,
+    local: Terminator::Abort,
+};
+
+// The terminator table: a row for each received kind, end and abort, in it a cell for each connection, unicast, passthru,
+// all-remote, some-local, handed and branch.
+const TABLE: [[Cell; 6]; 2] = [
+    [
+        ENDS,
+        ENDS,
+        Cell {
+            remote: Terminator::End,
+            local: Terminator::Abort,
+        },
+        Cell {
+            remote: Terminator::End,
+            local: Terminator::KeepLocal,
+        },
+        ENDS,
+        ENDS,
+    ],
+    [ABORTS; 6],
+];
+
+// The table's cell for a received kind and a connection.
 fn cell_of(received: Received, connection: Connection) -> Cell
     ensures { result ≡ table_cell received connection }
 {
-    match received {
-        Received::Abort => Cell {
-            remote: Terminator::Abort,
-            local: Terminator::Abort,
-        },
-        Received::End => Cell {
-            remote: Terminator::End,
-            local: match connection {
-                Connection::AllRemote => Terminator::Abort,
-                Connection::SomeLocal => Terminator::KeepLocal,
-                _ => Terminator::End,
-            },
-        },
-    }
+    TABLE[received as usize][connection as usize]
 }
 
 // The terminators that the table gives the outputs 0 to 5.
