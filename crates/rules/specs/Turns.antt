@@ -23,26 +23,27 @@ use Rattle.rules.specs.declared.places.ChannelTurn.{ChannelTurn}
 use Rattle.rules.specs.declared.places.QueueTurn.{QueueTurn}
 use Rattle.rules.specs.declared.work.OperatorTurn.{OperatorTurn}
 
+-- a turn of two places, which the code holds in a struct
+abbrev pub of_turn : {A B R : Type 0} → (A → B → R) → Turn A B → Option R
+of_turn made Stay = None
+of_turn made (To a b) = Some (made a b)
+
 abbrev pub of_local_turn : Turn Output InQueue → Option LocalTurn
-of_local_turn Stay = None
-of_local_turn (To p r) = Some (record { queue = r; output = p })
+of_local_turn t = of_turn (λ o q. record { queue = q; output = o }) t
 
 abbrev pub of_channel_turn : Turn Output Input → Option ChannelTurn
-of_channel_turn Stay = None
-of_channel_turn (To p z) = Some (record { output = p; input = z })
+of_channel_turn t = of_turn (λ o y. record { output = o; input = y }) t
 
 abbrev pub of_queue_turn : Turn OutQueue Input → Option QueueTurn
-of_queue_turn Stay = None
-of_queue_turn (To r z) = Some (record { queue = r; input = z })
+of_queue_turn t = of_turn (λ q y. record { queue = q; input = y }) t
+
+abbrev pub of_input_turn : Turn Input (List Output) → Option InputTurn
+of_input_turn t = of_turn (λ y os. record { outputs = os; input = y }) t
 
 abbrev pub of_work : Work → Option OperatorTurn
 of_work Rest = None
 of_work (Cleared c d) = Some (record { incoming = c; outgoing = d; serviced = None })
 of_work (Service c d q) = Some (record { incoming = c; outgoing = d; serviced = Some q })
-
-abbrev pub of_input_turn : Turn Input (List Output) → Option InputTurn
-of_input_turn Stay = None
-of_input_turn (To z ps) = Some (record { outputs = ps; input = z })
 
 -- a queue's entries without the front, spelled out: of eight places, as the code holds them
 abbrev pub shifted : {A : Type 0} → A → List A → List A
