@@ -38,6 +38,17 @@ pub cond_not : {A : Type 0} (b : Bool) (x z : A) → cond (not b) x z ≡ cond b
 cond_not true x z = refl
 cond_not false x z = refl
 
+-- the state of number 1
+pub only_seek : (ph : Phase) → state_number ph ≡ 1 → ph ≡ Seek
+only_seek Free e = absurd (omega arith)
+only_seek Seek e = refl
+only_seek (Open c) e = absurd (omega arith)
+only_seek (Wait c) e = absurd (omega arith)
+only_seek (Done c r) e = absurd (omega arith)
+only_seek (Last c r) e = absurd (omega arith)
+only_seek (Aborted c) e = absurd (omega arith)
+only_seek (FinAbort c r) e = absurd (omega arith)
+
 -- ---- the rule of every state but seek, and that of seek, as the model's rule of a net-input
 
 module _ (y : Input) (os : List Output) (isReady : ℕ → Bool) (n : Network) (s i : ℕ) where
@@ -57,20 +68,9 @@ module _ (y : Input) (os : List Output) (isReady : ℕ → Bool) (n : Network) (
   unfolding other_turn
   other_is h = other_state y.phase h
 
-  seek_state : (ph : Phase) → state_number ph ≡ 1
-      → in_state n s i y os isReady ph ≡ seek n.tries i y os (route n s os y.set)
-  unfolding in_state
-  seek_state Free e = absurd (omega arith)
-  seek_state Seek e = refl
-  seek_state (Open c) e = absurd (omega arith)
-  seek_state (Wait c) e = absurd (omega arith)
-  seek_state (Done c r) e = absurd (omega arith)
-  seek_state (Last c r) e = absurd (omega arith)
-  seek_state (Aborted c) e = absurd (omega arith)
-  seek_state (FinAbort c r) e = absurd (omega arith)
-
   pub seek_is : state_number y.phase ≡ 1 → net_input n s i y os isReady ≡ seek n.tries i y os (route n s os y.set)
-  seek_is e = seek_state y.phase e
+  unfolding in_state
+  seek_is e = rw (only_seek y.phase e) refl
 
 -- the router's choice, as the code's answer and back
 pub choice_back : (c : Choice) → to_choice (of_choice c) ≡ c

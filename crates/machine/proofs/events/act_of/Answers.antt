@@ -3,7 +3,7 @@ use Rattle.theorems.proofs.Networks.{valid_ok}
 use Rattle.machine.proofs.RangeAt.{range_runnable}
 use Rattle.machine.proofs.Seen.{valid_ends}
 use Rattle.machine.proofs.Single.{looked_seen}
-use Rattle.machine.proofs.events.change_of.Goals as goal
+use Rattle.machine.proofs.events.act_of.Goals as goal
 
 pub seen_at-seen-requires : goal.seen_at-seen-requires
 seen_at-seen-requires c =
