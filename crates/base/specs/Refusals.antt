@@ -1,5 +1,5 @@
 -- A refusal's number, and what an answer is in such numbers: 0, or that of its refusal. Assumes nothing.
-use Rattle.std.specs.Prelude.{◌≡◌, refl, false, cond, ℕ, eqb, Result, Ok, Err}
+use Rattle.std.specs.Prelude.{◌≡◌, refl, false, cond, ℕ, eqb, Option, Some, None, Result, Ok, Err}
 use borrow.Author.Tests.{eqb-false}
 use Rattle.base.specs.declared.refusal.Refusal.{Refusal}
 use Rattle.base.specs.declared.refusal.Refusal.TheVariants.{Length, Version, Edition, Sizes, Seed, Count, Channels, Routes, Sends}
@@ -27,6 +27,10 @@ number Argument = 20
 abbrev pub refusal_of : {A : Type 0} → Result A Refusal → ℕ
 refusal_of (Ok x) = 0
 refusal_of (Err e) = number e
+
+abbrev pub number_of : Option Refusal → ℕ
+number_of None = 0
+number_of (Some e) = number e
 
 -- no refusal has the number of none
 pub number_some : (e : Refusal) → eqb (number e) 0 ≡ false

@@ -1,6 +1,7 @@
 -- Draws stay in 32 bits and never reach 0 from another value; an event that is named lies within its limits.
 -- Assumes nothing.
 use mathlib.Core.Path.{◌≡◌, refl, sym, ap, ◌∙◌}
+use Rattle.std.specs.Prelude.{Result, Ok, Err, IsOk}
 use mathlib.Core.Bool.{false, ◌&&◌}
 use Prim.Native.Nat.{ℕ, zero, suc, ◌+◌, ◌*◌, ◌/◌, ◌%◌, ◌^◌, ◌≤◌, ◌<◌}
 use native.Mathlib.Nat.{mod-lt, lt_of_le_of_lt, mul_assoc, pow-suc, pow-succ'}
@@ -13,7 +14,10 @@ use lib.Dec.{leb, lit<}
 use lib.Pow.{pow_pos, shr_le}
 use Rattle.base.specs.Bools.{and, cond_ok}
 use Rattle.base.specs.Sizes.{sites_most, code_count, split_code_count}
-use Rattle.draws.specs.Draws.{left_xor, right_xor, drawn, value_after, restricted, codes_in, Shares, drawn_site, drawn_code, event_of}
+use Rattle.base.specs.declared.refusal.Refusal.{Refusal}
+use Rattle.base.specs.Refusals.{number_nonzero}
+use Rattle.draws.specs.declared.Event.{Event}
+use Rattle.draws.specs.Draws.{DrawnEvent, told, left_xor, right_xor, drawn, value_after, restricted, codes_in, Shares, drawn_site, drawn_code, event_of}
 
 -- ---- values
 
@@ -102,3 +106,9 @@ pub event_refused : (edition S value : ℕ) → leb 1 S && leb S sites_most ≡ 
     → event_of edition S value ≡ record { refusal = 3; site = 0; code = 0 }
 unfolding event_of
 event_refused edition S value h = rw h refl
+
+-- what names an event is no refusal
+pub event_ok : (E S v : ℕ) (r : Result Event Refusal) → told r ≡ event_of E S v → 1 ≤ S → S ≤ sites_most → IsOk r
+event_ok E S v (Ok e) h some few = refl
+event_ok E S v (Err e) h some few =
+    absurd (number_nonzero e (ap (λ (d : DrawnEvent). d.refusal) (h ∙ event_named E S v some few)))

@@ -10,7 +10,7 @@ use lib.ListN.{length}
 use Rattle.base.specs.Sizes.{sends_most, set_bits}
 use Rattle.sets.specs.Sets.{size}
 use Rattle.sets.proofs.LawsBit.{size_most}
-use Rattle.draws.specs.declared.DrawnEvent.{DrawnEvent}
+use Rattle.draws.specs.Draws.{DrawnEvent}
 use Rattle.draws.specs.Draws.{drawn, event_of}
 use Rattle.draws.proofs.Laws.{event_named, site_below}
 use Rattle.types.specs.declared.State.{State}

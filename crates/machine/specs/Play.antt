@@ -1,6 +1,6 @@
 -- Document 01, "Draws and the stored run": what the player answers to any bytes, with any room lent for the book.
 -- Assumes nothing.
-use Rattle.std.specs.Prelude.{ℕ, ◌*◌, ◌≤◌, ◌≡◌, List, cond, eqb, ltb, length, get_or}
+use Rattle.std.specs.Prelude.{ℕ, ◌*◌, ◌≤◌, ◌≡◌, List, cond, eqb, ltb, length, get_or, Result, Ok, Err}
 use Rattle.base.specs.Sizes.{sends_most}
 use Rattle.base.specs.Answers.{or_next, at_front}
 use Rattle.base.specs.Sums.{upto}
@@ -14,7 +14,9 @@ use Rattle.model.specs.Runs.{stored_refusal, book_bytes, book_room, played_run, 
 use Rattle.format.specs.Format.{run_of}
 use Rattle.format.specs.Refusals.{Decoded}
 use Rattle.format.specs.Refusals.{read_refusal, decode}
-use Rattle.machine.specs.declared.player.PlayAnswer.{PlayAnswer}
+use Rattle.base.specs.declared.refusal.Refusal.{Refusal}
+use Rattle.base.specs.Refusals.{number, number_of}
+use Rattle.machine.specs.declared.player.Started.{Started}
 
 -- "player 1 to 8, then 14": the reader's, then "14 .. for the book below 4 times the summed sizes of the stored sends'
 -- sets"; 0 for bytes b that are played with so much room
@@ -25,6 +27,11 @@ play_refusal b room = or_next (read_refusal b) (cond (ltb room (book_room (run_o
 abbrev pub no_counts : Counts
 no_counts = record { accepted = 0; pairs = 0; serviced = 0; owed = 0 }
 
+-- the counts of a run that is played; or the refusal, and counts of zero
+pub record PlayAnswer : Type 0 where
+  pub refusal : ℕ
+  pub counts : Counts
+
 abbrev pub refused_by : ℕ → PlayAnswer
 refused_by k = record { refusal = k; counts = no_counts }
 
@@ -34,6 +41,11 @@ unfoldable pub play_answer : List ℕ → ℕ → PlayAnswer
 play_answer b room =
     cond (eqb (play_refusal b room) 0) (record { refusal = 0; counts = counts_of (played_run (run_of b)) })
     (refused_by (play_refusal b room))
+
+-- an answer of the code in these words
+abbrev pub told_play : Result Counts Refusal → PlayAnswer
+told_play (Ok c) = record { refusal = 0; counts = c }
+told_play (Err e) = refused_by (number e)
 
 -- the book of run r in the lent bytes
 abbrev pub book_in : Run → List ℕ → List ℕ
@@ -62,6 +74,10 @@ pub record Playable (r : Run) (room : ℕ) : Type 0 where
   pub valid : stored_refusal r ≡ 0
   pub held : length r.sends ≡ sends_most
   pub wide : book_room r ≤ room
+
+-- what the code starts from in these words
+abbrev pub told_start : Started → Decoded
+told_start s = record { refusal = number_of s.refused; run = s.run }
 
 -- what a player starts from, with so many bytes lent: its refusal, and the run that the reader hands over
 unfoldable pub start_of : List ℕ → ℕ → Decoded

@@ -11,6 +11,7 @@ ghost use Rattle.machine.specs.Step.{looked};
 use crate::inputs::blocking_at;
 use crate::step::{Act, step};
 use crate::store::{answer_to, seen_at, store_act};
+use base::Refusal;
 use rules::{empty_output, free_input};
 use types::{
     AfterRun, AfterSend, InEntry, InQueue, Network, OutEntry, OutQueue, Ran, Sent, Site, State,
@@ -91,10 +92,9 @@ fn run_checked(network: Network, state: State, s: usize, code: usize) -> AfterRu
 pub fn run(network: Network, state: State, site: usize, code: usize) -> AfterRun
     ensures { result ≡ spec.ran network state site code }
 {
-    let refusal = checks::event_refusal(network, state);
-    if refusal != 0 {
+    if let Err(refusal) = checks::event_refusal(network, state) {
         return AfterRun {
-            answer: Ran::Refused(refusal),
+            answer: Ran::Refused(u8::from(refusal)),
             blocking: 0,
             state,
         };
@@ -103,7 +103,7 @@ pub fn run(network: Network, state: State, site: usize, code: usize) -> AfterRun
         return run_checked(network, state, site, code);
     }
     AfterRun {
-        answer: Ran::Refused(9),
+        answer: Ran::Refused(u8::from(Refusal::Unknown)),
         blocking: 0,
         state,
     }
@@ -154,10 +154,10 @@ pub(crate) fn try_send(network: Network, state: State, s: usize, set: u64) -> Af
     ensures { result ≡ try_send network state s set }
 {
     let entries = out_entries(state.sites, s);
-    let refusal = checks::send_fault(network.sites, network.depth, state.counter, entries, s, set);
-    if refusal != 0 {
+    let judged = checks::send_fault(network.sites, network.depth, state.counter, entries, s, set);
+    if let Err(refusal) = judged {
         return AfterSend {
-            answer: Sent::Refused(refusal),
+            answer: Sent::Refused(u8::from(refusal)),
             state,
         };
     }
@@ -168,10 +168,9 @@ pub(crate) fn try_send(network: Network, state: State, s: usize, set: u64) -> Af
 pub fn send(network: Network, state: State, site: usize, set: u64) -> AfterSend
     ensures { result ≡ spec.sent network state site set }
 {
-    let refusal = checks::event_refusal(network, state);
-    if refusal != 0 {
+    if let Err(refusal) = checks::event_refusal(network, state) {
         return AfterSend {
-            answer: Sent::Refused(refusal),
+            answer: Sent::Refused(u8::from(refusal)),
             state,
         };
     }

@@ -1,38 +1,17 @@
 // The player: the stored run that bytes stand for, played by the book, turn by turn on one state; its services are entered in a lent book.
 // A turn is a send that is due, or a draw. specs/Play.antt has what it answers, specs/Progress.antt the turns.
-ghost use Rattle.std.specs.Prelude.{◌≡◌, length};
+ghost use Rattle.std.specs.Prelude.{◌≡◌, None, length};
 ghost use Rattle.model.specs.Runs.{played_run, counts_of};
-ghost use Rattle.machine.specs.Play.{refused_by, play_answer, play_book, book_in, run_with, Playable, start_of};
+ghost use Rattle.format.specs.Format.{no_run};
+ghost use Rattle.machine.specs.Play.{play_answer, play_book, book_in, run_with, Playable, start_of, told_start, told_play};
 
 use crate::clock::{Clock, ticked};
 use crate::events::{act_of, empty_state, try_send};
 use crate::owing::owed_pairs;
 use crate::store::{answer_to, store_act};
 use crate::turns::{book_room, capped, enter_answer, is_due};
-use format::Decoded;
-use types::{Counts, Network, Sent, StoredSend};
-
-// What the player answers: the refusal, or 0 and the counts; with a refusal all counts are zero.
-#[derive(Clone, Copy)]
-pub struct PlayAnswer {
-    pub refusal: u8,
-    pub counts: Counts,
-}
-
-// The answer with a refusal.
-pub fn refused(refusal: u8) -> PlayAnswer
-    ensures { result ≡ refused_by refusal }
-{
-    PlayAnswer {
-        refusal,
-        counts: Counts {
-            accepted: 0,
-            pairs: 0,
-            serviced: 0,
-            owed: 0,
-        },
-    }
-}
+use base::Refusal;
+use types::{Counts, Network, Run, Sent, StoredSend};
 
 // A valid run played from the empty state, the book large enough: one state, advanced draw by draw by the core step by value.
 fn play_run(
@@ -78,9 +57,9 @@ fn play_run(
             continue;
         }
         clock = ticked(clock);
-        let named = draws::event_of(clock.value, network.sites, network.edition);
-        let s = named.site;
-        let looked = act_of(network, state, s, named.code);
+        let event = draws::event_of(clock.value, network.sites, network.edition).unwrap();
+        let s = event.site;
+        let looked = act_of(network, state, s, event.code);
         state = store_act(state, s, looked.act);
         let answer = answer_to(&looked.act, s);
         serviced = enter_answer(book, serviced, d, answer);
@@ -94,41 +73,66 @@ fn play_run(
     }
 }
 
-// What a player starts from, with so many bytes lent for the book: refusals 1 to 8 and 14, or 0, and the run that the reader hands over.
-pub fn start(bytes: &[u8], room: usize) -> Decoded
-    ensures { (result ≡ start_of bytes.now room)
-        × (result.refusal ≡ 0 → Playable result.run room) }
-{
-    let decoded = archive::read(bytes);
-    let refusal = decoded.refusal;
-    let run = decoded.run;
-    let sends = run.sends;
-    let count = run.count;
-    if refusal != 0 {
-        return decoded;
-    }
-    if room < book_room(sends, count) {
-        return Decoded { refusal: 14, run };
-    }
-    decoded
+// What a player starts from: the run that the reader hands over, and why it is not played, if anything.
+#[derive(Clone, Copy)]
+pub struct Started {
+    pub refused: Option<Refusal>,
+    pub run: Run,
 }
 
-// The player, for any bytes and any lent room: refusals 1 to 8 and 14, or the run played and its book at the room's front.
-pub fn play(bytes: &[u8], book: &mut [u8]) -> PlayAnswer
-    ensures { (result ≡ play_answer bytes.now (length book.old))
+// The all-zero run.
+fn no_run() -> Run
+    ensures { result ≡ no_run }
+{
+    let none = StoredSend {
+        set: 0,
+        draw: 0,
+        site: 0,
+    };
+    Run {
+        network: Network {
+            sites: 0,
+            depth: 0,
+            tries: 0,
+            version: 0,
+            edition: 0,
+            channels: [0; base::PORTS * base::SITES],
+            routes: [0; base::SITES * base::SITES],
+        },
+        seed: 0,
+        draws: 0,
+        count: 0,
+        sends: [none; base::SENDS],
+    }
+}
+
+// What a player starts from, with so many bytes lent for the book: refusals 1 to 8, 17 and 14.
+pub fn start(bytes: &[u8], room: usize) -> Started
+    ensures { (told_start result ≡ start_of bytes.now room)
+        × (result.refused ≡ None → Playable result.run room) }
+{
+    match archive::read(bytes) {
+        Err(refusal) => Started {
+            refused: Some(refusal),
+            run: no_run(),
+        },
+        Ok(run) if room < book_room(run.sends, run.count) => Started {
+            refused: Some(Refusal::Room),
+            run,
+        },
+        Ok(run) => Started { refused: None, run },
+    }
+}
+
+// The player, for any bytes and any lent room: refusals 1 to 8, 17 and 14, or the run played and its book at the room's front.
+pub fn play(bytes: &[u8], book: &mut [u8]) -> Result<Counts, Refusal>
+    ensures { (told_play result ≡ play_answer bytes.now (length book.old))
         × (book.new ≡ play_book bytes.now book.old) }
 {
     let started = start(bytes, book.len());
-    let refusal = started.refusal;
-    let run = started.run;
-    let network = run.network;
-    let sends = run.sends;
-    let count = run.count;
-    let seed = run.seed;
-    let draws = run.draws;
-    if refusal != 0 {
-        return refused(refusal);
+    if let Some(refusal) = started.refused {
+        return Err(refusal);
     }
-    let counts = play_run(network, sends, count, seed, draws, book);
-    PlayAnswer { refusal: 0, counts }
+    let run = started.run;
+    Ok(play_run(run.network, run.sends, run.count, run.seed, run.draws, book))
 }

@@ -9,7 +9,7 @@ use lib.Dec.{eqb, ltb}
 use Rattle.base.specs.Bools.{clash}
 use Rattle.base.specs.Sizes.{sites_most}
 use Rattle.sets.specs.Sets.{size}
-use Rattle.draws.specs.declared.DrawnEvent.{DrawnEvent}
+use Rattle.draws.specs.Draws.{DrawnEvent}
 use Rattle.draws.specs.Draws.{drawn, drawn_site, drawn_code, event_of}
 use Rattle.draws.proofs.Laws.{event_named, site_below}
 use Rattle.types.specs.declared.State.{State}

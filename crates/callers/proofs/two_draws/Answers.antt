@@ -1,7 +1,7 @@
 -- `two_draws`: two values drawn, the event that each names, its RUN. Assumes nothing.
 use Prim.Native.Nat.{ℕ}
 use mathlib.Core.Path.{◌≡◌, refl}
-use Rattle.draws.specs.declared.DrawnEvent.{DrawnEvent}
+use Rattle.draws.specs.Draws.{DrawnEvent}
 use Rattle.draws.specs.Draws.{drawn, event_of}
 use Rattle.types.specs.declared.AfterRun.{AfterRun}
 use Rattle.types.specs.declared.Network.{Network}

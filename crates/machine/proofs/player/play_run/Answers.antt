@@ -1,4 +1,6 @@
-use mathlib.Core.Path.{refl}
+use mathlib.Core.Path.{refl, sym, ap, ◌∙◌}
+use Rattle.draws.specs.Draws.{told}
+use Rattle.draws.proofs.Laws.{event_ok}
 use native.Mathlib.Omega.{arith}
 use Rattle.machine.specs.Play.{run_with}
 use Rattle.machine.specs.Progress.{capped_below}
@@ -64,21 +66,23 @@ loop-turn-preserved-then-is_due c =
 pub act_of-looked-requires : goal.act_of-looked-requires
 act_of-looked-requires c =
     let at = c.loop-turn.invariant in
-    (network_ok at, state_in_range at, named_below at c.ticked-clock.result.value c.event_of-named.ensures)
+    let named = ap told (sym c.unwrap-event.ensures) ∙ c.event_of.ensures in
+    (network_ok at, state_in_range at, named_below at c.ticked-clock.result.value named)
 
 pub store_act-state-requires : goal.store_act-state-requires
 store_act-state-requires c =
     let n = c.args.network in
-    let e = c.event_of-named in
-    let own = act_storable n (network_ok c.loop-turn.invariant) c.loop-turn.state.sites e.result.site e.result.code
-    (named_below c.loop-turn.invariant c.ticked-clock.result.value e.ensures) (looked_act c.act_of-looked.ensures) in
+    let e = c.unwrap-event.result in
+    let named = ap told (sym c.unwrap-event.ensures) ∙ c.event_of.ensures in
+    let own = act_storable n (network_ok c.loop-turn.invariant) c.loop-turn.state.sites e.site e.code
+    (named_below c.loop-turn.invariant c.ticked-clock.result.value named) (looked_act c.act_of-looked.ensures) in
     record { site = own.0; passable = own.1 }
 
 pub answer_to-answer-requires : goal.answer_to-answer-requires
 answer_to-answer-requires c =
     let at = c.loop-turn.invariant in
-    let e = c.event_of-named in
-    omega (arith, named_below at c.ticked-clock.result.value e.ensures, (network_valid at).few)
+    let named = ap told (sym c.unwrap-event.ensures) ∙ c.event_of.ensures in
+    omega (arith, named_below at c.ticked-clock.result.value named, (network_valid at).few)
 
 pub loop-turn-smaller : goal.loop-turn-smaller
 loop-turn-smaller c = omega arith
@@ -86,11 +90,12 @@ loop-turn-smaller c = omega arith
 pub loop-turn-preserved : goal.loop-turn-preserved
 loop-turn-preserved c =
     let n = c.args.network in
-    let named = c.event_of-named in
-    let ran = run_done n c.loop-turn.state named.result.site named.result.code (looked_act c.act_of-looked.ensures)
+    let e = c.unwrap-event.result in
+    let named = ap told (sym c.unwrap-event.ensures) ∙ c.event_of.ensures in
+    let ran = run_done n c.loop-turn.state e.site e.code (looked_act c.act_of-looked.ensures)
     c.answer_to-answer.ensures c.store_act-state.ensures refl in
     drawn_on c.loop-turn.invariant c.loop-turn-test.true c.capped-place.ensures
-    c.is_due.ensures c.if-is_due.false c.ticked-clock.ensures named.ensures ran
+    c.is_due.ensures c.if-is_due.false c.ticked-clock.ensures named ran
     c.enter_answer-serviced.ensures.0 c.enter_answer-serviced.ensures.1
 
 pub shape_of-book : goal.shape_of-book
@@ -98,3 +103,9 @@ shape_of-book c = (known c.loop-turn.invariant).kept
 
 pub returns : goal.returns
 returns c = ended c.loop-turn.invariant c.loop-turn-test.false c.owed_pairs-owed.ensures
+
+pub unwrap-event-requires : goal.unwrap-event-requires
+unwrap-event-requires c =
+    let n = c.args.network in
+    let v = network_valid c.loop-turn.invariant in
+    event_ok n.edition n.sites c.ticked-clock.result.value c.event_of.result c.event_of.ensures v.some v.few
