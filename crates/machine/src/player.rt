@@ -3,7 +3,7 @@
 ghost use Rattle.std.specs.Prelude.{◌≡◌, None, length};
 ghost use Rattle.model.specs.Runs.{played_run, counts_of};
 ghost use Rattle.format.specs.Format.{no_run};
-ghost use Rattle.machine.specs.Play.{play_answer, play_book, book_in, run_with, Playable, start_of, told_start, told_play};
+ghost use Rattle.machine.specs.Play.{play_answer, play_book, book_in, Playable, start_of, told_start, told_play};
 
 use crate::clock::{Clock, ticked};
 use crate::events::{act_of, empty_state, try_send};
@@ -14,62 +14,47 @@ use base::Refusal;
 use types::{Counts, Network, Run, Sent, StoredSend};
 
 // A valid run played from the empty state, the book large enough: one state, advanced draw by draw by the core step by value.
-fn play_run(
-    network: Network,
-    sends: [StoredSend; base::SENDS],
-    count: usize,
-    seed: u32,
-    draws: u16,
-    book: &mut [u8],
-) -> Counts
-    requires { Playable (run_with network sends count seed draws) (length book.old) }
-    ensures { (result ≡ counts_of (played_run (run_with network sends count seed draws)))
-        × (book.new ≡ book_in (run_with network sends count seed draws) book.old) }
+fn play_run(run: &Run, book: &mut [u8]) -> Counts
+    requires { Playable run.now (length book.old) }
+    ensures { (result ≡ counts_of (played_run run.now)) × (book.new ≡ book_in run.now book.old) }
 {
-    let total = count + (draws as usize);
+    let network = run.network;
+    let total = run.count + (run.draws as usize);
     let mut state = empty_state();
     let mut clock = Clock {
-        value: seed,
+        value: run.seed,
         draw: 0,
     };
-    let mut next: usize = 0;
-    let mut accepted: usize = 0;
-    let mut pairs: usize = 0;
-    let mut serviced: usize = 0;
-    let mut turn: usize = 0;
-    while turn < total {
-        turn += 1;
-        let place = capped(next);
-        let order = sends[place];
-        let d = clock.draw;
-        if is_due(order, next, count, d) {
+    let mut next = 0usize;
+    let mut accepted = 0usize;
+    let mut pairs = 0usize;
+    let mut serviced = 0usize;
+    for _turn in 0..total {
+        let order = run.sends[capped(next)];
+        let draw = clock.draw;
+        if is_due(order, next, run.count, draw) {
             next += 1;
-            let set = order.set;
-            let after = try_send(network, state, base::wide(order.site), set);
-            let answer = after.answer;
-            let sent = after.state;
-            let Sent::Accepted(_) = answer else {
+            let after = try_send(network, state, base::wide(order.site), order.set);
+            let Sent::Accepted(_) = after.answer else {
                 continue;
             };
-            state = sent;
+            state = after.state;
             accepted += 1;
-            pairs += sets::size(set);
+            pairs += sets::size(order.set);
             continue;
         }
         clock = ticked(clock);
         let event = draws::event_of(clock.value, network.sites, network.edition).unwrap();
-        let s = event.site;
-        let looked = act_of(network, state, s, event.code);
-        state = store_act(state, s, looked.act);
-        let answer = answer_to(&looked.act, s);
-        serviced = enter_answer(book, serviced, d, answer);
+        let looked = act_of(network, state, event.site, event.code);
+        state = store_act(state, event.site, looked.act);
+        let answer = answer_to(&looked.act, event.site);
+        serviced = enter_answer(book, serviced, draw, answer);
     }
-    let owed = owed_pairs(state);
     Counts {
         accepted,
         pairs,
         serviced,
-        owed,
+        owed: owed_pairs(state),
     }
 }
 
@@ -133,6 +118,5 @@ pub fn play(bytes: &[u8], book: &mut [u8]) -> Result<Counts, Refusal>
     if let Some(refusal) = started.refused {
         return Err(refusal);
     }
-    let run = started.run;
-    Ok(play_run(run.network, run.sends, run.count, run.seed, run.draws, book))
+    Ok(play_run(&started.run, book))
 }

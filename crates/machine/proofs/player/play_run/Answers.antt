@@ -2,31 +2,19 @@ use mathlib.Core.Path.{refl, sym, ap, ◌∙◌}
 use Rattle.draws.specs.Draws.{told}
 use Rattle.draws.proofs.Laws.{event_ok}
 use native.Mathlib.Omega.{arith}
-use Rattle.machine.specs.Play.{run_with}
-use Rattle.machine.specs.Progress.{capped_below}
+use borrow.Author.Rules.{rules}
 use Rattle.machine.proofs.ProgressLaws.{stored_sends}
-use Rattle.machine.proofs.PlayerTurns.{begun, known, total_most, set_most, next_most, accepted_most, pairs_most, network_valid}
+use Rattle.machine.proofs.PlayerTurns.{begun, known, set_most, next_most, accepted_most, pairs_most, network_valid}
 use Rattle.machine.proofs.PlayerTurns.{network_ok, state_in_range, named_below, sent_on, drawn_on, ended}
 use Rattle.machine.proofs.Single.{act_storable, run_done, looked_act}
 use Rattle.machine.proofs.player.play_run.Goals as goal
 
 pub overflow_add-total : goal.overflow_add-total
 overflow_add-total c =
-    let a = c.args in
-    let r = run_with a.network a.sends a.count a.seed a.draws in
-    omega (arith, (stored_sends r c.requires.valid).0, c.ranges.draws)
+    omega (arith, (stored_sends c.args.run.now c.requires.valid).0)
 
 pub loop-turn-init : goal.loop-turn-init
-loop-turn-init c = begun c.requires refl (omega (arith, c.ranges.draws)) c.empty_state-state.ensures
-
-pub overflow_add-turn : goal.overflow_add-turn
-overflow_add-turn c = omega (arith, total_most c.loop-turn.invariant, c.loop-turn-test.true)
-
-pub offset_bounds-sends-place : goal.offset_bounds-sends-place
-offset_bounds-sends-place c = omega (arith, c.capped-place.ensures, capped_below c.loop-turn.next)
-
-pub bounds-sends-place : goal.bounds-sends-place
-bounds-sends-place c = omega (arith, c.capped-place.ensures, capped_below c.loop-turn.next)
+loop-turn-init c = begun c.requires refl (search rules) c.empty_state-state.ensures
 
 pub overflow_add-next : goal.overflow_add-next
 overflow_add-next c = omega (arith, next_most c.loop-turn.invariant)
@@ -34,13 +22,10 @@ overflow_add-next c = omega (arith, next_most c.loop-turn.invariant)
 pub try_send-after-requires : goal.try_send-after-requires
 try_send-after-requires c = let v = network_valid c.loop-turn.invariant in (v.few, v.deep)
 
-pub loop-turn-smaller-in_default : goal.loop-turn-smaller-in_default
-loop-turn-smaller-in_default c = omega arith
-
 pub loop-turn-preserved-in_default : goal.loop-turn-preserved-in_default
 loop-turn-preserved-in_default c =
     let at = c.loop-turn.invariant in
-    sent_on at c.loop-turn-test.true c.capped-place.ensures
+    sent_on at c.loop-turn-test.true c.capped.ensures
     c.is_due.ensures c.if-is_due.true c.wide.ensures.0
     c.try_send-after.ensures c.in_default.is
 
@@ -50,16 +35,13 @@ overflow_add-accepted c = omega (arith, accepted_most c.loop-turn.invariant)
 pub overflow_add-pairs : goal.overflow_add-pairs
 overflow_add-pairs c =
     let at = c.loop-turn.invariant in
-    omega (arith, pairs_most at, set_most at c.capped-place.result c.size-pairs.ensures)
-
-pub loop-turn-smaller-then-is_due : goal.loop-turn-smaller-then-is_due
-loop-turn-smaller-then-is_due c = omega arith
+    omega (arith, pairs_most at, set_most at c.capped.result c.size-pairs.ensures)
 
 pub loop-turn-preserved-then-is_due : goal.loop-turn-preserved-then-is_due
 loop-turn-preserved-then-is_due c =
     let at = c.loop-turn.invariant in
     rw c.size-pairs.ensures
-    (sent_on at c.loop-turn-test.true c.capped-place.ensures
+    (sent_on at c.loop-turn-test.true c.capped.ensures
     c.is_due.ensures c.if-is_due.true c.wide.ensures.0
     c.try_send-after.ensures c.in-Accepted.is)
 
@@ -71,7 +53,7 @@ act_of-looked-requires c =
 
 pub store_act-state-requires : goal.store_act-state-requires
 store_act-state-requires c =
-    let n = c.args.network in
+    let n = c.args.run.now.network in
     let e = c.unwrap-event.result in
     let named = ap told (sym c.unwrap-event.ensures) ∙ c.event_of.ensures in
     let own = act_storable n (network_ok c.loop-turn.invariant) c.loop-turn.state.sites e.site e.code
@@ -84,17 +66,14 @@ answer_to-answer-requires c =
     let named = ap told (sym c.unwrap-event.ensures) ∙ c.event_of.ensures in
     omega (arith, named_below at c.ticked-clock.result.value named, (network_valid at).few)
 
-pub loop-turn-smaller : goal.loop-turn-smaller
-loop-turn-smaller c = omega arith
-
 pub loop-turn-preserved : goal.loop-turn-preserved
 loop-turn-preserved c =
-    let n = c.args.network in
+    let n = c.args.run.now.network in
     let e = c.unwrap-event.result in
     let named = ap told (sym c.unwrap-event.ensures) ∙ c.event_of.ensures in
     let ran = run_done n c.loop-turn.state e.site e.code (looked_act c.act_of-looked.ensures)
     c.answer_to-answer.ensures c.store_act-state.ensures refl in
-    drawn_on c.loop-turn.invariant c.loop-turn-test.true c.capped-place.ensures
+    drawn_on c.loop-turn.invariant c.loop-turn-test.true c.capped.ensures
     c.is_due.ensures c.if-is_due.false c.ticked-clock.ensures named ran
     c.enter_answer-serviced.ensures.0 c.enter_answer-serviced.ensures.1
 
@@ -102,10 +81,10 @@ pub shape_of-book : goal.shape_of-book
 shape_of-book c = (known c.loop-turn.invariant).kept
 
 pub returns : goal.returns
-returns c = ended c.loop-turn.invariant c.loop-turn-test.false c.owed_pairs-owed.ensures
+returns c = ended c.loop-turn.invariant c.loop-turn-test.false c.owed_pairs.ensures
 
 pub unwrap-event-requires : goal.unwrap-event-requires
 unwrap-event-requires c =
-    let n = c.args.network in
+    let n = c.args.run.now.network in
     let v = network_valid c.loop-turn.invariant in
     event_ok n.edition n.sites c.ticked-clock.result.value c.event_of.result c.event_of.ensures v.some v.few
