@@ -3,6 +3,7 @@ pub mod Sizes
 pub mod Bools
 pub mod Answers
 pub mod All
+pub mod Ranges
 pub mod Over
 pub mod Rows
 pub mod Flat
