@@ -1,6 +1,6 @@
--- The method `all` of a range of numbers, as the fold `all`. No contract cites this file: what it imports leads to proofs of std.
+-- What the methods of a range of numbers answer, as the tests of All.antt. Proofs cite it, clauses do not. Assumes nothing.
 use denote.Param.Members.{Mut}
-use Rattle.std.specs.Prelude.{◌≡◌, Bool, true, false, List, length, slice_index_or, ℕ, ◌<◌}
+use Rattle.std.specs.Prelude.{◌≡◌, Bool, true, false, List, length, slice_index_or, ℕ, ◌+◌, ◌<◌}
 use Rattle.std.proofs.Common.{sym, ap, ◌∙◌, arith}
 use Rattle.std.specs.declared.ops.Range.{Range}
 use Rattle.std.specs.declared.option.Option.{Option}
