@@ -1,5 +1,6 @@
 -- Codes 0 to 4 in place: readiness by the packed words, and what each way of the code makes of the definition. Assumes what each law names.
 use mathlib.Core.Path.{◌≡◌, refl, sym, ap, ap₂, subst, ◌∙◌}
+use mathlib.Core.Logic.{◌⊎◌, inl, inr}
 use mathlib.Core.List.{List}
 use mathlib.Core.Bool.{Bool, true, false, ◌&&◌, ◌||◌, and-true}
 use Prim.Native.Nat.{ℕ, zero, suc, ◌+◌, ◌*◌, ◌/◌, ◌%◌, ◌<◌, ◌≤◌}
@@ -8,7 +9,7 @@ use native.Mathlib.Omega.{arith}
 use borrow.Author.Tests.{lt-ltb, le-leb, eq-eqb}
 use lib.Dec.{eqb}
 use lib.ListN.{length}
-use Rattle.base.specs.Sizes.{sites_most, output_count}
+use Rattle.base.specs.Sizes.{sites_most, input_count, output_count}
 use Rattle.base.specs.Bools.{implies}
 use Rattle.base.specs.All.{all_same}
 use Rattle.sets.specs.Sets.{targets}
@@ -33,9 +34,9 @@ use Rattle.rules.proofs.Asked.{route_same}
 use Rattle.rules.proofs.ByNumber.{other_is, seek_is, choice_back}
 use Rattle.layout.specs.Layout.{word_count}
 use Rattle.layout.specs.Words.{sites_of}
-use Rattle.words.specs.Events.{Did, DidOwn, DidReady, DidInput, DidSought, network_by, site_in, end_of}
+use Rattle.words.specs.Events.{Did, DidOwn, DidReady, DidInput, RunAsks, site_in, end_of}
 use Rattle.layout.specs.Idle.{waits}
-use Rattle.words.specs.Events.{input_back, split_ready, ready_flags, sought, Seekable}
+use Rattle.words.specs.Events.{input_back, split_ready, ready_flags, sought}
 use Rattle.words.specs.Marked.{masked, merged_turn, touched, opening, seen}
 use Rattle.rules.specs.Acts.{input_act}
 use Rattle.words.proofs.Acts.{did_nothing, input_back_lem}
@@ -45,12 +46,12 @@ use Rattle.words.proofs.SeenLaws.{length_seen, own_seen, asked_seen}
 use Rattle.layout.proofs.Rests.{quiet_stays, stands_stays}
 
 -- the router asked by the parts of a network
-asked_is : (m : List ℕ) (version edition S D T : ℕ) (l : List ℕ) (s : ℕ) (os : List Output) (X : ℕ) → s < S → S ≤ sites_most
-    → length m ≡ sites_most * sites_most → targets S X ≡ true
-    → asked_by edition m S s os X ≡ route (network_by version edition S D T l m) s os X
-asked_is m version edition S D T l s os X a b e t =
-    rw (lt-ltb s S a, le-leb S sites_most b, eq-eqb (length m) (sites_most * sites_most) e, t)
-    (route_same (routes_only edition S m) (network_by version edition S D T l m) refl refl s os refl X)
+asked_is : (n : Network) (s : ℕ) (os : List Output) (X : ℕ) → s < n.sites → n.sites ≤ sites_most
+    → length n.routes ≡ sites_most * sites_most → targets n.sites X ≡ true → asked_by n.edition n.routes n.sites s os X ≡ route n s os X
+asked_is n s os X a b e t =
+    let m = n.routes in
+    rw (lt-ltb s n.sites a, le-leb n.sites sites_most b, eq-eqb (length m) (sites_most * sites_most) e, t)
+    (route_same (routes_only n.edition n.sites m) n refl refl s os refl X)
 
 -- ---- the input at a channel's end
 
@@ -115,6 +116,10 @@ by_flags n xs s i y os ph =
 
 -- ---- the ways of the code
 
+either_of : (k : ℕ) → (k ≡ 0) ⊎ (k ≡ 6) → (eqb k 0 || eqb k 6) ≡ true
+either_of k (inl e) = rw e refl
+either_of k (inr e) = rw e refl
+
 module _ (c : List ℕ) (s i : ℕ) where
   abbrev x : Site
   x = site_in c s
@@ -123,12 +128,12 @@ module _ (c : List ℕ) (s i : ℕ) where
   y = in_at x i
 
   -- the place has no rule
-  pub quiet_none : (n : Network) (k : ℕ) → length c ≡ word_count → k ≡ state_number y.phase → (eqb k 0 || eqb k 6) ≡ true
+  pub quiet_none : (n : Network) (k : ℕ) → length c ≡ word_count → k ≡ state_number y.phase → (k ≡ 0) ⊎ (k ≡ 6)
       → Did n c c s Nothing (input_act n s x (ends n (sites_of c) s) i)
   quiet_none n k h e f =
       did_nothing n c s (input_act n s x (ends n (sites_of c) s) i) h
       (ap (own_turn (set_both x i))
-      (quiet_stays n s i y x.outputs (ready_in n (sites_of c) s) y.phase (sym (ap (λ (m : ℕ). eqb m 0 || eqb m 6) e) ∙ f)))
+      (quiet_stays n s i y x.outputs (ready_in n (sites_of c) s) y.phase (sym (ap (λ (m : ℕ). eqb m 0 || eqb m 6) e) ∙ either_of k f)))
 
   -- it waits
   pub waits_none : (isReady : ℕ → Bool) (z : Input) (w : Bool) → length c ≡ word_count → z ≡ y → w ≡ waits z isReady → w ≡ true
@@ -159,40 +164,39 @@ module _ (c : List ℕ) (s i : ℕ) where
         ∙ other_merged n s i y os isReady (outputs_of_lem c s hs) y.phase ne) p n
 
     -- the flags are those of the network
-    pub flags_done : (l : List ℕ) (z : Input) (bs : List Bool) → z ≡ y → bs ≡ ready_flags l (sites_of c) s z.outputs
-        → DidReady c d s r i (mark bs) → DidInput l c d s r i
-    flags_done l z bs ez e p n f =
+    pub flags_done : (n : Network) (z : Input) (bs : List Bool) → z ≡ y → bs ≡ ready_flags n.channels (sites_of c) s z.outputs
+        → DidReady c d s r i (mark bs) → DidInput n c d s r i
+    flags_done n z bs ez e p =
         subst (λ (t : Turn Input (List Output)). Did n c d s r (own_turn (set_both x i) t))
         (ap (λ (b : List Bool). net_input n s i y x.outputs (mark b))
-        (e ∙ ap₂ (λ (k : List ℕ) (u : Input). ready_flags k (sites_of c) s u.outputs) (sym f) ez)
+        (e ∙ ap (λ (u : Input). ready_flags n.channels (sites_of c) s u.outputs) ez)
         ∙ by_flags n (sites_of c) s i y x.outputs y.phase)
         (p n)
 
     -- the router was asked
-    pub sought_done : (edition : ℕ) (m : List ℕ) (S T : ℕ) (bs : List Bool) (w : InputTurn) → Seekable m S c s i → state_number y.phase ≡ 1
-        → let ws = seen edition x.outputs in
-        w ≡ of_input_turn y ws (sought edition m S T y ws s i) → bs ≡ opening w.input
-        → DidOwn c d s r (own_turn (set_both x i) (merged_turn bs x.outputs (input_back w))) → DidSought edition m S T c d s r i
-    sought_done edition m S T bs w ok e f eb p version D l =
-        let n = network_by version edition S D T l m in
+    pub sought_done : (n : Network) (bs : List Bool) (w : InputTurn) → RunAsks n c s → length n.routes ≡ sites_most * sites_most
+        → i < input_count → state_number y.phase ≡ 1
+        → let ws = seen n.edition x.outputs in
+        w ≡ of_input_turn y ws (sought n y ws s i) → bs ≡ opening w.input
+        → DidOwn c d s r (own_turn (set_both x i) (merged_turn bs x.outputs (input_back w))) → DidInput n c d s r i
+    sought_done n bs w ok full h e f eb p =
         let os = x.outputs in
-        let ws = seen edition os in
-        let t = sought edition m S T y ws s i in
+        let ws = seen n.edition os in
+        let t = sought n y ws s i in
         merged_done bs w (net_input n s i y os (ready_in n (sites_of c) s))
         (ap₂ (λ (b : List Bool) (u : InputTurn). merged_turn b os (input_back u)) (eb ∙ ap (λ (u : InputTurn). opening u.input) f) f
         ∙ opening_turn y ws os t
-        ∙ sought_merged T i y ws os (length_seen edition os) (outputs_of_lem c s (omega (arith, ok.site, ok.few))) (own_seen edition os) e
-        (asked_by edition m S s ws y.set)
-        ∙ ap (seek T i y os)
-        (asked_seen edition m S s os y.set
-        ∙ asked_is m version edition S D T l s os y.set ok.site ok.few ok.routes (ok.set e))
+        ∙ sought_merged n.tries i y ws os (length_seen n.edition os) (outputs_of_lem c s (omega (arith, ok.site, ok.few)))
+        (own_seen n.edition os) e (asked_by n.edition n.routes n.sites s ws y.set)
+        ∙ ap (seek n.tries i y os)
+        (asked_seen n.edition n.routes n.sites s os y.set ∙ asked_is n s os y.set ok.site ok.few full (ok.sought i h e))
         ∙ sym (seek_is y os (ready_in n (sites_of c) s) n s i e)) p n
 
 -- what the loads and the router gave
-pub sought_by : (edition : ℕ) (m : List ℕ) (S T s i : ℕ) (z y : Input) (os ws : List Output) (ch : Choice) (w : InputTurn) → y ≡ z → os ≡ ws
-    → ch ≡ of_choice (asked_by edition m S s os y.set) → w ≡ seek_turn T i y os ch → w ≡ of_input_turn z ws (sought edition m S T z ws s i)
-sought_by edition m S T s i z y os ws ch w ey eo ec ew =
+pub sought_by : (n : Network) (s i : ℕ) (z y : Input) (os ws : List Output) (ch : Choice) (w : InputTurn) → y ≡ z → os ≡ ws
+    → ch ≡ of_choice (asked_by n.edition n.routes n.sites s os y.set) → w ≡ seek_turn n.tries i y os ch → w ≡ of_input_turn z ws (sought n z ws s i)
+sought_by n s i z y os ws ch w ey eo ec ew =
     ew
-    ∙ ap (λ (h : Choice). of_input_turn y os (seek T i y os (to_choice h.served h.connection h.sets))) ec
-    ∙ ap (λ (h : ModelChoice). of_input_turn y os (seek T i y os h)) (choice_back (asked_by edition m S s os y.set))
+    ∙ ap (λ (h : Choice). of_input_turn y os (seek n.tries i y os (to_choice h.served h.connection h.sets))) ec
+    ∙ ap (λ (h : ModelChoice). of_input_turn y os (seek n.tries i y os h)) (choice_back (asked_by n.edition n.routes n.sites s os y.set))
     ∙ rw (ey, eo) refl

@@ -15,13 +15,13 @@ returns-then-channel-eq-NO_CHANNEL c = pass_never _ _ (search rules) _ _ _ (ap n
 pub channel_turn-turn-requires : goal.channel_turn-turn-requires
 channel_turn-turn-requires c =
     let pre = c.requires in
-    (search rules, search rules, search rules, pre.3 (ap not (ne_eqb _ _ c.if-channel-eq-NO_CHANNEL.false)))
+    (search rules, search rules, pre.2 (ap not (ne_eqb _ _ c.if-channel-eq-NO_CHANNEL.false)))
 
 pub put_channel-requires : goal.put_channel-requires
 put_channel-requires c =
     let if2 = c.if-channel-eq-NO_CHANNEL in
     let pre = c.requires in
-    (search rules, search rules, search rules, pre.3 (ap not (ne_eqb _ _ if2.false)))
+    (search rules, search rules, pre.2 (ap not (ne_eqb _ _ if2.false)))
 
 pub returns : goal.returns
 returns c =

@@ -7,7 +7,7 @@ pub returns-then-is_restricted : goal.returns-then-is_restricted
 returns-then-is_restricted c = timeout_never _ _ (search rules) c.args.edition (sym c.is_restricted.ensures ∙ c.if-is_restricted.true)
 
 pub put_input-requires : goal.put_input-requires
-put_input-requires c = (search rules, rw c.feeder_of-i.ensures c.requires.2, search rules)
+put_input-requires c = (search rules, rw c.feeder_of-i.ensures c.requires.1)
 
 pub returns-then-can_cut : goal.returns-then-can_cut
 returns-then-can_cut c =

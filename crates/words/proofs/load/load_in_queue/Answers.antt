@@ -5,7 +5,7 @@ use native.Mathlib.Omega.{arith}
 use Rattle.words.proofs.load.load_in_queue.Goals as goal
 
 pub load_in_entry-requires-8 : goal.load_in_entry-requires-8
-load_in_entry-requires-8 c = (c.requires.0, c.requires.1, omega arith, c.requires.2)
+load_in_entry-requires-8 c = (c.requires.0, c.requires.1, omega arith)
 
 pub returns : goal.returns
 returns c =

@@ -7,5 +7,5 @@ use Rattle.words.proofs.load.load_in_queues.Goals as goal
 pub returns : goal.returns
 returns c =
     let a = c.args in
-    in_queues_loaded _ _ c.requires.0 _
+    in_queues_loaded _ _ c.requires _
     (two_rows (queue_at (site_at (sites_of a.words.now) a.s)) _ _ c.load_in_queue.ensures c.load_in_queue-2.ensures)

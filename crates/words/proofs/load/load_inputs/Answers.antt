@@ -11,6 +11,6 @@ returns c =
     let args = c.args in
     let pre = c.requires in
     let a = args in
-    inputs_loaded _ _ pre.0 _
+    inputs_loaded _ _ pre _
     (five_rows (in_at (site_at (sites_of a.words.now) a.s)) _ _ _ _ _ load_input.ensures load_input2.ensures
     c.load_input-3.ensures c.load_input-4.ensures c.load_input-5.ensures)

@@ -5,7 +5,7 @@ use Rattle.words.proofs.load.load_out_queue.Goals as goal
 
 pub returns : goal.returns
 returns c =
-    out_queue_loaded _ _ c.requires.0 _ _
+    out_queue_loaded _ _ c.requires _ _
     (eight_rows (leaving_at c.args.words.now c.args.s) _ _ _ _ _ _ _ _
     c.load_out_entry.ensures c.load_out_entry-2.ensures
     c.load_out_entry-3.ensures c.load_out_entry-4.ensures c.load_out_entry-5.ensures
