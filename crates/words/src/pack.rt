@@ -1,6 +1,4 @@
 // A place as two words, its set and its small fields packed, and back. Takes any place and any words.
-#![tactic(auto, unfolding(layout::specs::Packed::input_from, layout::specs::Packed::input_word, layout::specs::Packed::output_from, layout::specs::Packed::output_word, layout::specs::Packed::out_entry_from, layout::specs::Packed::out_entry_word, layout::specs::Packed::in_entry_from, layout::specs::Packed::in_entry_word))]
-
 ghost use Rattle.std.specs.Prelude.{◌≡◌, ◌<◌, length};
 ghost use Rattle.base.specs.Sizes.{output_count};
 ghost use Rattle.types.specs.Numbers.{connection_of};
@@ -81,6 +79,7 @@ fn received_of(phase: Phase) -> u8
     }
 }
 
+#[tactic(auto, unfolding(layout::specs::Packed::input_from))]
 pub(crate) fn input_from(set: u64, w: u64) -> Input
     ensures { result ≡ spec.input_from set w }
 {
@@ -112,6 +111,7 @@ fn marks_word(marks: [bool; base::OUTPUTS]) -> u64
         + 8192 * u64::from(marks[5])
 }
 
+#[tactic(auto, unfolding(layout::specs::Packed::input_word))]
 pub(crate) fn input_word(input: Input) -> u64
     ensures { (result ≡ spec.input_word input) × (input.packet < 256) × (input.tries < 256) ×
         (length input.outputs ≡ output_count) }
@@ -124,6 +124,7 @@ pub(crate) fn input_word(input: Input) -> u64
         + 16777216 * u64::from(input.tries)
 }
 
+#[tactic(auto, unfolding(layout::specs::Packed::output_from))]
 pub(crate) fn output_from(set: u64, w: u64) -> Output
     ensures { result ≡ spec.output_from set w }
 {
@@ -138,6 +139,7 @@ pub(crate) fn output_from(set: u64, w: u64) -> Output
     }
 }
 
+#[tactic(auto, unfolding(layout::specs::Packed::output_word))]
 pub(crate) fn output_word(output: Output) -> u64
     ensures { (result ≡ spec.output_word output) × (output.packet < 256) × (output.input < 256) }
 {
@@ -149,6 +151,7 @@ pub(crate) fn output_word(output: Output) -> u64
         + 65536 * u64::from(output.packet)
 }
 
+#[tactic(auto, unfolding(layout::specs::Packed::out_entry_from))]
 pub(crate) fn out_entry_from(set: u64, w: u64) -> OutEntry
     ensures { result ≡ spec.out_entry_from set w }
 {
@@ -159,12 +162,14 @@ pub(crate) fn out_entry_from(set: u64, w: u64) -> OutEntry
     }
 }
 
+#[tactic(auto, unfolding(layout::specs::Packed::out_entry_word))]
 pub(crate) fn out_entry_word(entry: OutEntry) -> u64
     ensures { (result ≡ spec.out_entry_word entry) × (entry.packet < 256) }
 {
     u64::from(entry.started) + 256 * u64::from(entry.packet)
 }
 
+#[tactic(auto, unfolding(layout::specs::Packed::in_entry_from))]
 pub(crate) fn in_entry_from(set: u64, w: u64) -> InEntry
     ensures { result ≡ spec.in_entry_from set w }
 {
@@ -175,6 +180,7 @@ pub(crate) fn in_entry_from(set: u64, w: u64) -> InEntry
     }
 }
 
+#[tactic(auto, unfolding(layout::specs::Packed::in_entry_word))]
 pub(crate) fn in_entry_word(entry: InEntry) -> u64
     ensures { (result ≡ spec.in_entry_word entry) × (entry.packet < 256) }
 {
