@@ -12,6 +12,7 @@ use crate::pack::{in_entry_from, input_from, out_entry_from, output_from};
 use layout::{
     ARRIVED_FROM, COUNTER_AT, COUNTS_FROM, LEAVING_FROM, OUTPUTS_FROM, SITE_PLACES, WORDS,
 };
+use std::array;
 use types::{InEntry, InQueue, Input, OutEntry, OutQueue, Output, Site};
 
 // The two words of place k of site s.
@@ -52,27 +53,14 @@ pub(crate) fn load_outputs(words: &[u64; WORDS], s: usize) -> [Output; base::OUT
     requires { s < sites_most }
     ensures { result ≡ (site_at (spec.sites_of words.now) s).outputs }
 {
-    [
-        load_output(words, s, 0),
-        load_output(words, s, 1),
-        load_output(words, s, 2),
-        load_output(words, s, 3),
-        load_output(words, s, 4),
-        load_output(words, s, 5),
-    ]
+    array::from_fn(|j| load_output(words, s, j))
 }
 
 pub(crate) fn load_inputs(words: &[u64; WORDS], s: usize) -> [Input; base::INPUTS]
     requires { s < sites_most }
     ensures { result ≡ (site_at (spec.sites_of words.now) s).inputs }
 {
-    [
-        load_input(words, s, 0),
-        load_input(words, s, 1),
-        load_input(words, s, 2),
-        load_input(words, s, 3),
-        load_input(words, s, 4),
-    ]
+    array::from_fn(|i| load_input(words, s, i))
 }
 
 // Entry m of site s's out-queue.
@@ -115,16 +103,7 @@ pub(crate) fn load_out_queue(words: &[u64; WORDS], s: usize) -> OutQueue
     ensures { result ≡ (site_at (spec.sites_of words.now) s).outgoing }
 {
     OutQueue {
-        entries: [
-            load_out_entry(words, s, 0),
-            load_out_entry(words, s, 1),
-            load_out_entry(words, s, 2),
-            load_out_entry(words, s, 3),
-            load_out_entry(words, s, 4),
-            load_out_entry(words, s, 5),
-            load_out_entry(words, s, 6),
-            load_out_entry(words, s, 7),
-        ],
+        entries: array::from_fn(|m| load_out_entry(words, s, m)),
         count: out_count(words, s),
     }
 }
@@ -135,16 +114,7 @@ pub(crate) fn load_in_queue(words: &[u64; WORDS], s: usize, q: usize) -> InQueue
     ensures { result ≡ queue_at (site_at (spec.sites_of words.now) s) q }
 {
     InQueue {
-        entries: [
-            load_in_entry(words, s, q, 0),
-            load_in_entry(words, s, q, 1),
-            load_in_entry(words, s, q, 2),
-            load_in_entry(words, s, q, 3),
-            load_in_entry(words, s, q, 4),
-            load_in_entry(words, s, q, 5),
-            load_in_entry(words, s, q, 6),
-            load_in_entry(words, s, q, 7),
-        ],
+        entries: array::from_fn(|m| load_in_entry(words, s, q, m)),
         count: in_count(words, s, q),
     }
 }
@@ -153,7 +123,7 @@ pub(crate) fn load_in_queues(words: &[u64; WORDS], s: usize) -> [InQueue; base::
     requires { s < sites_most }
     ensures { result ≡ (site_at (spec.sites_of words.now) s).incoming }
 {
-    [load_in_queue(words, s, 0), load_in_queue(words, s, 1)]
+    array::from_fn(|q| load_in_queue(words, s, q))
 }
 
 pub(crate) fn load_site(words: &[u64; WORDS], s: usize) -> Site

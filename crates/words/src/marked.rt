@@ -12,6 +12,7 @@ use crate::load::{is_used, load_output};
 use crate::store::store_output;
 use layout::WORDS;
 use rules::empty_output;
+use std::array;
 use types::{Input, Output, Phase, Terminator};
 
 // Output j of site s if it is marked.
@@ -34,14 +35,7 @@ pub(crate) fn load_marked(
     requires { s < sites_most }
     ensures { result ≡ spec.masked marks (site_in words.now s).outputs }
 {
-    [
-        load_if(words, s, 0, marks[0]),
-        load_if(words, s, 1, marks[1]),
-        load_if(words, s, 2, marks[2]),
-        load_if(words, s, 3, marks[3]),
-        load_if(words, s, 4, marks[4]),
-        load_if(words, s, 5, marks[5]),
-    ]
+    array::from_fn(|j| load_if(words, s, j, marks[j]))
 }
 
 // Output j of site s, if it is marked.
