@@ -8,7 +8,7 @@ use native.Mathlib.Decide.{dec_lt}
 use borrow.Author.Tests.{ltb-true, le-leb, eq-eqb, ne_eqb}
 use lib.Dec.{eqb, ltb, leb}
 use Rattle.base.specs.Sizes.{output_count, split_port, port_count, sites_most}
-use Rattle.base.specs.Bools.{cond_ok, clash, implies, either_way}
+use Rattle.base.specs.Bools.{cond_ok, implies, either_way}
 use Rattle.base.specs.All.{all_same}
 use Rattle.types.specs.declared.Phase.TheVariants.{the_data as Phase, Free, Seek, Open, Wait, Done, Last, Abort as Aborted, FinAbort}
 use Rattle.types.specs.declared.Input.{Input}
@@ -96,16 +96,16 @@ four_at f (suc (suc (suc (suc j)))) h = absurd (omega arith)
 
 module _ (n : Network) (val : Valid n) (s : ℕ) (x : Site) (hs : s < n.sites) where
   abbrev PassOk : Act → Type 0
-  PassOk a = Passable (of_act n s x a)
+  PassOk a = Passable (of_act n s a)
 
   own_ok : {A B : Type 0} (f : A → B → Site) (t : Turn A B) → PassOk (own_turn f t)
-  own_ok f Stay h = absurd (clash (sym h))
-  own_ok f (To a b) h = absurd (clash (sym h))
+  own_ok f Stay = tt
+  own_ok f (To a b) = tt
 
   work_ok : (m : ℕ) (w : Work) → PassOk (work_done x m w)
-  work_ok m Rest h = absurd (clash (sym h))
-  work_ok m (Cleared a b) h = absurd (clash (sym h))
-  work_ok m (Service a b q) h = absurd (clash (sym h))
+  work_ok m Rest = tt
+  work_ok m (Cleared a b) = tt
+  work_ok m (Service a b q) = tt
 
   operator_ok : (m : ℕ) → PassOk (operator_at n.depth s x m)
   operator_ok m = work_ok m (operator n.depth s (queue_at x m) x.outgoing)
@@ -115,15 +115,15 @@ module _ (n : Network) (val : Valid n) (s : ℕ) (x : Site) (hs : s < n.sites) w
       own_ok (λ o q. set_out (set_queue x m q) (queue_port m) o) (local_output n.depth (out_at x (queue_port m)) (queue_at x m))
 
   along : (j : ℕ) (t : Turn Output Input) → channel n s (suc j) < port_count * sites_most → PassOk (pass_turn x (suc j) t)
-  along j Stay l h = absurd (clash (sym h))
-  along j (To o y) l h = l
+  along j Stay l = tt
+  along j (To o y) l = l
 
   channel_ok_lem : (j : ℕ) (o : Output) (y : Input) → j < 4 → PassOk (pass_turn x (suc j) (channel_output n.edition (joined n s (suc j)) o y))
   channel_ok_lem j o y hj = go (joined n s (suc j)) refl
     where
       go : (b : Bool) → joined n s (suc j) ≡ b → PassOk (pass_turn x (suc j) (channel_output n.edition b o y))
       go true e = along j (channel_output n.edition true o y) (omega (arith, val.ends s j hs hj e, val.few))
-      go false e = rw (unjoined n.edition o y) (λ h. absurd (clash (sym h)))
+      go false e = rw (unjoined n.edition o y) tt
 
   output_ok_lem : (far : ℕ → Input) (j : ℕ) → j < 5 → PassOk (net_output n s x far j)
   unfolding net_output
@@ -146,7 +146,7 @@ module _ (n : Network) (val : Valid n) (s : ℕ) (x : Site) (hs : s < n.sites) w
       cond_ok PassOk (eqb code 12) _ _ (λ h. own_ok (set_both x i) (timeout n.edition (queue_at x 0) x.outputs (in_at x i)))
       (λ h.
       cond_ok PassOk (eqb code 13) _ _ (λ h. local_ok 1)
-      (λ h. cond_ok PassOk (eqb code 14) _ _ (λ h. operator_ok 1) (λ h e. absurd (clash (sym e)))))))))
+      (λ h. cond_ok PassOk (eqb code 14) _ _ (λ h. operator_ok 1) (λ h. tt)))))))
 
 -- the channels of a valid network end within the sites
 pub valid_ends : (n : Network) → Valid n → (s : ℕ) → s < n.sites → EndsWithin n s

@@ -1,4 +1,4 @@
--- The single events by their refusals, as the code tests them, and RUN by the change that it stores. Assumes nothing.
+-- The single events by their refusals, as the code tests them, and RUN by the act that it stores. Assumes nothing.
 use Prim.Native.Nat.{ℕ, ◌≤◌, ◌<◌}
 use mathlib.Core.Path.{◌≡◌, refl, ap, ap₂, ◌∙◌}
 use mathlib.Core.List.{List}
@@ -24,10 +24,10 @@ use Rattle.model.specs.Runs.{try_send}
 use Rattle.model.specs.Events.{refusal_then, run_fault, send_fault, run_refusal, send_refusal, runs, sends, ran, sent}
 use Rattle.theorems.proofs.Networks.{valid_ok}
 use Rattle.theorems.proofs.Refusals.{not_refused}
-use Rattle.machine.specs.declared.step.Change.{Change}
+use Rattle.machine.specs.declared.step.Act.TheVariants.{the_data as Did}
 use Rattle.machine.specs.declared.events.Looked.{Looked}
 use Rattle.machine.specs.declared.store.Seen.{Seen}
-use Rattle.machine.specs.Step.{of_act, far_at, four_ends, seen_at, change_of, looked, Passable, stored_state, answer_to, stored}
+use Rattle.machine.specs.Step.{of_act, far_at, four_ends, seen_at, act_of, looked, Passable, stored_state, answer_to, stored}
 use Rattle.machine.proofs.Seen.{act_same, four_at, act_passable}
 
 -- ---- the refusals that all events share
@@ -92,11 +92,11 @@ module _ (n : Network) (st : State) where
         let entry = ltb-true (site_at st.sites s).outgoing.count n.depth d.0 in
         (omega (arith, site, few), ltb-true st.counter packets_most c.0, omega (arith, entry, deep))
 
--- ---- RUN is the change that it stores
+-- ---- RUN is the act that it stores
 
 stored_is : (n : Network) (st : State) (s B : ℕ) (a : Act)
     → let w = patch n st.sites s a in
-    stored st s (of_act n s (site_at st.sites s) a) B
+    stored st s (of_act n s a) B
     ≡ record { answer = w.answer; blocking = B; state = record { sites = w.sites; counter = st.counter } }
 stored_is n st s B Idle = refl
 stored_is n st s B (Own x) = refl
@@ -107,33 +107,33 @@ stored_is n st s B (Pass x j y) = refl
 abbrev pub in_the_way : Network → State → ℕ → ℕ → ℕ
 in_the_way n st s code = blocking_at n s (site_at st.sites s) code
 
-pub run_stored : (n : Network) (st : State) (s code : ℕ) → stored st s (change_of n st.sites s code) (in_the_way n st s code) ≡ runs n st s code
-unfolding run change_of
+pub run_stored : (n : Network) (st : State) (s code : ℕ) → stored st s (act_of n st.sites s code) (in_the_way n st s code) ≡ runs n st s code
+unfolding run act_of
 run_stored n st s code = stored_is n st s (in_the_way n st s code) (act n s (site_at st.sites s) (ends n st.sites s) code)
 
 -- what is seen is enough
-pub change_seen : (n : Network) (xs : List Site) (s code : ℕ) {v : Seen} → v ≡ seen_at n xs s
-    → of_act n s v.site (act n s v.site (far_at v.far) code) ≡ change_of n xs s code
-unfolding change_of
-change_seen n xs s code e =
+pub act_seen : (n : Network) (xs : List Site) (s code : ℕ) {v : Seen} → v ≡ seen_at n xs s
+    → of_act n s (act n s v.site (far_at v.far) code) ≡ act_of n xs s code
+unfolding act_of
+act_seen n xs s code e =
     let x = site_at xs s in
     let far = ends n xs s in
-    ap (λ (v : Seen). of_act n s v.site (act n s v.site (far_at v.far) code)) e
-    ∙ ap (of_act n s x) (act_same n s x (far_at (four_ends far)) far (λ j h e. four_at far j h) code)
+    ap (λ (v : Seen). of_act n s (act n s v.site (far_at v.far) code)) e
+    ∙ ap (of_act n s) (act_same n s x (far_at (four_ends far)) far (λ j h e. four_at far j h) code)
 
-pub looked_seen : (n : Network) (xs : List Site) (s code : ℕ) {v : Seen} → v ≡ seen_at n xs s → {c : Change}
-    → c ≡ of_act n s v.site (act n s v.site (far_at v.far) code) → record { change = c; site = v.site } ≡ looked n xs s code
+pub looked_seen : (n : Network) (xs : List Site) (s code : ℕ) {v : Seen} → v ≡ seen_at n xs s → {c : Did}
+    → c ≡ of_act n s (act n s v.site (far_at v.far) code) → record { act = c; site = v.site } ≡ looked n xs s code
 looked_seen n xs s code e f =
-    ap₂ (λ (c : Change) (x : Site). record { change = c; site = x }) (f ∙ change_seen n xs s code e) (ap (λ (v : Seen). v.site) e)
+    ap₂ (λ (c : Did) (x : Site). record { act = c; site = x }) (f ∙ act_seen n xs s code e) (ap (λ (v : Seen). v.site) e)
 
-pub looked_change : {v w : Looked} → v ≡ w → v.change ≡ w.change
-looked_change e = ap (λ (u : Looked). u.change) e
+pub looked_act : {v w : Looked} → v ≡ w → v.act ≡ w.act
+looked_act e = ap (λ (u : Looked). u.act) e
 
--- at a site of a valid network the change can be stored
-pub change_storable : (n : Network) → network_refusal n ≡ 0 → (xs : List Site) (s code : ℕ) → s < n.sites → {c : Change}
-    → c ≡ change_of n xs s code → (s < sites_most) × Passable c
-unfolding change_of
-change_storable n ok xs s code h e =
+-- at a site of a valid network what RUN does can be stored
+pub act_storable : (n : Network) → network_refusal n ≡ 0 → (xs : List Site) (s code : ℕ) → s < n.sites → {c : Did}
+    → c ≡ act_of n xs s code → (s < sites_most) × Passable c
+unfolding act_of
+act_storable n ok xs s code h e =
     let v = valid_ok n ok in
     (omega (arith, v.few, h), rw e (act_passable n v s (site_at xs s) h (ends n xs s) code))
 
@@ -141,8 +141,8 @@ change_storable n ok xs s code h e =
 abbrev left : Ran → ℕ → State → AfterRun
 left a B y = record { answer = a; blocking = B; state = y }
 
-pub run_done : (n : Network) (st : State) (s code : ℕ) {c : Change} → c ≡ change_of n st.sites s code → {a : Ran} → a ≡ answer_to c.act s
+pub run_done : (n : Network) (st : State) (s code : ℕ) {c : Did} → c ≡ act_of n st.sites s code → {a : Ran} → a ≡ answer_to c s
     → {y : State} → y ≡ stored_state st s c → {B : ℕ} → B ≡ in_the_way n st s code → left a B y ≡ runs n st s code
 run_done n st s code {c = c} e ha hy {B = B} hB =
     ap₂ (λ (a : Ran) (y : State). left a B y) ha hy ∙ ap (stored st s c) hB
-    ∙ ap (λ (k : Change). stored st s k (in_the_way n st s code)) e ∙ run_stored n st s code
+    ∙ ap (λ (k : Did). stored st s k (in_the_way n st s code)) e ∙ run_stored n st s code

@@ -1,5 +1,5 @@
--- RUN's act as the struct that the code returns, and what a site must be for it to run.
-use Rattle.std.specs.Prelude.{ℕ, suc, zero, ◌*◌, ◌^◌, ◌≤◌, ◌<◌, ◌≡◌, List, [], ◌∷◌, Bool, true, false, cond, get_or}
+-- RUN's act as the enum that the code returns, and what a site must be for it to run.
+use Rattle.std.specs.Prelude.{ℕ, suc, zero, ◌*◌, ◌^◌, ◌≤◌, ◌<◌, ◌≡◌, List, [], ◌∷◌, Bool, true, false, get_or}
 use Rattle.base.specs.Sizes.{sites_most, input_count, port_count}
 use Rattle.types.specs.declared.Input.{Input}
 use Rattle.types.specs.declared.Site.{Site}
@@ -7,28 +7,20 @@ use Rattle.types.specs.declared.Network.{Network}
 use Rattle.types.specs.declared.State.{State}
 use Rattle.types.specs.declared.AfterRun.{AfterRun}
 use Rattle.types.specs.declared.Ran.TheVariants.{the_data as Ran, Nothing, Changed, Serviced}
-use Rattle.model.specs.Types.{no_input, input_d, site_at, in_at, out_at, set_site}
+use Rattle.model.specs.Types.{input_d, site_at, in_at, out_at, set_site}
 use Rattle.model.specs.Network.{channel, joined}
 use Rattle.types.specs.Numbers.{state_number}
 use Rattle.model.specs.Steps.{Act, Idle, Own, Serve, Pass, set_far, act, ends}
 use Rattle.machine.specs.declared.step.Act.TheVariants.{the_data as Did, Idle as did_nothing, Own as did_own}
 use Rattle.machine.specs.declared.step.Act.TheVariants.{Serve as did_serve, Pass as did_pass}
-use Rattle.machine.specs.declared.step.Change.{Change}
 use Rattle.machine.specs.declared.events.Looked.{Looked}
 use Rattle.machine.specs.declared.store.Seen.{Seen}
 
-abbrev pub unchanged : Site → Change
-unchanged x = record { site = x; input = no_input; channel = 0; act = did_nothing }
-
-abbrev pub changed : Site → Change
-changed x = record { site = x; input = no_input; channel = 0; act = did_own }
-
--- x is site s as it was
-abbrev pub of_act : Network → ℕ → Site → Act → Change
-of_act n s x Idle = unchanged x
-of_act n s x (Own z) = changed z
-of_act n s x (Serve z q) = record { site = z; input = no_input; channel = 0; act = did_serve q }
-of_act n s x (Pass z j y) = record { site = z; input = y; channel = channel n s j; act = did_pass }
+abbrev pub of_act : Network → ℕ → Act → Did
+of_act n s Idle = did_nothing
+of_act n s (Own z) = did_own z
+of_act n s (Serve z q) = did_serve z q
+of_act n s (Pass z j y) = did_pass z (channel n s j) y
 
 -- of the ports 1 to 4, as arrays: the inputs at the ends of the channels, and which have one
 abbrev pub far_at : List Input → ℕ → Input
@@ -70,28 +62,19 @@ abbrev pub seen_at : Network → List Site → ℕ → Seen
 seen_at n xs s = record { site = site_at xs s; far = four_ends (ends n xs s) }
 
 -- what RUN does at site s
-unfoldable pub change_of : Network → List Site → ℕ → ℕ → Change
-change_of n xs s code = of_act n s (site_at xs s) (act n s (site_at xs s) (ends n xs s) code)
+unfoldable pub act_of : Network → List Site → ℕ → ℕ → Did
+act_of n xs s code = of_act n s (act n s (site_at xs s) (ends n xs s) code)
 
 -- with the site as it was
 abbrev pub looked : Network → List Site → ℕ → ℕ → Looked
-looked n xs s code = record { change = change_of n xs s code; site = site_at xs s }
-
-abbrev pub is_idle : Did → Bool
-is_idle did_nothing = true
-is_idle did_own = false
-is_idle (did_serve q) = false
-is_idle did_pass = false
-
-abbrev pub is_pass : Did → Bool
-is_pass did_nothing = false
-is_pass did_own = false
-is_pass (did_serve q) = false
-is_pass did_pass = true
+looked n xs s code = record { act = act_of n xs s code; site = site_at xs s }
 
 -- an input that is passed on has a place
-abbrev pub Passable : Change → Type 0
-Passable c = is_pass c.act ≡ true → c.channel < port_count * sites_most
+abbrev pub Passable : Did → Type 0
+Passable did_nothing = Unit {0}
+Passable (did_own z) = Unit {0}
+Passable (did_serve z q) = Unit {0}
+Passable (did_pass z b y) = b < port_count * sites_most
 
 -- the site stored, and the two stores of an input passed on
 abbrev pub owned : State → ℕ → Site → State
@@ -100,18 +83,19 @@ owned st s x = record { sites = set_site st.sites s x; counter = st.counter }
 abbrev pub passed : State → ℕ → Site → ℕ → Input → State
 passed st s x b y = record { sites = set_far (set_site st.sites s x) b y; counter = st.counter }
 
--- the state that a change at site s leaves, and RUN's answer to it
-abbrev pub stored_state : State → ℕ → Change → State
-stored_state st s c =
-    cond (is_idle c.act) st
-    (cond (is_pass c.act) (passed st s c.site c.channel c.input) (owned st s c.site))
+-- the state that an act at site s leaves, and RUN's answer to it
+abbrev pub stored_state : State → ℕ → Did → State
+stored_state st s did_nothing = st
+stored_state st s (did_own z) = owned st s z
+stored_state st s (did_serve z q) = owned st s z
+stored_state st s (did_pass z b y) = passed st s z b y
 
 abbrev pub answer_to : Did → ℕ → Ran
 answer_to did_nothing s = Nothing
-answer_to did_own s = Changed
-answer_to (did_serve q) s = Serviced q s
-answer_to did_pass s = Changed
+answer_to (did_own z) s = Changed
+answer_to (did_serve z q) s = Serviced q s
+answer_to (did_pass z b y) s = Changed
 
 -- with the outputs in the way
-abbrev pub stored : State → ℕ → Change → ℕ → AfterRun
-stored st s c B = record { answer = answer_to c.act s; blocking = B; state = stored_state st s c }
+abbrev pub stored : State → ℕ → Did → ℕ → AfterRun
+stored st s a B = record { answer = answer_to a s; blocking = B; state = stored_state st s a }

@@ -8,29 +8,19 @@ pub struct Clock {
     pub draw: u16,
 }
 
-// The clock after one more draw.
-fn advance(clock: Clock) -> Clock
-    ensures { result ≡ advanced clock }
-{
-    let next = (clock.draw as u32 + 1) % 65536;
-    Clock {
-        value: draws::draw(clock.value),
-        draw: next as u16,
-    }
-}
-
 // Advances a lent run clock by a draw.
 pub fn tick(clock: &mut Clock)
     ensures { clock.new ≡ advanced clock.old }
 {
-    *clock = advance(*clock);
+    clock.value = draws::draw(clock.value);
+    clock.draw = clock.draw.wrapping_add(1);
 }
 
 // The same by value: a local is lent to `tick`.
 pub fn ticked(clock: Clock) -> Clock
     ensures { result ≡ advanced clock }
 {
-    let mut k = clock;
-    tick(&mut k);
-    k
+    let mut next = clock;
+    tick(&mut next);
+    next
 }

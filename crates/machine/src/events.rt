@@ -9,8 +9,8 @@ ghost use Rattle.model.specs.Runs.{try_send};
 ghost use Rattle.machine.specs.Step.{looked};
 
 use crate::inputs::blocking_at;
-use crate::step::{Change, step};
-use crate::store::{answer_to, seen_at, store_change};
+use crate::step::{Act, step};
+use crate::store::{answer_to, seen_at, store_act};
 use rules::{empty_output, free_input};
 use types::{
     AfterRun, AfterSend, InEntry, InQueue, Network, OutEntry, OutQueue, Ran, Sent, Site, State,
@@ -20,8 +20,6 @@ use types::{
 fn empty_site() -> Site
     ensures { result ≡ no_site }
 {
-    let input = free_input();
-    let output = empty_output();
     let leaving = OutEntry {
         set: 0,
         packet: 0,
@@ -37,8 +35,8 @@ fn empty_site() -> Site
         count: 0,
     };
     Site {
-        inputs: [input; base::INPUTS],
-        outputs: [output; base::OUTPUTS],
+        inputs: [free_input(); base::INPUTS],
+        outputs: [empty_output(); base::OUTPUTS],
         outgoing: OutQueue {
             entries: [leaving; base::QUEUE],
             count: 0,
@@ -51,9 +49,8 @@ fn empty_site() -> Site
 pub fn empty_state() -> State
     ensures { result ≡ no_state }
 {
-    let site = empty_site();
     State {
-        sites: [site; base::SITES],
+        sites: [empty_site(); base::SITES],
         counter: 0,
     }
 }
@@ -61,21 +58,19 @@ pub fn empty_state() -> State
 // What RUN does, and its site as it was.
 #[derive(Clone, Copy)]
 pub struct Looked {
-    pub change: Change,
+    pub act: Act,
     pub site: Site,
 }
 
 // What RUN does on a state in range of a valid network: the core step on what it sees there.
-pub(crate) fn change_of(network: Network, state: State, s: usize, code: usize) -> Looked
+pub(crate) fn act_of(network: Network, state: State, s: usize, code: usize) -> Looked
     requires { (network_refusal network ≡ 0) × (in_range network state ≡ true) × (s < network.sites) }
     ensures { result ≡ looked network state.sites s code }
 {
     let seen = seen_at(network, state, s);
-    let site = seen.site;
-    let far = seen.far;
     Looked {
-        change: step(network, s, site, far, code),
-        site,
+        act: step(network, s, seen.site, seen.far, code),
+        site: seen.site,
     }
 }
 
@@ -84,14 +79,11 @@ fn run_checked(network: Network, state: State, s: usize, code: usize) -> AfterRu
     requires { (network_refusal network ≡ 0) × (in_range network state ≡ true) × (s < network.sites) }
     ensures { result ≡ spec.runs network state s code }
 {
-    let looked = change_of(network, state, s, code);
-    let change = looked.change;
-    let site = looked.site;
-    let act = change.act;
+    let looked = act_of(network, state, s, code);
     AfterRun {
-        answer: answer_to(act, s),
-        blocking: blocking_at(network, s, site, code),
-        state: store_change(state, s, change),
+        answer: answer_to(&looked.act, s),
+        blocking: blocking_at(network, s, looked.site, code),
+        state: store_act(state, s, looked.act),
     }
 }
 
@@ -99,7 +91,6 @@ fn run_checked(network: Network, state: State, s: usize, code: usize) -> AfterRu
 pub fn run(network: Network, state: State, site: usize, code: usize) -> AfterRun
     ensures { result ≡ spec.ran network state site code }
 {
-    let sites = network.sites;
     let refusal = checks::event_refusal(network, state);
     if refusal != 0 {
         return AfterRun {
@@ -108,8 +99,7 @@ pub fn run(network: Network, state: State, site: usize, code: usize) -> AfterRun
             state,
         };
     }
-    let codes = draws::codes_in(network.edition);
-    if (site < sites) & (code < codes) {
+    if (site < network.sites) & (code < draws::codes_in(network.edition)) {
         return run_checked(network, state, site, code);
     }
     AfterRun {
@@ -124,9 +114,7 @@ fn out_entries(sites: [Site; base::SITES], s: usize) -> usize
     ensures { result ≡ (site_at sites s).outgoing.count }
 {
     if s < base::SITES {
-        let site = sites[s];
-        let queue = site.outgoing;
-        return queue.count;
+        return sites[s].outgoing.count;
     }
     0
 }
@@ -140,24 +128,19 @@ fn push_out(queue: OutQueue, entry: OutEntry) -> OutQueue
 }
 
 // The state with a packet more, at the back of site s's out-queue under the counter's number.
+#[tactic(auto, unfolding(model::specs::Steps::enqueue))]
 fn send_checked(state: State, s: usize, set: u64) -> AfterSend
     requires { (s < sites_most) × (state.counter < packets_most) × ((site_at state.sites s).outgoing.count < queue_room) }
     ensures { result ≡ spec.sends state s set }
 {
     let packet = state.counter;
-    let mut site = state.sites[s];
-    let queue = site.outgoing;
-    let longer = push_out(
-        queue,
-        OutEntry {
-            set,
-            packet,
-            started: false,
-        },
-    );
-    site.outgoing = longer;
+    let entry = OutEntry {
+        set,
+        packet,
+        started: false,
+    };
     let mut next = state;
-    next.sites[s] = site;
+    next.sites[s].outgoing = push_out(state.sites[s].outgoing, entry);
     next.counter = packet + 1;
     AfterSend {
         answer: Sent::Accepted(packet),
@@ -170,12 +153,8 @@ pub(crate) fn try_send(network: Network, state: State, s: usize, set: u64) -> Af
     requires { (network.sites ≤ sites_most) × (network.depth ≤ queue_room) }
     ensures { result ≡ try_send network state s set }
 {
-    let sites = network.sites;
-    let depth = network.depth;
-    let counter = state.counter;
-    let all = state.sites;
-    let entries = out_entries(all, s);
-    let refusal = checks::send_fault(sites, depth, counter, entries, s, set);
+    let entries = out_entries(state.sites, s);
+    let refusal = checks::send_fault(network.sites, network.depth, state.counter, entries, s, set);
     if refusal != 0 {
         return AfterSend {
             answer: Sent::Refused(refusal),

@@ -1,5 +1,5 @@
 // Which channels a site has, and which of its outputs are ready.
-ghost use Rattle.std.specs.Prelude.{◌≡◌, suc, ◌<◌, true, ◌&&◌};
+ghost use Rattle.std.specs.Prelude.{◌≡◌, suc, ◌<◌, ◌&&◌};
 ghost use Rattle.base.specs.Sizes.{sites_most, port_count};
 ghost use Rattle.model.specs.Network as net;
 ghost use Rattle.model.specs.Types.{carries};
@@ -23,20 +23,12 @@ fn is_taken(output: Output) -> bool
     output.used & !output.closing & output.head
 }
 
-// Whether output 0 or the split output is ready.
-fn is_ready(output: Output) -> bool
-    ensures { result ≡ (carries output && output.head && true) }
-{
-    is_taken(output) & true
-}
-
 // The channel of output j + 1 of site s.
 pub(crate) fn channel_at(network: Network, s: usize, j: usize) -> u16
     requires { (s < sites_most) × (j < port_count) }
     ensures { result ≡ net.channel network s (suc j) }
 {
-    let channels = network.channels;
-    channels[4 * s + j]
+    network.channels[base::PORTS * s + j]
 }
 
 // Whether output j + 1 of site s has a channel.
@@ -44,8 +36,7 @@ fn is_joined(network: Network, s: usize, j: usize) -> bool
     requires { (s < sites_most) × (j < port_count) }
     ensures { result ≡ net.joined network s (suc j) }
 {
-    let channel = channel_at(network, s, j);
-    is_channel(channel)
+    is_channel(channel_at(network, s, j))
 }
 
 // Which of the outputs 1 to 4 of site s have a channel.
@@ -71,15 +62,10 @@ fn is_heard(
     requires { j < port_count }
     ensures { result ≡ rule.ready (there_at there) (far_at far) outputs (suc j) }
 {
-    let output = outputs[j + 1];
-    let input = far[j];
-    let phase = input.phase;
-    let open = is_listening(phase);
-    let taken = is_taken(output);
-    taken & (there[j] & open)
+    is_taken(outputs[j + 1]) & (there[j] & is_listening(far[j].phase))
 }
 
-// Which outputs are ready; there tells which of 1 to 4 have a channel, far has the inputs at their ends.
+// Which outputs are ready, output 0 and the split output if they are taken; there tells which of 1 to 4 have a channel, far has the inputs at their ends.
 pub(crate) fn ready_outputs(
     there: [bool; base::PORTS],
     far: [Input; base::PORTS],
@@ -88,11 +74,11 @@ pub(crate) fn ready_outputs(
     ensures { result ≡ flags (rule.ready (there_at there) (far_at far) outputs) }
 {
     [
-        is_ready(outputs[0]),
+        is_taken(outputs[0]),
         is_heard(there, far, outputs, 0),
         is_heard(there, far, outputs, 1),
         is_heard(there, far, outputs, 2),
         is_heard(there, far, outputs, 3),
-        is_ready(outputs[base::SPLIT_PORT]),
+        is_taken(outputs[base::SPLIT_PORT]),
     ]
 }

@@ -1,4 +1,4 @@
-// The rule of a net-input: seek asks the router with the network, every other state is decided by the state number alone;
+// The rule of a net-input: seek asks the router with the network, every other state is decided by the state alone;
 // and the outputs in the way that RUN names where the router failed.
 ghost use Rattle.std.specs.Prelude.{◌≡◌, ◌<◌, ◌≤◌, ◌^◌};
 ghost use Rattle.base.specs.Sizes.{sites_most, input_count};
@@ -10,9 +10,9 @@ ghost use Rattle.model.specs.Steps.{blocking_at};
 ghost use Rattle.machine.specs.Step.{Runnable};
 
 use rules::InputTurn;
-use types::{Input, Network, Output, Site};
+use types::{Input, Network, Output, Phase, Site};
 
-// Net-input i of site s, by its state number; ready tells which outputs are ready.
+// Net-input i of site s, by its state; ready tells which outputs are ready.
 pub(crate) fn net_input(
     network: Network,
     s: usize,
@@ -20,20 +20,18 @@ pub(crate) fn net_input(
     input: Input,
     outputs: [Output; base::OUTPUTS],
     ready: [bool; base::OUTPUTS],
-) -> InputTurn
+) -> Option<InputTurn>
     requires { (s < network.sites) × (network.sites ≤ sites_most) × (i < input_count) ×
         (state_number input.phase ≡ 1 → (0 < input.set) × (input.set < 2 ^ network.sites)) }
-    ensures { result ≡ of_input_turn input outputs (rule.net_input network s i input outputs (spec.mark ready)) }
+    ensures { result ≡ of_input_turn (rule.net_input network s i input outputs (spec.mark ready)) }
 {
-    let limit = network.tries;
-    let phase = input.phase;
-    let set = input.set;
-    let number = types::state_number(phase);
-    if number == 1 {
-        let choice = rules::route_packet(network, s, outputs, set);
-        return rules::seek_turn(limit, i as u8, input, outputs, choice);
+    match input.phase {
+        Phase::Seek => {
+            let choice = rules::route_packet(network, s, outputs, input.set);
+            rules::seek_turn(network.tries, i as u8, input, outputs, choice)
+        }
+        _ => rules::other_input(input, outputs, ready),
     }
-    rules::other_input(input, outputs, ready)
 }
 
 // The outputs in the way that RUN names at site s: those that the step of a net-input passes on; no other code has any.
@@ -42,9 +40,7 @@ pub(crate) fn blocking_at(network: Network, s: usize, site: Site, code: usize) -
     ensures { result ≡ blocking_at network s site code }
 {
     if code < base::INPUTS {
-        let input = site.inputs[code];
-        let outputs = site.outputs;
-        return rules::input_blocking(network, s, input, outputs);
+        return rules::input_blocking(network, s, site.inputs[code], site.outputs);
     }
     0
 }

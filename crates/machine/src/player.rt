@@ -5,9 +5,9 @@ ghost use Rattle.model.specs.Runs.{played_run, counts_of};
 ghost use Rattle.machine.specs.Play.{refused_by, play_answer, play_book, book_in, run_with, Playable, start_of};
 
 use crate::clock::{Clock, ticked};
-use crate::events::{change_of, empty_state, try_send};
+use crate::events::{act_of, empty_state, try_send};
 use crate::owing::owed_pairs;
-use crate::store::{answer_to, store_change};
+use crate::store::{answer_to, store_act};
 use crate::turns::{book_room, capped, enter_answer, is_due};
 use format::Decoded;
 use types::{Counts, Network, Sent, StoredSend};
@@ -80,11 +80,9 @@ fn play_run(
         clock = ticked(clock);
         let named = draws::event_of(clock.value, network.sites, network.edition);
         let s = named.site;
-        let looked = change_of(network, state, s, named.code);
-        let change = looked.change;
-        let act = change.act;
-        state = store_change(state, s, change);
-        let answer = answer_to(act, s);
+        let looked = act_of(network, state, s, named.code);
+        state = store_act(state, s, looked.act);
+        let answer = answer_to(&looked.act, s);
         serviced = enter_answer(book, serviced, d, answer);
     }
     let owed = owed_pairs(state);

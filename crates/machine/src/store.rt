@@ -5,10 +5,10 @@ ghost use Rattle.std.specs.Prelude.{◌≡◌, cond, ◌<◌, ◌*◌, ◌/◌, 
 ghost use Rattle.base.specs.Sizes.{sites_most, port_count};
 ghost use Rattle.model.specs.Types.{no_input, in_at};
 ghost use Rattle.model.specs.Network.{is_channel, end_port};
-ghost use Rattle.machine.specs.Step.{seen_at, stored_state, answer_to, passed, is_idle, is_pass, EndsWithin, Passable};
+ghost use Rattle.machine.specs.Step.{seen_at, stored_state, answer_to, passed, EndsWithin, Passable};
 
 use crate::heard::{channel_at, is_channel};
-use crate::step::{Act, Change};
+use crate::step::Act;
 use rules::free_input;
 use types::{Input, Network, Ran, Site, State};
 
@@ -30,10 +30,8 @@ fn end_site(channel: u16) -> usize
 fn end_of(site: Site, channel: u16) -> Input
     ensures { result ≡ cond (is_channel channel) (in_at site (end_port channel)) no_input }
 {
-    let inputs = site.inputs;
     if is_channel(channel) {
-        let k = (channel % 4) as usize + 1;
-        return inputs[k];
+        return site.inputs[(channel % 4) as usize + 1];
     }
     free_input()
 }
@@ -48,13 +46,12 @@ pub(crate) fn seen_at(network: Network, state: State, s: usize) -> Seen
     let second = channel_at(network, s, 1);
     let third = channel_at(network, s, 2);
     let fourth = channel_at(network, s, 3);
-    let site = state.sites[s];
     let a = state.sites[end_site(first)];
     let b = state.sites[end_site(second)];
     let c = state.sites[end_site(third)];
     let d = state.sites[end_site(fourth)];
     Seen {
-        site,
+        site: state.sites[s],
         far: [
             end_of(a, first),
             end_of(b, second),
@@ -80,60 +77,31 @@ fn pass_on(state: State, s: usize, site: Site, channel: u16, input: Input) -> St
     next
 }
 
-// Whether RUN does nothing.
-fn is_idle(act: Act) -> bool
-    ensures { result ≡ is_idle act }
-{
-    match act {
-        Act::Idle => true,
-        Act::Own => false,
-        Act::Serve(_) => false,
-        Act::Pass => false,
-    }
-}
-
-// Whether RUN changes the input at the end of a channel.
-fn is_pass(act: Act) -> bool
-    ensures { result ≡ is_pass act }
-{
-    match act {
-        Act::Idle => false,
-        Act::Own => false,
-        Act::Serve(_) => false,
-        Act::Pass => true,
-    }
-}
-
-// The state after a change at site s; where nothing changes it is handed back as it is.
-pub(crate) fn store_change(state: State, s: usize, change: Change) -> State
+// The state after RUN at site s; where it does nothing it is handed back as it is.
+pub(crate) fn store_act(state: State, s: usize, act: Act) -> State
     requires site { s < sites_most }
-    requires passable { Passable change }
-    ensures { result ≡ stored_state state s change }
+    requires passable { Passable act }
+    ensures { result ≡ stored_state state s act }
 {
-    let act = change.act;
-    let site = change.site;
-    let input = change.input;
-    let channel = change.channel;
-    if is_idle(act) {
-        return state;
+    match act {
+        Act::Idle => state,
+        Act::Own(site) | Act::Serve(site, _) => {
+            let mut next = state;
+            next.sites[s] = site;
+            next
+        }
+        Act::Pass(site, channel, input) => pass_on(state, s, site, channel, input),
     }
-    if is_pass(act) {
-        return pass_on(state, s, site, channel, input);
-    }
-    let mut next = state;
-    next.sites[s] = site;
-    next
 }
 
 // RUN's answer to what it did at site s.
-pub(crate) fn answer_to(act: Act, s: usize) -> Ran
+pub(crate) fn answer_to(act: &Act, s: usize) -> Ran
     requires { s < sites_most }
-    ensures { result ≡ answer_to act s }
+    ensures { result ≡ answer_to act.now s }
 {
     match act {
         Act::Idle => Ran::Nothing,
-        Act::Own => Ran::Changed,
-        Act::Serve(packet) => Ran::Serviced(packet, s as u8),
-        Act::Pass => Ran::Changed,
+        Act::Own(_) | Act::Pass(_, _, _) => Ran::Changed,
+        Act::Serve(_, packet) => Ran::Serviced(*packet, s as u8),
     }
 }

@@ -15,7 +15,8 @@ use Rattle.types.specs.declared.Network.{Network}
 use Rattle.types.specs.declared.Output.{Output}
 use Rattle.model.specs.Network.{list_of}
 use Rattle.model.specs.Router.{first_port, serves, gets, unchosen, gather_from, gather, route}
-use Rattle.rules.specs.Router.{spread_or_pass, proper, askable, Routed}
+use Rattle.rules.specs.Routed.{Routed}
+use Rattle.rules.specs.Router.{proper, askable}
 
 pub asked : (l : List ℕ) (S s X : ℕ) → askable l S s X ≡ true → Routed l S s × ((0 < X) × (X < 2 ^ S))
 asked l S s X e =
@@ -55,10 +56,7 @@ module _ (n m : Network) (e : n.sites ≡ m.sites) (f : n.routes ≡ m.routes) (
   unfolding gather
   gathers_same Y = ap (λ (k : ℕ). gather_from n s os Y k 0 unchosen) e ∙ gather_same Y m.sites 0 unchosen
 
-  pub spread_same : (X : ℕ) → spread_or_pass n s os X ≡ spread_or_pass m s os X
-  spread_same X = rw (gathers_same (minus s X), e, f)
-
-  -- and of the same edition
+  -- of the same edition too
   pub route_same : n.edition ≡ m.edition → (X : ℕ) → route n s os X ≡ route m s os X
   unfolding route
   route_same g X = rw (gathers_same (minus s X), e, f, g)

@@ -7,13 +7,15 @@ use Prim.Native.Nat.{ℕ, suc, ◌+◌, ◌-◌, ◌≤◌, ◌<◌}
 use native.Mathlib.Omega.{arith}
 use borrow.Author.Tests.{ne_eqb}
 use lib.ListN.{get_or, length, length-set, drop}
+use Rattle.std.specs.Prelude.{None}
 use Rattle.base.specs.Sizes.{output_count, port_count}
 use Rattle.sets.specs.Sets.{has}
 use Rattle.types.specs.declared.Network.{Network}
 use Rattle.types.specs.declared.Output.{Output}
 use Rattle.model.specs.Network.{list_of}
-use Rattle.model.specs.Router.{Every, Missing, first_port, serves, gets, gather_from, gather, unchosen}
-use Rattle.rules.proofs.Search.{port_hit, port_miss, port_none, is_port_lem}
+use Rattle.model.specs.Router.{Gathered, Every, Missing, first_port, serves, gets, gather_from, gather, unchosen}
+use Rattle.rules.specs.Router.{of_gathered}
+use Rattle.rules.proofs.Found.{port_hit, port_miss, port_none, is_port_lem}
 
 -- before target t: what is to do from it on is what is to do from the start
 pub record Turning (n : Network) (s : ℕ) (os : List Output) (Y : ℕ) (sets : List ℕ) (t : ℕ) : Type 0 where
@@ -35,6 +37,10 @@ pub record Seeking (n : Network) (s : ℕ) (os : List Output) (Y : ℕ) (sets : 
 -- a loop that counts t up to n has n - t turns left: one, and what is left after it
 left : (n t : ℕ) → t < n → n - t ≡ suc (n - (t + 1))
 left n t h = omega arith
+
+pub missing : (g : Gathered) → of_gathered g ≡ None → g ≡ Missing
+missing (Every sets) e = absurd (cc)
+missing Missing e = refl
 
 module _ {n : Network} {s : ℕ} {os : List Output} {Y : ℕ} where
   pub starts : Turning n s os Y unchosen 0
@@ -90,10 +96,7 @@ module _ {n : Network} {s : ℕ} {os : List Output} {Y : ℕ} where
           same = w.same;
         }
 
-    -- port k does: one of the four
-    pub port_in : serves os sets (get_or l k 0) ≡ true → (1 ≤ get_or l k 0) × (get_or l k 0 < length sets)
-    port_in e = let p = is_port_lem os sets (get_or l k 0) e in (p.0, omega (arith, p.1, w.five))
-
+    -- port k does
     pub with_port : k < port_count → serves os sets (get_or l k 0) ≡ true → Turning n s os Y (gets sets (get_or l k 0) t) (t + 1)
     unfolding gather_from
     with_port h e =

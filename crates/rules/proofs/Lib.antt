@@ -1,11 +1,9 @@
 -- Laws that belong to no one function.
 pub mod Asked
 pub mod Blocked
-pub mod ByNumber
+pub mod ByState
 pub mod Cut
+pub mod Filled
+pub mod Found
 pub mod Gather
-pub mod Kept
-pub mod Queued
-pub mod Search
-pub mod Services
-pub mod Table
+pub mod Ready

@@ -1,31 +1,39 @@
--- The router's answers as the structs that the code returns, and the router asked with any routes.
-use Rattle.std.specs.Prelude.{ℕ, ◌*◌, ◌≤◌, ◌<◌, ◌≡◌, Bool, true, false, cond, not, ◌&&◌, ◌||◌, List, [], eqb, ltb, leb, length}
+-- The router's answers as the code returns them, and the router asked with any routes.
+use Rattle.std.specs.Prelude.{ℕ, ◌*◌, Bool, Option, None, Some, Result, Ok, Err, cond, ◌&&◌, ◌||◌, List, [], eqb, ltb, leb, length}
 use Rattle.base.specs.Sizes.{sites_most}
 use Rattle.sets.specs.Sets.{minus, lowest, targets}
-use Rattle.types.specs.declared.Connection.TheVariants.{Unicast, Passthru}
+use Rattle.types.specs.declared.Connection.TheVariants.{Passthru}
 use Rattle.types.specs.declared.Input.{Input}
 use Rattle.types.specs.declared.Output.{Output}
 use Rattle.types.specs.declared.Network.{Network}
 use Rattle.draws.specs.Draws.{restricted}
 use Rattle.model.specs.Types.{out_of}
 use Rattle.model.specs.Network.{list_of}
-use Rattle.model.specs.Router.{Choice as ModelChoice, Chosen, Unserved, Gathered, Every, Missing, unchosen, is_empty}
+use Rattle.model.specs.Router.{Choice as ModelChoice, Chosen, Unserved, Gathered, Every, Missing, is_empty}
 use Rattle.model.specs.Router.{first_empty, gather, spread, branch, or_else, to_other, route, Answered as ModelAnswered, ask}
 use Rattle.model.specs.NetInput.{passes_on}
 use Rattle.rules.specs.declared.router.Choice.{Choice}
-use Rattle.rules.specs.declared.blocking.Answered.{Answered}
-use Rattle.rules.specs.declared.ports.Gathering.{Gathering}
+use Rattle.rules.specs.declared.search.Search.{Search}
 
-abbrev pub of_gathered : Gathered → Gathering
-of_gathered (Every sets) = record { sets = sets; every = true }
-of_gathered Missing = record { sets = unchosen; every = false }
+-- a port; 0 is none
+abbrev pub of_port : ℕ → Option ℕ
+of_port j = cond (eqb j 0) None (Some j)
 
-abbrev pub of_choice : ModelChoice → Choice
-of_choice (Chosen c sets) = record { sets = sets; connection = c; served = true }
-of_choice Unserved = record { sets = unchosen; connection = Unicast; served = false }
+abbrev pub of_gathered : Gathered → Option (List ℕ)
+of_gathered (Every sets) = Some sets
+of_gathered Missing = None
 
-abbrev pub of_answered : ModelAnswered → Answered
-of_answered w = record { found = of_choice w.found; blocking = w.blocking }
+abbrev pub of_choice : ModelChoice → Option Choice
+of_choice (Chosen c sets) = Some (record { sets = sets; connection = c })
+of_choice Unserved = None
+
+-- a choice, or the outputs in the way
+abbrev pub or_blocked : ModelChoice → ℕ → Result Choice ℕ
+or_blocked (Chosen c sets) B = Ok (record { sets = sets; connection = c })
+or_blocked Unserved B = Err B
+
+abbrev pub of_answered : ModelAnswered → Result Choice ℕ
+of_answered w = or_blocked w.found w.blocking
 
 -- a network of S sites with these routes in an edition and tries T, all that a net-input in seek reads of one
 abbrev pub seek_only : ℕ → ℕ → ℕ → List ℕ → Network
@@ -36,9 +44,9 @@ seek_only edition S T l =
 abbrev pub routes_only : ℕ → ℕ → List ℕ → Network
 routes_only edition S l = seek_only edition S 0 l
 
--- the same without an edition, all that its searches read
-abbrev pub search_only : ℕ → List ℕ → Network
-search_only S l = routes_only 0 S l
+-- the network that a search reads
+abbrev pub searched : Search → Network
+searched q = routes_only q.edition q.sites q.routes.now
 
 -- "Two or more targets": the rules after those for a single target, first the spread over the targets in Y
 abbrev pub spread_targets : Network → ℕ → List Output → ℕ → ℕ → ModelChoice
@@ -70,14 +78,9 @@ asked_by edition l S s os X = cond (askable l S s X) (route (routes_only edition
 abbrev pub answered_by : ℕ → List ℕ → ℕ → ℕ → List Output → ℕ → ModelAnswered
 answered_by edition l S s os X = cond (askable l S s X) (ask (routes_only edition S l) s os X) (record { found = Unserved; blocking = 0 })
 
-abbrev pub passed_of : ℕ → Input → List Output → Answered → ℕ
-passed_of T y os w = cond (not w.found.served && (ltb y.tries T || (out_of os 0).used)) w.blocking 0
+abbrev pub passed_of : ℕ → Input → List Output → Result Choice ℕ → ℕ
+passed_of T y os (Ok a) = 0
+passed_of T y os (Err B) = cond (ltb y.tries T || (out_of os 0).used) B 0
 
 abbrev pub passed_by : ℕ → List ℕ → ℕ → ℕ → ℕ → Input → List Output → ℕ
 passed_by edition l S T s y os = cond (askable l S s y.set) (passes_on (seek_only edition S T l) s y os) 0
-
--- routes of S sites, s one of them, in room for all
-pub record Routed (l : List ℕ) (S s : ℕ) : Type 0 where
-  pub site : s < S
-  pub few : S ≤ sites_most
-  pub room : length l ≡ sites_most * sites_most

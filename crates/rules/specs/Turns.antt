@@ -1,6 +1,5 @@
--- What a rule decides, as the struct that the code returns: the places as they were where it stays.
-use Rattle.std.specs.Prelude.{ℕ, List, [], ◌∷◌, Bool, true, false, cond, ◌&&◌, eqb, get_or, replicate}
-use Rattle.base.specs.Sizes.{output_count}
+-- What a rule decides, as the code returns it: none where it stays.
+use Rattle.std.specs.Prelude.{ℕ, List, [], ◌∷◌, Bool, false, Option, None, Some, cond, ◌&&◌, eqb, get_or}
 use Rattle.types.specs.declared.Input.{Input}
 use Rattle.types.specs.declared.Output.{Output}
 use Rattle.types.specs.declared.OutQueue.{OutQueue}
@@ -24,26 +23,27 @@ use Rattle.rules.specs.declared.places.ChannelTurn.{ChannelTurn}
 use Rattle.rules.specs.declared.places.QueueTurn.{QueueTurn}
 use Rattle.rules.specs.declared.work.OperatorTurn.{OperatorTurn}
 
-abbrev pub of_local_turn : Output → InQueue → Turn Output InQueue → LocalTurn
-of_local_turn o q Stay = record { queue = q; output = o; changed = false }
-of_local_turn o q (To p r) = record { queue = r; output = p; changed = true }
+-- a turn of two places, which the code holds in a struct
+abbrev pub of_turn : {A B R : Type 0} → (A → B → R) → Turn A B → Option R
+of_turn made Stay = None
+of_turn made (To a b) = Some (made a b)
 
-abbrev pub of_channel_turn : Output → Input → Turn Output Input → ChannelTurn
-of_channel_turn o y Stay = record { output = o; input = y; changed = false }
-of_channel_turn o y (To p z) = record { output = p; input = z; changed = true }
+abbrev pub of_local_turn : Turn Output InQueue → Option LocalTurn
+of_local_turn t = of_turn (λ o q. record { queue = q; output = o }) t
 
-abbrev pub of_queue_turn : OutQueue → Input → Turn OutQueue Input → QueueTurn
-of_queue_turn q y Stay = record { queue = q; input = y; changed = false }
-of_queue_turn q y (To r z) = record { queue = r; input = z; changed = true }
+abbrev pub of_channel_turn : Turn Output Input → Option ChannelTurn
+of_channel_turn t = of_turn (λ o y. record { output = o; input = y }) t
 
-abbrev pub of_work : InQueue → OutQueue → Work → OperatorTurn
-of_work a b Rest = record { incoming = a; outgoing = b; changed = false; serviced = false; packet = 0 }
-of_work a b (Cleared c d) = record { incoming = c; outgoing = d; changed = true; serviced = false; packet = 0 }
-of_work a b (Service c d q) = record { incoming = c; outgoing = d; changed = true; serviced = true; packet = q }
+abbrev pub of_queue_turn : Turn OutQueue Input → Option QueueTurn
+of_queue_turn t = of_turn (λ q y. record { queue = q; input = y }) t
 
-abbrev pub of_input_turn : Input → List Output → Turn Input (List Output) → InputTurn
-of_input_turn y os Stay = record { outputs = os; input = y; changed = false }
-of_input_turn y os (To z ps) = record { outputs = ps; input = z; changed = true }
+abbrev pub of_input_turn : Turn Input (List Output) → Option InputTurn
+of_input_turn t = of_turn (λ y os. record { outputs = os; input = y }) t
+
+abbrev pub of_work : Work → Option OperatorTurn
+of_work Rest = None
+of_work (Cleared c d) = Some (record { incoming = c; outgoing = d; serviced = None })
+of_work (Service c d q) = Some (record { incoming = c; outgoing = d; serviced = Some q })
 
 -- a queue's entries without the front, spelled out: of eight places, as the code holds them
 abbrev pub shifted : {A : Type 0} → A → List A → List A
@@ -69,38 +69,17 @@ taken_at q i sets os j = cond (is_chosen sets j) (taken q i (get_or sets j 0)) (
 abbrev pub ended_at : (ℕ → Terminator) → List Bool → List Output → ℕ → Output
 ended_at given bs os j = cond (mark bs j) (out_term (out_of os j) (given j)) (out_of os j)
 
--- what a net-input's state gives the outputs, as an array of the code
+-- what an array of the code gives the outputs
 abbrev pub given_at : List Terminator → ℕ → Terminator
 given_at l j = get_or l j t_none
 
-abbrev pub given_row : Phase → List Terminator
-given_row Free = replicate output_count t_none
-given_row Seek = replicate output_count t_none
-given_row (Open c) = replicate output_count t_none
-given_row (Wait c) = replicate output_count t_none
-given_row (Done c r) = table_row r c
-given_row (Last c r) = table_row r c
-given_row (Aborted c) = replicate output_count t_none
-given_row (FinAbort c r) = replicate output_count t_none
+-- the choice that the router's answer stands for
+abbrev pub to_choice : Option Choice → ModelChoice
+to_choice None = Unserved
+to_choice (Some a) = Chosen a.connection a.sets
 
--- open and wait, done and last
-abbrev pub turned : Phase → Phase
-turned Free = Free
-turned Seek = Seek
-turned (Open c) = Wait c
-turned (Wait c) = Open c
-turned (Done c r) = Last c r
-turned (Last c r) = Done c r
-turned (Aborted c) = Aborted c
-turned (FinAbort c r) = FinAbort c r
-
--- the choice that the router's struct stands for
-abbrev pub to_choice : Bool → Connection → List ℕ → ModelChoice
-to_choice true c sets = Chosen c sets
-to_choice false c sets = Unserved
-
-abbrev pub seek_turn : ℕ → ℕ → Input → List Output → Choice → InputTurn
-seek_turn T i y os ch = of_input_turn y os (seek T i y os (to_choice ch.served ch.connection ch.sets))
+abbrev pub seek_turn : ℕ → ℕ → Input → List Output → Option Choice → Option InputTurn
+seek_turn T i y os a = of_input_turn (seek T i y os (to_choice a))
 
 -- a net-input's rule in every state but seek, which asks a network
 abbrev pub no_network : Network

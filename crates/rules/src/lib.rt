@@ -12,11 +12,12 @@ mod places;
 mod ports;
 mod queues;
 mod router;
+mod search;
 mod terminators;
 mod timeout;
 mod work;
 
-pub use blocking::{Answered, ask_in, blocking_in, input_blocking};
+pub use blocking::{ask_in, blocking_in, input_blocking};
 pub use inputs::{InputTurn, all_ready, other_input, seek_turn};
 pub use phases::{empty_output, free_input, held_terminator, is_listening};
 pub use places::{ChannelTurn, LocalTurn, QueueTurn, channel_output, local_output, out_queue};

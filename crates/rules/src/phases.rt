@@ -11,16 +11,7 @@ use types::{Input, Output, Phase, Received, Terminator};
 pub fn is_listening(phase: Phase) -> bool
     ensures { result ≡ spec.listening phase }
 {
-    match phase {
-        Phase::Free => false,
-        Phase::Seek => false,
-        Phase::Open(_) => true,
-        Phase::Wait(_) => false,
-        Phase::Done(_, _) => false,
-        Phase::Last(_, _) => false,
-        Phase::Abort(_) => true,
-        Phase::FinAbort(_, _) => false,
-    }
+    matches!(phase, Phase::Open(_) | Phase::Abort(_))
 }
 
 pub(crate) fn as_terminator(received: Received) -> Terminator
@@ -37,14 +28,10 @@ pub fn held_terminator(phase: Phase) -> Terminator
     ensures { result ≡ spec.held phase }
 {
     match phase {
-        Phase::Free => Terminator::None,
-        Phase::Seek => Terminator::None,
-        Phase::Open(_) => Terminator::None,
-        Phase::Wait(_) => Terminator::None,
-        Phase::Done(_, r) => as_terminator(r),
-        Phase::Last(_, r) => as_terminator(r),
-        Phase::Abort(_) => Terminator::None,
-        Phase::FinAbort(_, r) => as_terminator(r),
+        Phase::Done(_, r) | Phase::Last(_, r) | Phase::FinAbort(_, r) => as_terminator(r),
+        Phase::Free | Phase::Seek | Phase::Open(_) | Phase::Wait(_) | Phase::Abort(_) => {
+            Terminator::None
+        }
     }
 }
 
@@ -62,22 +49,13 @@ pub(crate) fn receive(received: Received, phase: Phase) -> Phase
 pub(crate) fn in_phase(input: Input, phase: Phase) -> Input
     ensures { result ≡ in_phase input phase }
 {
-    let outputs = input.outputs;
-    Input {
-        set: input.set,
-        phase,
-        outputs,
-        packet: input.packet,
-        tries: input.tries,
-    }
+    Input { phase, ..input }
 }
 
 pub(crate) fn with_received(received: Received, input: Input) -> Input
     ensures { result ≡ fields.received received input }
 {
-    let phase = input.phase;
-    let next = receive(received, phase);
-    in_phase(input, next)
+    in_phase(input, receive(received, input.phase))
 }
 
 pub fn free_input() -> Input
@@ -99,9 +77,8 @@ pub(crate) fn seeking_input(packet: u8, set: u64) -> Input
     Input {
         set,
         phase: Phase::Seek,
-        outputs: [false; base::OUTPUTS],
         packet,
-        tries: 0,
+        ..free_input()
     }
 }
 
@@ -123,13 +100,8 @@ pub(crate) fn with_terminator(output: Output, terminator: Terminator) -> Output
     ensures { result ≡ out_term output terminator }
 {
     Output {
-        set: output.set,
         terminator,
-        packet: output.packet,
-        input: output.input,
-        used: output.used,
-        head: output.head,
-        closing: output.closing,
+        ..output
     }
 }
 
@@ -137,15 +109,9 @@ pub(crate) fn with_terminator(output: Output, terminator: Terminator) -> Output
 pub(crate) fn with_head(output: Output) -> Output
     ensures { result ≡ out_head output }
 {
-    let terminator = output.terminator;
     Output {
-        set: output.set,
-        terminator,
-        packet: output.packet,
-        input: output.input,
-        used: output.used,
         head: true,
-        closing: output.closing,
+        ..output
     }
 }
 
@@ -154,12 +120,10 @@ pub(crate) fn closing_output(output: Output) -> Output
     ensures { result ≡ out_closing output }
 {
     Output {
-        set: output.set,
         terminator: Terminator::None,
-        packet: output.packet,
-        input: output.input,
         used: true,
         head: true,
         closing: true,
+        ..output
     }
 }

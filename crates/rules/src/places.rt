@@ -1,4 +1,4 @@
-// The rules of a net-output and the out-queue, each on the two places that it looks at.
+// The rules of a net-output and the out-queue, each on the two places that it looks at; none where they stay.
 ghost use Rattle.std.specs.Prelude.{◌≡◌, cond};
 ghost use Rattle.types.specs.Phases.{is_none};
 ghost use Rattle.model.specs.Places as spec;
@@ -16,7 +16,6 @@ use types::{InEntry, InQueue, Input, OutQueue, Output, Received, Terminator};
 pub struct LocalTurn {
     pub queue: InQueue,
     pub output: Output,
-    pub changed: bool,
 }
 
 // What becomes of an output 1 to 4 and the input at the end of its channel.
@@ -24,7 +23,6 @@ pub struct LocalTurn {
 pub struct ChannelTurn {
     pub output: Output,
     pub input: Input,
-    pub changed: bool,
 }
 
 // What becomes of the out-queue and net-input 0.
@@ -32,102 +30,72 @@ pub struct ChannelTurn {
 pub struct QueueTurn {
     pub queue: OutQueue,
     pub input: Input,
-    pub changed: bool,
 }
 
 // The head of output 0, or of the split output, to its in-queue, if that has room.
-fn local_head(depth: usize, output: Output, queue: InQueue) -> LocalTurn
-    ensures { result ≡ of_local_turn output queue (spec.head_in depth output queue) }
+fn local_head(depth: usize, output: Output, queue: InQueue) -> Option<LocalTurn>
+    ensures { result ≡ of_local_turn (spec.head_in depth output queue) }
 {
-    let n = queue.count;
-    if n < depth {
-        let entry = InEntry {
-            set: output.set,
-            terminator: Terminator::None,
-            packet: output.packet,
-        };
-        return LocalTurn {
-            queue: push_in(depth, queue, entry),
-            output: with_head(output),
-            changed: true,
-        };
+    if depth <= queue.count {
+        return None;
     }
-    LocalTurn {
-        queue,
-        output,
-        changed: false,
-    }
+    let entry = InEntry {
+        set: output.set,
+        terminator: Terminator::None,
+        packet: output.packet,
+    };
+    Some(LocalTurn {
+        queue: push_in(depth, queue, entry),
+        output: with_head(output),
+    })
 }
 
 // The terminator of either, if it has one, to the in-queue's last entry.
-fn local_terminator(output: Output, queue: InQueue) -> LocalTurn
-    ensures { result ≡ of_local_turn output queue (cond (is_none output.terminator) Stay (spec.term_in output queue)) }
+fn local_terminator(output: Output, queue: InQueue) -> Option<LocalTurn>
+    ensures { result ≡ of_local_turn (cond (is_none output.terminator) Stay (spec.term_in output queue)) }
 {
-    let terminator = output.terminator;
-    if types::is_none(terminator) {
-        return LocalTurn {
-            queue,
-            output,
-            changed: false,
-        };
+    if types::is_none(output.terminator) | !last_lacks(queue) {
+        return None;
     }
-    if last_lacks(queue) {
-        return LocalTurn {
-            queue: end_last(queue, terminator),
-            output: empty_output(),
-            changed: true,
-        };
-    }
-    LocalTurn {
-        queue,
-        output,
-        changed: false,
-    }
+    Some(LocalTurn {
+        queue: end_last(queue, output.terminator),
+        output: empty_output(),
+    })
 }
 
 // Net-output 0, or the split output: its head to its in-queue, then its terminator to the in-queue's last entry.
-pub fn local_output(depth: usize, output: Output, queue: InQueue) -> LocalTurn
-    ensures { result ≡ of_local_turn output queue (spec.local_output depth output queue) }
+#[tactic(auto, unfolding(model::specs::Places::local_output))]
+pub fn local_output(depth: usize, output: Output, queue: InQueue) -> Option<LocalTurn>
+    ensures { result ≡ of_local_turn (spec.local_output depth output queue) }
 {
-    if output.used {
-        if output.head {
-            return local_terminator(output, queue);
-        }
-        return local_head(depth, output, queue);
+    if !output.used {
+        return None;
     }
-    LocalTurn {
-        queue,
-        output,
-        changed: false,
+    if output.head {
+        local_terminator(output, queue)
+    } else {
+        local_head(depth, output, queue)
     }
 }
 
 // The head of an output 1 to 4 to the input at the end of its channel, if that is free.
-fn channel_head(there: bool, output: Output, input: Input) -> ChannelTurn
-    ensures { result ≡ of_channel_turn output input (spec.head_on there output input) }
+fn channel_head(there: bool, output: Output, input: Input) -> Option<ChannelTurn>
+    ensures { result ≡ of_channel_turn (spec.head_on there output input) }
 {
-    let phase = input.phase;
-    let free = types::is_free(phase);
-    if there & free {
-        return ChannelTurn {
+    if there & types::is_free(input.phase) {
+        return Some(ChannelTurn {
             output: with_head(output),
             input: seeking_input(output.packet, output.set),
-            changed: true,
-        };
+        });
     }
-    ChannelTurn {
-        output,
-        input,
-        changed: false,
-    }
+    None
 }
 
 // What delivery leaves of an output 1 to 4: one that is closing in editions 2 and 3, else an empty one.
 fn delivered_output(edition: u8, output: Output) -> Output
     ensures { result ≡ spec.delivered edition output }
 {
-    let restricted = draws::is_restricted(edition);
-    if (edition == 2) | restricted {
+    if (edition == 2) | draws::is_restricted(edition) {
         return closing_output(output);
     }
     empty_output()
@@ -140,115 +108,82 @@ fn deliver_received(
     output: Output,
     input: Input,
     received: Received,
-) -> ChannelTurn
-    ensures { result ≡ of_channel_turn output input (spec.term_on edition there output input received) }
+) -> Option<ChannelTurn>
+    ensures { result ≡ of_channel_turn (spec.term_on edition there output input received) }
 {
-    let phase = input.phase;
-    let hears = is_listening(phase);
-    if there & hears {
-        return ChannelTurn {
+    if there & is_listening(input.phase) {
+        return Some(ChannelTurn {
             output: delivered_output(edition, output),
             input: with_received(received, input),
-            changed: true,
-        };
+        });
     }
-    ChannelTurn {
-        output,
-        input,
-        changed: false,
-    }
+    None
 }
 
 // The terminator of an output 1 to 4, if it has one.
-fn channel_terminator(edition: u8, there: bool, output: Output, input: Input) -> ChannelTurn
-    ensures { result ≡ of_channel_turn output input (spec.deliver edition there output input output.terminator) }
+#[tactic(auto, unfolding(model::specs::Places::deliver))]
+fn channel_terminator(edition: u8, there: bool, output: Output, input: Input) -> Option<ChannelTurn>
+    ensures { result ≡ of_channel_turn (spec.deliver edition there output input output.terminator) }
 {
-    let terminator = output.terminator;
-    let stays = ChannelTurn {
-        output,
-        input,
-        changed: false,
-    };
-    match terminator {
-        Terminator::None => stays,
+    match output.terminator {
+        Terminator::None | Terminator::KeepLocal => None,
         Terminator::End => deliver_received(edition, there, output, input, Received::End),
         Terminator::Abort => deliver_received(edition, there, output, input, Received::Abort),
-        Terminator::KeepLocal => stays,
     }
 }
 
 // An output 1 to 4 that is closing gives its channel up, if the input at its end is free.
-fn give_up(there: bool, output: Output, input: Input) -> ChannelTurn
-    ensures { result ≡ of_channel_turn output input (spec.give_up there input) }
+fn give_up(there: bool, input: Input) -> Option<ChannelTurn>
+    ensures { result ≡ of_channel_turn (spec.give_up there input) }
 {
-    let phase = input.phase;
-    let free = types::is_free(phase);
-    if there & free {
-        return ChannelTurn {
+    if there & types::is_free(input.phase) {
+        return Some(ChannelTurn {
             output: empty_output(),
             input,
-            changed: true,
-        };
+        });
     }
-    ChannelTurn {
-        output,
-        input,
-        changed: false,
-    }
+    None
 }
 
 // A net-output 1 to 4: its head to the input at the end of its channel, then its terminator, then, if it is closing, the
 // channel itself.
-pub fn channel_output(edition: u8, there: bool, output: Output, input: Input) -> ChannelTurn
-    ensures { result ≡ of_channel_turn output input (spec.channel_output edition there output input) }
+#[tactic(auto, unfolding(model::specs::Places::channel_output))]
+pub fn channel_output(edition: u8, there: bool, output: Output, input: Input) -> Option<ChannelTurn>
+    ensures { result ≡ of_channel_turn (spec.channel_output edition there output input) }
 {
-    if output.used {
-        if output.head {
-            if output.closing {
-                return give_up(there, output, input);
-            }
-            return channel_terminator(edition, there, output, input);
-        }
+    if !output.used {
+        return None;
+    }
+    if !output.head {
         return channel_head(there, output, input);
     }
-    ChannelTurn {
-        output,
-        input,
-        changed: false,
+    if output.closing {
+        give_up(there, input)
+    } else {
+        channel_terminator(edition, there, output, input)
     }
 }
 
 // The out-queue: net-input 0 takes the front, or receives its end.
-pub fn out_queue(queue: OutQueue, input: Input) -> QueueTurn
-    ensures { result ≡ of_queue_turn queue input (spec.out_queue queue input) }
+#[tactic(auto, unfolding(model::specs::Places::out_queue))]
+pub fn out_queue(queue: OutQueue, input: Input) -> Option<QueueTurn>
+    ensures { result ≡ of_queue_turn (spec.out_queue queue input) }
 {
-    let n = queue.count;
     let front = queue.entries[0];
-    let phase = input.phase;
-    let stays = QueueTurn {
-        queue,
-        input,
-        changed: false,
-    };
-    if 0 < n {
-        if front.started {
-            if is_listening(phase) {
-                return QueueTurn {
-                    queue: pop_out(queue),
-                    input: with_received(Received::End, input),
-                    changed: true,
-                };
-            }
-            return stays;
-        }
-        if types::is_free(phase) {
-            return QueueTurn {
-                queue: start_front(queue),
-                input: seeking_input(front.packet, front.set),
-                changed: true,
-            };
-        }
-        return stays;
+    if queue.count == 0 {
+        return None;
     }
-    stays
+    if front.started & is_listening(input.phase) {
+        return Some(QueueTurn {
+            queue: pop_out(queue),
+            input: with_received(Received::End, input),
+        });
+    }
+    if !front.started & types::is_free(input.phase) {
+        return Some(QueueTurn {
+            queue: start_front(queue),
+            input: seeking_input(front.packet, front.set),
+        });
+    }
+    None
 }

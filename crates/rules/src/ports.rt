@@ -1,17 +1,12 @@
 // The router's search: the ports of a route, the first that can serve, and an output for each of several targets.
-ghost use Rattle.std.specs.Prelude.{◌≡◌, ◌<◌};
+ghost use Rattle.std.specs.Prelude.{◌≡◌, ◌<◌, ◌≤◌, IfSome, IsTrue};
+ghost use Rattle.base.specs.Sizes.{port_count};
 ghost use Rattle.model.specs.Network.{choices, list_of};
 ghost use Rattle.model.specs.Router.{serves, first_port, gather};
-ghost use Rattle.rules.specs.Router.{of_gathered, search_only, Routed};
+ghost use Rattle.rules.specs.Router.{of_gathered, of_port, searched};
 
+use crate::search::Search;
 use types::Output;
-
-// The sets chosen for the outputs, and whether every target got an output.
-#[derive(Clone, Copy)]
-pub struct Gathering {
-    pub sets: [u64; base::OUTPUTS],
-    pub every: bool,
-}
 
 // The ports of a route, first choice first; zeros after the last.
 fn ports(route: u16) -> [usize; base::PORTS]
@@ -26,73 +21,53 @@ fn ports(route: u16) -> [usize; base::PORTS]
 }
 
 // Whether port p can take a target: one of 1 to 4, empty or already chosen for this packet.
-fn can_serve(outputs: [Output; base::OUTPUTS], sets: [u64; base::OUTPUTS], p: usize) -> bool
-    ensures { result ≡ serves outputs sets p }
+fn can_serve(outputs: &[Output; base::OUTPUTS], sets: &[u64; base::OUTPUTS], p: usize) -> bool
+    ensures serves { result ≡ serves outputs.now sets.now p }
+    ensures within { IsTrue result → p ≤ port_count }
 {
-    if p < 1 {
-        return false;
-    }
-    if 4 < p {
-        return false;
-    }
-    let output = outputs[p];
-    let empty = !output.used;
-    empty | (sets[p] != 0)
+    (1..=base::PORTS).contains(&p) && (!outputs[p].used || sets[p] != 0)
 }
 
-// The first port of a list that can serve; 0 where none can.
+// The first port of a list that can serve.
 pub(crate) fn first_serving(
-    outputs: [Output; base::OUTPUTS],
-    sets: [u64; base::OUTPUTS],
+    outputs: &[Output; base::OUTPUTS],
+    sets: &[u64; base::OUTPUTS],
     list: [usize; base::PORTS],
-) -> usize
-    ensures { result ≡ first_port (serves outputs sets) list }
+) -> Option<usize>
+    ensures first { result ≡ of_port (first_port (serves outputs.now sets.now) list) }
+    ensures within { IfSome result (λ p. p ≤ port_count) }
 {
-    for k in 0usize..4 {
-        let p = list[k];
-        if can_serve(outputs, sets, p) {
-            return p;
-        }
-    }
-    0
+    list.iter().copied().find(|p| can_serve(outputs, sets, *p))
 }
 
-// The ports of the route from s to t.
-pub(crate) fn list_of(routes: &[u16], sites: usize, s: usize, t: usize) -> [usize; base::PORTS]
-    requires routed { Routed routes.now sites s }
-    requires target { t < sites }
-    ensures { result ≡ list_of (search_only sites routes.now) s t }
+// The ports of the route to t.
+pub(crate) fn list_of(search: Search, t: usize) -> [usize; base::PORTS]
+    requires { t < search.sites }
+    ensures { result ≡ list_of (searched search.entry) search.entry.site t }
 {
-    ports(routes[s * sites + t])
+    ports(search.routes[search.site * search.sites + t])
 }
 
+// A search over targets and their ports, left by a label: a form that the specification names.
 // For each target in `others`, ascending, the first output in its list that is empty or already chosen.
 pub(crate) fn gather_outputs(
-    routes: &[u16],
-    sites: usize,
-    s: usize,
+    search: Search,
     outputs: [Output; base::OUTPUTS],
     others: u64,
-) -> Gathering
-    requires { Routed routes.now sites s }
-    ensures { result ≡ of_gathered (gather (search_only sites routes.now) s outputs others) }
+) -> Option<[u64; base::OUTPUTS]>
+    ensures { result ≡ of_gathered (gather (searched search.entry) search.entry.site outputs others) }
 {
     let mut sets = [0u64; base::OUTPUTS];
-    'targets: for t in 0..sites {
+    'targets: for t in 0..search.sites {
         if sets::member(others, t) {
-            let list = list_of(routes, sites, s, t);
-            for k in 0usize..4 {
-                let p = list[k];
-                if can_serve(outputs, sets, p) {
+            for p in list_of(search, t) {
+                if can_serve(&outputs, &sets, p) {
                     sets[p] = sets::with(sets[p], t);
                     continue 'targets;
                 }
             }
-            return Gathering {
-                sets: [0u64; base::OUTPUTS],
-                every: false,
-            };
+            return None;
         }
     }
-    Gathering { sets, every: true }
+    Some(sets)
 }

@@ -1,11 +1,10 @@
 // The terminator table, and what a net-input gives its outputs by it.
-ghost use Rattle.std.specs.Prelude.{◌≡◌, cond};
-ghost use Rattle.model.specs.Types as spec;
+ghost use Rattle.std.specs.Prelude.{◌≡◌};
 ghost use Rattle.model.specs.NetInput as rule;
-ghost use Rattle.rules.specs.Turns.{table_cell, table_row, given_at, given_row};
+ghost use Rattle.rules.specs.Turns.{table_cell, table_row, given_at};
 
 use crate::phases::with_terminator;
-use types::{Connection, Output, Phase, Received, Terminator};
+use types::{Connection, Output, Received, Terminator};
 
 // What the table gives: to the other outputs, and to output 0.
 #[derive(Clone, Copy)]
@@ -13,11 +12,6 @@ struct Cell {
     remote: Terminator,
     local: Terminator,
 }
-
-const NONES: Cell = Cell {
-    remote: Terminator::None,
-    local: Terminator::None,
-};
 
 const ENDS: Cell = Cell {
     remote: Terminator::End,
@@ -29,12 +23,10 @@ const ABORTS: Cell = Cell {
     local: Terminator::Abort,
 };
 
-// The terminator table: a row for each received kind (1 end, 2 abort), in it a cell for each connection (1 unicast,
-// 2 passthru, 3 all-remote, 4 some-local, 5 handed, 6 branch). Row 0 and place 0 are not used.
-const TABLE: [[Cell; 7]; 3] = [
-    [NONES, NONES, NONES, NONES, NONES, NONES, NONES],
+// The terminator table: a row for each received kind, end and abort, in it a cell for each connection, unicast, passthru,
+// all-remote, some-local, handed and branch.
+const TABLE: [[Cell; 6]; 2] = [
     [
-        NONES,
         ENDS,
         ENDS,
         Cell {
@@ -48,52 +40,24 @@ const TABLE: [[Cell; 7]; 3] = [
         ENDS,
         ENDS,
     ],
-    [NONES, ABORTS, ABORTS, ABORTS, ABORTS, ABORTS, ABORTS],
+    [ABORTS; 6],
 ];
 
 // The table's cell for a received kind and a connection.
 fn cell_of(received: Received, connection: Connection) -> Cell
     ensures { result ≡ table_cell received connection }
 {
-    let row = types::received_number(received) as usize;
-    let column = types::connection_number(connection) as usize;
-    TABLE[row][column]
+    TABLE[received as usize][connection as usize]
 }
 
 // The terminators that the table gives the outputs 0 to 5.
-fn terminators(received: Received, connection: Connection) -> [Terminator; base::OUTPUTS]
+pub(crate) fn terminators(received: Received, connection: Connection) -> [Terminator; base::OUTPUTS]
     ensures { result ≡ table_row received connection }
 {
     let cell = cell_of(received, connection);
-    let local = cell.local;
-    let remote = cell.remote;
-    [local, remote, remote, remote, remote, remote]
-}
-
-// The terminators that a net-input's state gives the outputs 0 to 5; none in a state without a received terminator.
-pub(crate) fn phase_terminators(phase: Phase) -> [Terminator; base::OUTPUTS]
-    ensures { result ≡ given_row phase }
-{
-    match phase {
-        Phase::Free => [Terminator::None; base::OUTPUTS],
-        Phase::Seek => [Terminator::None; base::OUTPUTS],
-        Phase::Open(_) => [Terminator::None; base::OUTPUTS],
-        Phase::Wait(_) => [Terminator::None; base::OUTPUTS],
-        Phase::Done(connection, received) => terminators(received, connection),
-        Phase::Last(connection, received) => terminators(received, connection),
-        Phase::Abort(_) => [Terminator::None; base::OUTPUTS],
-        Phase::FinAbort(_, _) => [Terminator::None; base::OUTPUTS],
-    }
-}
-
-// An output with its terminator, if it is marked.
-fn ended_if(marked: bool, output: Output, terminator: Terminator) -> Output
-    ensures { result ≡ cond marked (spec.out_term output terminator) output }
-{
-    if marked {
-        return with_terminator(output, terminator);
-    }
-    output
+    let mut row = [cell.remote; base::OUTPUTS];
+    row[0] = cell.local;
+    row
 }
 
 // Each output that is marked gets its terminator.
@@ -105,11 +69,10 @@ pub(crate) fn give_terminators(
     ensures { result ≡ rule.give (given_at given) marks outputs }
 {
     let mut next = outputs;
-    for j in 0usize..base::OUTPUTS {
-        let output = outputs[j];
-        let terminator = given[j];
-        let ended = ended_if(marks[j], output, terminator);
-        next[j] = ended;
+    for (j, marked) in marks.iter().enumerate() {
+        if *marked {
+            next[j] = with_terminator(outputs[j], given[j]);
+        }
     }
     next
 }

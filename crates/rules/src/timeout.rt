@@ -1,5 +1,5 @@
-// The timeout, on the in-queue, the outputs and the net-input that feeds output 0.
-ghost use Rattle.std.specs.Prelude.{◌≡◌};
+// The timeout, on the in-queue, the outputs and the net-input that feeds output 0; none where nothing changes.
+ghost use Rattle.std.specs.Prelude.{◌≡◌, Some};
 ghost use Rattle.model.specs.Places as spec;
 ghost use Rattle.rules.specs.Turns.{of_input_turn, cuts, cut_phase, cut_if};
 
@@ -13,14 +13,10 @@ pub fn can_cut(phase: Phase) -> bool
     ensures { result ≡ cuts phase }
 {
     match phase {
-        Phase::Free => false,
-        Phase::Seek => false,
-        Phase::Open(c) => types::is_split(c),
-        Phase::Wait(c) => types::is_split(c),
-        Phase::Done(c, _) => types::is_split(c),
-        Phase::Last(c, _) => types::is_split(c),
-        Phase::Abort(_) => false,
-        Phase::FinAbort(_, _) => false,
+        Phase::Open(c) | Phase::Wait(c) | Phase::Done(c, _) | Phase::Last(c, _) => types::is_split(
+            c,
+        ),
+        Phase::Free | Phase::Seek | Phase::Abort(_) | Phase::FinAbort(_, _) => false,
     }
 }
 
@@ -29,36 +25,28 @@ fn cut_phase(phase: Phase) -> Phase
     ensures { result ≡ cut_phase phase }
 {
     match phase {
-        Phase::Open(c) => Phase::Abort(c),
-        Phase::Wait(c) => Phase::Abort(c),
-        Phase::Done(c, r) => Phase::FinAbort(c, r),
-        Phase::Last(c, r) => Phase::FinAbort(c, r),
-        _ => phase,
+        Phase::Open(c) | Phase::Wait(c) => Phase::Abort(c),
+        Phase::Done(c, r) | Phase::Last(c, r) => Phase::FinAbort(c, r),
+        Phase::Free | Phase::Seek | Phase::Abort(_) | Phase::FinAbort(_, _) => phase,
     }
 }
 
 // Its remote outputs get abort and are disconnected.
+#[tactic(auto, using(crate::proofs::Cut::give_aborts))]
 fn cut_off(input: Input, outputs: [Output; base::OUTPUTS]) -> InputTurn
-    ensures { result ≡ of_input_turn input outputs (spec.cut_off input outputs (cut_phase input.phase)) }
+    ensures { Some result ≡ of_input_turn (spec.cut_off input outputs (cut_phase input.phase)) }
 {
-    let phase = input.phase;
-    let next = cut_phase(phase);
-    let marked = input.outputs;
-    let local = marked[0];
-    let mut remote = marked;
+    let mut remote = input.outputs;
     remote[0] = false;
-    let aborts = [Terminator::Abort; base::OUTPUTS];
-    let ended = give_terminators(outputs, remote, aborts);
+    let mut local = [false; base::OUTPUTS];
+    local[0] = input.outputs[0];
     InputTurn {
-        outputs: ended,
+        outputs: give_terminators(outputs, remote, [Terminator::Abort; base::OUTPUTS]),
         input: Input {
-            set: input.set,
-            phase: next,
-            outputs: [local, false, false, false, false, false],
-            packet: input.packet,
-            tries: input.tries,
+            phase: cut_phase(input.phase),
+            outputs: local,
+            ..input
         },
-        changed: true,
     }
 }
 
@@ -66,28 +54,17 @@ fn cut_off(input: Input, outputs: [Output; base::OUTPUTS]) -> InputTurn
 fn is_stalled(output: Output) -> bool
     ensures { result ≡ spec.stalled output }
 {
-    let terminator = output.terminator;
-    let taken = output.head;
-    output.used & !output.closing & types::is_none(terminator) & taken
+    output.used & !output.closing & types::is_none(output.terminator) & output.head
 }
 
 // The timeout in editions 1 and 2: ignored unless output 0 waits for a terminator that a split withholds.
-fn cut_if(queue: InQueue, outputs: [Output; base::OUTPUTS], input: Input) -> InputTurn
-    ensures { result ≡ of_input_turn input outputs (cut_if queue outputs input) }
+fn cut_if(queue: InQueue, outputs: [Output; base::OUTPUTS], input: Input) -> Option<InputTurn>
+    ensures { result ≡ of_input_turn (cut_if queue outputs input) }
 {
-    let own = outputs[0];
-    let phase = input.phase;
-    let lacks = last_lacks(queue);
-    let stalled = is_stalled(own);
-    let cuts = can_cut(phase);
-    if lacks & stalled & cuts {
-        return cut_off(input, outputs);
+    if last_lacks(queue) & is_stalled(outputs[0]) & can_cut(input.phase) {
+        return Some(cut_off(input, outputs));
     }
-    InputTurn {
-        outputs,
-        input,
-        changed: false,
-    }
+    None
 }
 
 // The timeout: the same, and nothing in edition 3.
@@ -96,15 +73,11 @@ pub fn time_out(
     queue: InQueue,
     outputs: [Output; base::OUTPUTS],
     input: Input,
-) -> InputTurn
-    ensures { result ≡ of_input_turn input outputs (spec.timeout edition queue outputs input) }
+) -> Option<InputTurn>
+    ensures { result ≡ of_input_turn (spec.timeout edition queue outputs input) }
 {
     if draws::is_restricted(edition) {
-        return InputTurn {
-            outputs,
-            input,
-            changed: false,
-        };
+        return None;
     }
     cut_if(queue, outputs, input)
 }

@@ -1,6 +1,7 @@
 -- Codes 0 to 4 in place: readiness by the packed words, and what each way of the code makes of the definition. Assumes what each law names.
 use mathlib.Core.Path.{◌≡◌, refl, sym, ap, ap₂, subst, ◌∙◌}
 use mathlib.Core.Logic.{◌⊎◌, inl, inr}
+use Rattle.std.specs.Prelude.{Option}
 use mathlib.Core.List.{List}
 use mathlib.Core.Bool.{Bool, true, false, ◌&&◌, ◌||◌, and-true}
 use Prim.Native.Nat.{ℕ, zero, suc, ◌+◌, ◌*◌, ◌/◌, ◌%◌, ◌<◌, ◌≤◌}
@@ -31,7 +32,7 @@ use Rattle.rules.specs.declared.inputs.InputTurn.{InputTurn}
 use Rattle.rules.specs.Router.{of_choice, routes_only, asked_by}
 use Rattle.rules.specs.Turns.{of_input_turn, other_turn, seek_turn, to_choice}
 use Rattle.rules.proofs.Asked.{route_same}
-use Rattle.rules.proofs.ByNumber.{other_is, seek_is, choice_back}
+use Rattle.rules.proofs.ByState.{other_is, seek_is, choice_back}
 use Rattle.layout.specs.Layout.{word_count}
 use Rattle.layout.specs.Words.{sites_of}
 use Rattle.words.specs.Events.{Did, DidOwn, DidReady, DidInput, RunAsks, site_in, end_of}
@@ -145,18 +146,18 @@ module _ (c : List ℕ) (s i : ℕ) where
 
   module _ (d : List ℕ) (r : Ran) where
     -- what the rule made of the marked outputs is stored, and the rule is t
-    merged_done : (bs : List Bool) (w : InputTurn) (t : Turn Input (List Output)) → merged_turn bs x.outputs (input_back w) ≡ t
+    merged_done : (bs : List Bool) (w : Option InputTurn) (t : Turn Input (List Output)) → merged_turn bs x.outputs (input_back w) ≡ t
         → DidOwn c d s r (own_turn (set_both x i) (merged_turn bs x.outputs (input_back w))) → DidOwn c d s r (own_turn (set_both x i) t)
     merged_done bs w t e p n = subst (λ (t : Turn Input (List Output)). Did n c d s r (own_turn (set_both x i) t)) e (p n)
 
     -- a rule moves it
-    pub ready_done : (isReady : ℕ → Bool) (z : Input) (bs : List Bool) (w : InputTurn) → s < sites_most → z ≡ y → (state_number y.phase ≡ 1 → ⊥)
-        → bs ≡ touched z.phase z.outputs → w ≡ of_input_turn z (masked bs x.outputs) (other_turn z (masked bs x.outputs) isReady)
+    pub ready_done : (isReady : ℕ → Bool) (z : Input) (bs : List Bool) (w : Option InputTurn) → s < sites_most → z ≡ y → (state_number y.phase ≡ 1 → ⊥)
+        → bs ≡ touched z.phase z.outputs → w ≡ of_input_turn (other_turn z (masked bs x.outputs) isReady)
         → DidOwn c d s r (own_turn (set_both x i) (merged_turn bs x.outputs (input_back w))) → DidReady c d s r i isReady
     ready_done isReady z bs w hs ez ne eb e p n =
         let os = x.outputs in
         let own = eb ∙ ap (λ (u : Input). touched u.phase u.outputs) ez in
-        let rule = ap input_back e ∙ input_back_lem z (masked bs os) (other_turn z (masked bs os) isReady)
+        let rule = ap input_back e ∙ input_back_lem (other_turn z (masked bs os) isReady)
         ∙ ap (λ (u : Input). other_turn u (masked bs os) isReady) ez ∙ other_is y (masked bs os) isReady n s i ne in
         merged_done bs w (net_input n s i y os isReady)
         (ap (merged_turn bs os) rule
@@ -174,18 +175,18 @@ module _ (c : List ℕ) (s i : ℕ) where
         (p n)
 
     -- the router was asked
-    pub sought_done : (n : Network) (bs : List Bool) (w : InputTurn) → RunAsks n c s → length n.routes ≡ sites_most * sites_most
+    pub sought_done : (n : Network) (bs : List Bool) (w : Option InputTurn) → RunAsks n c s → length n.routes ≡ sites_most * sites_most
         → i < input_count → state_number y.phase ≡ 1
         → let ws = seen n.edition x.outputs in
-        w ≡ of_input_turn y ws (sought n y ws s i) → bs ≡ opening w.input
+        w ≡ of_input_turn (sought n y ws s i) → bs ≡ opening w
         → DidOwn c d s r (own_turn (set_both x i) (merged_turn bs x.outputs (input_back w))) → DidInput n c d s r i
     sought_done n bs w ok full h e f eb p =
         let os = x.outputs in
         let ws = seen n.edition os in
         let t = sought n y ws s i in
         merged_done bs w (net_input n s i y os (ready_in n (sites_of c) s))
-        (ap₂ (λ (b : List Bool) (u : InputTurn). merged_turn b os (input_back u)) (eb ∙ ap (λ (u : InputTurn). opening u.input) f) f
-        ∙ opening_turn y ws os t
+        (ap₂ (λ (b : List Bool) (u : Option InputTurn). merged_turn b os (input_back u)) (eb ∙ ap opening f) f
+        ∙ opening_turn os t
         ∙ sought_merged n.tries i y ws os (length_seen n.edition os) (outputs_of_lem c s (omega (arith, ok.site, ok.few)))
         (own_seen n.edition os) e (asked_by n.edition n.routes n.sites s ws y.set)
         ∙ ap (seek n.tries i y os)
@@ -193,10 +194,10 @@ module _ (c : List ℕ) (s i : ℕ) where
         ∙ sym (seek_is y os (ready_in n (sites_of c) s) n s i e)) p n
 
 -- what the loads and the router gave
-pub sought_by : (n : Network) (s i : ℕ) (z y : Input) (os ws : List Output) (ch : Choice) (w : InputTurn) → y ≡ z → os ≡ ws
-    → ch ≡ of_choice (asked_by n.edition n.routes n.sites s os y.set) → w ≡ seek_turn n.tries i y os ch → w ≡ of_input_turn z ws (sought n z ws s i)
+pub sought_by : (n : Network) (s i : ℕ) (z y : Input) (os ws : List Output) (ch : Option Choice) (w : Option InputTurn) → y ≡ z → os ≡ ws
+    → ch ≡ of_choice (asked_by n.edition n.routes n.sites s os y.set) → w ≡ seek_turn n.tries i y os ch → w ≡ of_input_turn (sought n z ws s i)
 sought_by n s i z y os ws ch w ey eo ec ew =
     ew
-    ∙ ap (λ (h : Choice). of_input_turn y os (seek n.tries i y os (to_choice h.served h.connection h.sets))) ec
-    ∙ ap (λ (h : ModelChoice). of_input_turn y os (seek n.tries i y os h)) (choice_back (asked_by n.edition n.routes n.sites s os y.set))
+    ∙ ap (λ (h : Option Choice). of_input_turn (seek n.tries i y os (to_choice h))) ec
+    ∙ ap (λ (h : ModelChoice). of_input_turn (seek n.tries i y os h)) (choice_back (asked_by n.edition n.routes n.sites s os y.set))
     ∙ rw (ey, eo) refl

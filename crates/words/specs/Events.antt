@@ -1,5 +1,5 @@
 -- RUN and SEND in place: what they ask of the words, what an arm of RUN decides, what the words are after it.
-use Rattle.std.specs.Prelude.{ℕ, suc, ◌+◌, ◌*◌, ◌<◌, ◌≤◌, ◌≡◌, List, [], ◌∷◌, Bool, true, cond, ◌&&◌, length, get_or}
+use Rattle.std.specs.Prelude.{ℕ, suc, ◌+◌, ◌*◌, ◌<◌, ◌≤◌, ◌≡◌, List, [], ◌∷◌, Bool, true, cond, ◌&&◌, length, get_or, Option, None, Some}
 use Rattle.base.specs.Sizes.{sites_most, port_count, input_count, split_port}
 use Rattle.sets.specs.Sets.{targets}
 use Rattle.types.specs.Numbers.{state_number}
@@ -89,21 +89,30 @@ end_of xs b = cond (is_channel b) (far_end xs b) no_input
 abbrev pub DidPass : List ℕ → List ℕ → ℕ → Ran → ℕ → ℕ → Turn Output Input → Type 0
 DidPass c d s r j b t = (n : Network) → channel n s (suc j) ≡ b → Did n c d s r (pass_turn (site_in c s) (suc j) t)
 
--- what a rule decided, read from the struct that its code returns
-abbrev pub local_back : LocalTurn → Turn Output InQueue
-local_back r = cond r.changed (To r.output r.queue) Stay
+-- what a rule decided, read from what its code returns
+abbrev pub local_back : Option LocalTurn → Turn Output InQueue
+local_back None = Stay
+local_back (Some r) = To r.output r.queue
 
-abbrev pub channel_back : ChannelTurn → Turn Output Input
-channel_back r = cond r.changed (To r.output r.input) Stay
+abbrev pub channel_back : Option ChannelTurn → Turn Output Input
+channel_back None = Stay
+channel_back (Some r) = To r.output r.input
 
-abbrev pub queue_back : QueueTurn → Turn OutQueue Input
-queue_back r = cond r.changed (To r.queue r.input) Stay
+abbrev pub queue_back : Option QueueTurn → Turn OutQueue Input
+queue_back None = Stay
+queue_back (Some r) = To r.queue r.input
 
-abbrev pub input_back : InputTurn → Turn Input (List Output)
-input_back r = cond r.changed (To r.input r.outputs) Stay
+abbrev pub input_back : Option InputTurn → Turn Input (List Output)
+input_back None = Stay
+input_back (Some r) = To r.input r.outputs
 
-abbrev pub work_back : OperatorTurn → Work
-work_back r = cond r.changed (cond r.serviced (Service r.incoming r.outgoing r.packet) (Cleared r.incoming r.outgoing)) Rest
+abbrev pub serviced_back : OperatorTurn → Option ℕ → Work
+serviced_back r None = Cleared r.incoming r.outgoing
+serviced_back r (Some q) = Service r.incoming r.outgoing q
+
+abbrev pub work_back : Option OperatorTurn → Work
+work_back None = Rest
+work_back (Some r) = serviced_back r r.serviced
 
 -- ---- codes 0 to 4
 

@@ -99,10 +99,9 @@ fn other_turn(
     marks: [bool; base::OUTPUTS],
     input: Input,
     ready: [bool; base::OUTPUTS],
-) -> InputTurn
+) -> Option<InputTurn>
     requires { s < sites_most }
-    ensures { result ≡ of_input_turn input (masked marks (site_in words.now s).outputs)
-        (other_turn input (masked marks (site_in words.now s).outputs) (mark ready)) }
+    ensures { result ≡ of_input_turn (other_turn input (masked marks (site_in words.now s).outputs) (mark ready)) }
 {
     let outputs = load_marked(words, s, marks);
     other_input(input, outputs, ready)
@@ -140,10 +139,9 @@ fn other_in_place(network: &Network, words: &mut [u64; WORDS], s: usize, i: usiz
 }
 
 // What the router's answer makes of net-input i in seek, from the outputs as the router sees them.
-fn seeking(network: &Network, words: &[u64; WORDS], s: usize, i: usize) -> InputTurn
+fn seeking(network: &Network, words: &[u64; WORDS], s: usize, i: usize) -> Option<InputTurn>
     requires { (s < sites_most) × (i < input_count) }
-    ensures turn { result ≡ of_input_turn (in_at (site_in words.now s) i) (seen network.now.edition (site_in words.now s).outputs)
-        (spec.sought network.now (in_at (site_in words.now s) i) (seen network.now.edition (site_in words.now s).outputs) s i) }
+    ensures turn { result ≡ of_input_turn (spec.sought network.now (in_at (site_in words.now s) i) (seen network.now.edition (site_in words.now s).outputs) s i) }
     ensures routes { length network.now.routes ≡ sites_most * sites_most }
 {
     let input = load_input(words, s, i);
@@ -167,7 +165,7 @@ fn seek_in_place(network: &Network, words: &mut [u64; WORDS], s: usize, i: usize
     ensures { spec.DidInput network.now words.old words.new s result i }
 {
     let turn = seeking(network, words, s, i);
-    let marks = opening(turn.input);
+    let marks = opening(turn);
     put_input(words, s, i, marks, turn)
 }
 

@@ -11,9 +11,9 @@ ghost use Rattle.words.specs.Marked as spec;
 use crate::load::{is_used, load_output};
 use crate::store::store_output;
 use layout::WORDS;
-use rules::empty_output;
+use rules::{InputTurn, empty_output};
 use std::array;
-use types::{Input, Output, Phase, Terminator};
+use types::{Output, Phase, Terminator};
 
 // Output j of site s if it is marked.
 fn load_if(words: &[u64; WORDS], s: usize, j: usize, marked: bool) -> Output
@@ -83,11 +83,14 @@ pub(crate) fn touched(phase: Phase, marks: [bool; base::OUTPUTS]) -> [bool; base
 }
 
 // Those that the router's answer takes.
-pub(crate) fn opening(input: Input) -> [bool; base::OUTPUTS]
-    ensures { result ≡ spec.opening input }
+pub(crate) fn opening(turn: Option<InputTurn>) -> [bool; base::OUTPUTS]
+    ensures { result ≡ spec.opening turn }
 {
-    match input.phase {
-        Phase::Open(_) => input.outputs,
+    let Some(turn) = turn else {
+        return [false; base::OUTPUTS];
+    };
+    match turn.input.phase {
+        Phase::Open(_) => turn.input.outputs,
         _ => [false; base::OUTPUTS],
     }
 }

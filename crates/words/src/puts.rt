@@ -14,18 +14,21 @@ use layout::WORDS;
 use rules::{ChannelTurn, InputTurn, LocalTurn, OperatorTurn, QueueTurn};
 use types::Ran;
 
-pub(crate) fn put_local(words: &mut [u64; WORDS], s: usize, q: usize, turn: LocalTurn) -> Ran
+pub(crate) fn put_local(
+    words: &mut [u64; WORDS],
+    s: usize,
+    q: usize,
+    turn: Option<LocalTurn>,
+) -> Ran
     requires { (s < sites_most) × (q < in_queue_count) }
     ensures { DidOwn words.old words.new s result
         (own_turn (λ o iq. set_out (set_queue (site_in words.old s) q iq) (queue_port q) o) (spec.local_back turn)) }
 {
-    let queue = turn.queue;
-    let output = turn.output;
-    if turn.changed {
-        store_local(words, s, q, queue, output);
-        return Ran::Changed;
-    }
-    Ran::Nothing
+    let Some(turn) = turn else {
+        return Ran::Nothing;
+    };
+    store_local(words, s, q, turn.queue, turn.output);
+    Ran::Changed
 }
 
 pub(crate) fn put_channel(
@@ -33,49 +36,47 @@ pub(crate) fn put_channel(
     s: usize,
     j: usize,
     channel: u16,
-    turn: ChannelTurn,
+    turn: Option<ChannelTurn>,
 ) -> Ran
     requires { (s < sites_most) × (j < port_count) × (channel < end_count) }
     ensures { spec.DidPass words.old words.new s result j channel (spec.channel_back turn) }
 {
-    let output = turn.output;
-    let input = turn.input;
-    if turn.changed {
-        store_passed(words, s, j, output, channel, input);
-        return Ran::Changed;
-    }
-    Ran::Nothing
+    let Some(turn) = turn else {
+        return Ran::Nothing;
+    };
+    store_passed(words, s, j, turn.output, channel, turn.input);
+    Ran::Changed
 }
 
-pub(crate) fn put_queue(words: &mut [u64; WORDS], s: usize, turn: QueueTurn) -> Ran
+pub(crate) fn put_queue(words: &mut [u64; WORDS], s: usize, turn: Option<QueueTurn>) -> Ran
     requires { s < sites_most }
     ensures { DidOwn words.old words.new s result
         (own_turn (λ oq y. set_in (with_out_queue (site_in words.old s) oq) 0 y) (spec.queue_back turn)) }
 {
-    let queue = turn.queue;
-    let input = turn.input;
-    if turn.changed {
-        store_leaving(words, s, queue, input);
-        return Ran::Changed;
-    }
-    Ran::Nothing
+    let Some(turn) = turn else {
+        return Ran::Nothing;
+    };
+    store_leaving(words, s, turn.queue, turn.input);
+    Ran::Changed
 }
 
-pub(crate) fn put_work(words: &mut [u64; WORDS], s: usize, q: usize, turn: OperatorTurn) -> Ran
+pub(crate) fn put_work(
+    words: &mut [u64; WORDS],
+    s: usize,
+    q: usize,
+    turn: Option<OperatorTurn>,
+) -> Ran
     requires { (s < sites_most) × (q < in_queue_count) }
     ensures { DidOwn words.old words.new s result (work_done (site_in words.old s) q (spec.work_back turn)) }
 {
-    let incoming = turn.incoming;
-    let outgoing = turn.outgoing;
-    let packet = turn.packet;
-    if turn.changed {
-        store_queues(words, s, q, incoming, outgoing);
-        if turn.serviced {
-            return Ran::Serviced(packet, s as u8);
-        }
-        return Ran::Changed;
+    let Some(turn) = turn else {
+        return Ran::Nothing;
+    };
+    store_queues(words, s, q, turn.incoming, turn.outgoing);
+    match turn.serviced {
+        Some(packet) => Ran::Serviced(packet, s as u8),
+        None => Ran::Changed,
     }
-    Ran::Nothing
 }
 
 // The marked outputs and net-input i.
@@ -84,18 +85,16 @@ pub(crate) fn put_input(
     s: usize,
     i: usize,
     marks: [bool; base::OUTPUTS],
-    turn: InputTurn,
+    turn: Option<InputTurn>,
 ) -> Ran
     requires { (s < sites_most) × (i < input_count) }
     ensures { DidOwn words.old words.new s result
         (own_turn (set_both (site_in words.old s) i)
         (merged_turn marks (site_in words.old s).outputs (spec.input_back turn))) }
 {
-    let outputs = turn.outputs;
-    let input = turn.input;
-    if turn.changed {
-        store_both(words, s, i, marks, outputs, input);
-        return Ran::Changed;
-    }
-    Ran::Nothing
+    let Some(turn) = turn else {
+        return Ran::Nothing;
+    };
+    store_both(words, s, i, marks, turn.outputs, turn.input);
+    Ran::Changed
 }

@@ -20,10 +20,14 @@ use rules::{
 use types::Input;
 
 // The output that fills in-queue q.
-pub(crate) fn local_turn(depth: usize, words: &[u64; WORDS], s: usize, q: usize) -> LocalTurn
+pub(crate) fn local_turn(
+    depth: usize,
+    words: &[u64; WORDS],
+    s: usize,
+    q: usize,
+) -> Option<LocalTurn>
     requires { (s < sites_most) × (q < in_queue_count) }
-    ensures { result ≡ of_local_turn (out_at (site_in words.now s) (queue_port q)) (queue_at (site_in words.now s) q)
-        (places.local_output depth (out_at (site_in words.now s) (queue_port q))
+    ensures { result ≡ of_local_turn (places.local_output depth (out_at (site_in words.now s) (queue_port q))
         (queue_at (site_in words.now s) q)) }
 {
     let output = load_output(words, s, base::SPLIT_PORT * q);
@@ -38,10 +42,9 @@ pub(crate) fn channel_turn(
     s: usize,
     j: usize,
     channel: u16,
-) -> ChannelTurn
+) -> Option<ChannelTurn>
     requires { (s < sites_most) × (j < port_count) × (channel < end_count) }
-    ensures { result ≡ of_channel_turn (out_at (site_in words.now s) (suc j)) (far_end (sites_of words.now) channel)
-        (places.channel_output edition true (out_at (site_in words.now s) (suc j))
+    ensures { result ≡ of_channel_turn (places.channel_output edition true (out_at (site_in words.now s) (suc j))
         (far_end (sites_of words.now) channel)) }
 {
     let b = base::wider(channel);
@@ -50,10 +53,9 @@ pub(crate) fn channel_turn(
     channel_output(edition, true, output, input)
 }
 
-pub(crate) fn queue_turn(words: &[u64; WORDS], s: usize) -> QueueTurn
+pub(crate) fn queue_turn(words: &[u64; WORDS], s: usize) -> Option<QueueTurn>
     requires { s < sites_most }
-    ensures { result ≡ of_queue_turn (site_in words.now s).outgoing (in_at (site_in words.now s) 0)
-        (places.out_queue (site_in words.now s).outgoing (in_at (site_in words.now s) 0)) }
+    ensures { result ≡ of_queue_turn (places.out_queue (site_in words.now s).outgoing (in_at (site_in words.now s) 0)) }
 {
     let queue = load_out_queue(words, s);
     let input = load_input(words, s, 0);
@@ -61,10 +63,14 @@ pub(crate) fn queue_turn(words: &[u64; WORDS], s: usize) -> QueueTurn
 }
 
 // The operator at in-queue q.
-pub(crate) fn operator_turn(depth: usize, words: &[u64; WORDS], s: usize, q: usize) -> OperatorTurn
+pub(crate) fn operator_turn(
+    depth: usize,
+    words: &[u64; WORDS],
+    s: usize,
+    q: usize,
+) -> Option<OperatorTurn>
     requires { (s < sites_most) × (q < in_queue_count) }
-    ensures { result ≡ of_work (queue_at (site_in words.now s) q) (site_in words.now s).outgoing
-        (places.operator depth s (queue_at (site_in words.now s) q) (site_in words.now s).outgoing) }
+    ensures { result ≡ of_work (places.operator depth s (queue_at (site_in words.now s) q) (site_in words.now s).outgoing) }
 {
     let incoming = load_in_queue(words, s, q);
     let outgoing = load_out_queue(words, s);
@@ -78,10 +84,9 @@ pub(crate) fn timeout_turn(
     s: usize,
     marks: [bool; base::OUTPUTS],
     input: Input,
-) -> InputTurn
+) -> Option<InputTurn>
     requires { s < sites_most }
-    ensures { result ≡ of_input_turn input (masked marks (site_in words.now s).outputs)
-        (places.timeout edition (queue_at (site_in words.now s) 0)
+    ensures { result ≡ of_input_turn (places.timeout edition (queue_at (site_in words.now s) 0)
         (masked marks (site_in words.now s).outputs) input) }
 {
     let queue = load_in_queue(words, s, 0);

@@ -15,17 +15,17 @@ run_checked-requires c =
     let a = c.args in
     let passed = sym c.event_refusal-refusal.ensures ∙ c.if-refusal-ne0.false in
     let p = not_refused a.network a.state 0 passed in
-    (p.0, p.1, ltb-true _ _ (both _ _ c.if-site-sites.true).0)
+    (p.0, p.1, ltb-true _ _ (both _ _ c.if-site-network.true).0)
 
-pub returns-then-site-sites : goal.returns-then-site-sites
-returns-then-site-sites c =
+pub returns-then-site-network : goal.returns-then-site-network
+returns-then-site-network c =
     let a = c.args in
     let passed = sym c.event_refusal-refusal.ensures ∙ c.if-refusal-ne0.false in
-    let there = rw c.codes_in-codes.ensures at c.if-site-sites.true in
+    let there = rw c.codes_in.ensures at c.if-site-network.true in
     c.run_checked.ensures ∙ run_passes_on a.network a.state a.site a.code passed there
 
 pub returns : goal.returns
 returns c =
     let a = c.args in
     let passed = sym c.event_refusal-refusal.ensures ∙ c.if-refusal-ne0.false in
-    run_none a.network a.state a.site a.code passed (rw c.codes_in-codes.ensures at c.if-site-sites.false)
+    run_none a.network a.state a.site a.code passed (rw c.codes_in.ensures at c.if-site-network.false)

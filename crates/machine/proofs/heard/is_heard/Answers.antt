@@ -13,4 +13,4 @@ returns c =
     let j = c.args.j in
     let own = ne_eqb (j + 1) 0 (λ e. omega arith) in
     let split = ne_eqb (j + 1) split_port (λ e. omega arith) in
-    rw (c.is_taken-taken.ensures, c.is_listening-open.ensures, ← add-one j, own, split) refl
+    rw (c.is_taken.ensures, c.is_listening.ensures, ← add-one j, own, split) refl

@@ -1,32 +1,16 @@
 use mathlib.Core.Path.{◌≡◌, ◌∙◌}
-use Rattle.base.specs.Sizes.{queue_room}
-use Rattle.model.specs.Types.{no_in_entry}
-use Rattle.model.specs.Owing.{pairs_in_entry}
-use Rattle.machine.proofs.OwingSums.{none_yet, one_more, one_queue}
 use native.Mathlib.Omega.{arith}
 use lib.ListN.{length}
 use borrow.Author.Rules.{rules}
+use Rattle.std.proofs.lemmas.List.{length-take}
+use Rattle.base.specs.Sizes.{queue_room}
+use Rattle.model.specs.Owing.{pairs_in_entry}
+use Rattle.machine.proofs.OwingSums.{first_entries}
 use Rattle.machine.proofs.owing.in_queue_pairs.Goals as goal
-
-pub loop-m-init : goal.loop-m-init
-loop-m-init c = (omega arith, omega arith, none_yet _)
-
-pub bounds-arrived-m : goal.bounds-arrived-m
-bounds-arrived-m c = let e : length c.args.arrived ≡ queue_room = search rules in omega arith
-
-pub overflow_add-n : goal.overflow_add-n
-overflow_add-n c = omega (arith, c.entry_pairs-n.ensures.1)
-
-pub loop-m-preserved : goal.loop-m-preserved
-loop-m-preserved c =
-    let l = c.loop-m in
-    let one = c.entry_pairs-n.ensures in
-    (omega arith, omega (arith, one.1), one_more _ l.m _ _ l.invariant.2 one.0)
 
 pub returns : goal.returns
 returns c =
-    let l = c.loop-m in
-    let a = c.args in
-    let few : length a.arrived ≡ queue_room = search rules in
-    let e : l.m ≡ queue_room = omega arith in
-    (l.invariant.2 ∙ one_queue (pairs_in_entry a.s) a.arrived no_in_entry a.came l.m (omega arith), omega arith)
+    let q = c.args.queue in
+    let n : length q.entries ≡ queue_room = search rules in
+    let w = rw c.min.ensures at c.places_pairs.ensures in
+    (w.0 ∙ first_entries (pairs_in_entry c.args.s) q.entries q.count queue_room n, omega (arith, w.1, length-take c.min.result q.entries))

@@ -5,7 +5,7 @@ use Rattle.machine.specs.Progress.{capped_below}
 use Rattle.machine.proofs.ProgressLaws.{stored_sends}
 use Rattle.machine.proofs.PlayerTurns.{begun, known, total_most, set_most, next_most, accepted_most, pairs_most, network_valid}
 use Rattle.machine.proofs.PlayerTurns.{network_ok, state_in_range, named_below, sent_on, drawn_on, ended}
-use Rattle.machine.proofs.Single.{change_storable, run_done, looked_change}
+use Rattle.machine.proofs.Single.{act_storable, run_done, looked_act}
 use Rattle.machine.proofs.player.play_run.Goals as goal
 
 pub overflow_add-total : goal.overflow_add-total
@@ -61,17 +61,17 @@ loop-turn-preserved-then-is_due c =
     c.is_due.ensures c.if-is_due.true c.wide.ensures.0
     c.try_send-after.ensures c.in-Accepted.is)
 
-pub change_of-looked-requires : goal.change_of-looked-requires
-change_of-looked-requires c =
+pub act_of-looked-requires : goal.act_of-looked-requires
+act_of-looked-requires c =
     let at = c.loop-turn.invariant in
     (network_ok at, state_in_range at, named_below at c.ticked-clock.result.value c.event_of-named.ensures)
 
-pub store_change-state-requires : goal.store_change-state-requires
-store_change-state-requires c =
+pub store_act-state-requires : goal.store_act-state-requires
+store_act-state-requires c =
     let n = c.args.network in
     let e = c.event_of-named in
-    let own = change_storable n (network_ok c.loop-turn.invariant) c.loop-turn.state.sites e.result.site e.result.code
-    (named_below c.loop-turn.invariant c.ticked-clock.result.value e.ensures) (looked_change c.change_of-looked.ensures) in
+    let own = act_storable n (network_ok c.loop-turn.invariant) c.loop-turn.state.sites e.result.site e.result.code
+    (named_below c.loop-turn.invariant c.ticked-clock.result.value e.ensures) (looked_act c.act_of-looked.ensures) in
     record { site = own.0; passable = own.1 }
 
 pub answer_to-answer-requires : goal.answer_to-answer-requires
@@ -87,8 +87,8 @@ pub loop-turn-preserved : goal.loop-turn-preserved
 loop-turn-preserved c =
     let n = c.args.network in
     let named = c.event_of-named in
-    let ran = run_done n c.loop-turn.state named.result.site named.result.code (looked_change c.change_of-looked.ensures)
-    c.answer_to-answer.ensures c.store_change-state.ensures refl in
+    let ran = run_done n c.loop-turn.state named.result.site named.result.code (looked_act c.act_of-looked.ensures)
+    c.answer_to-answer.ensures c.store_act-state.ensures refl in
     drawn_on c.loop-turn.invariant c.loop-turn-test.true c.capped-place.ensures
     c.is_due.ensures c.if-is_due.false c.ticked-clock.ensures named.ensures ran
     c.enter_answer-serviced.ensures.0 c.enter_answer-serviced.ensures.1

@@ -1,36 +1,26 @@
+use mathlib.Core.Path.{sym, ap, ◌∙◌}
+use Rattle.types.specs.declared.Network.{Network}
 use Rattle.rules.proofs.Asked.{asked}
-use Rattle.rules.proofs.Blocked.{answer_served, answer_blocked, answer_none}
+use Rattle.rules.proofs.Blocked.{answer_found, answer_blocked}
 use Rattle.rules.proofs.blocking.ask_in.Goals as goal
 
-pub choose-found-requires : goal.choose-found-requires
-choose-found-requires c =
+pub choose-requires : goal.choose-requires
+choose-requires c =
     let a = c.args in
-    let own = asked a.routes.now a.sites a.s a.set (rw c.is_targets-targets.ensures at c.if-s-sites.true) in
-    record { routed = own.0; targets = own.1 }
+    let w = c.in-Some.ensures in
+    rw (ap (λ (n : Network). n.sites) w.1) (asked a.routes.now a.sites a.s a.set w.0).1
 
-pub returns-then-found : goal.returns-then-found
-returns-then-found c =
+pub returns-in-Some-choose : goal.returns-in-Some-choose
+returns-in-Some-choose c =
     let a = c.args in
-    let h = rw c.is_targets-targets.ensures at c.if-s-sites.true in
-    answer_served a.edition a.routes.now a.sites a.s a.outputs a.set h c.choose-found.result
-    c.choose-found.ensures c.if-found.true
+    let w = c.in-Some.ensures in
+    let e = rw (w.1, w.2) at c.choose.ensures in
+    answer_found a.edition a.routes.now a.sites a.s a.outputs a.set w.0 c.in-Some-choose.choice (sym e ∙ c.in-Some-choose.is)
 
-pub ways_of-blocking-requires : goal.ways_of-blocking-requires
-ways_of-blocking-requires c =
+pub returns-in-None : goal.returns-in-None
+returns-in-None c =
     let a = c.args in
-    let own = asked a.routes.now a.sites a.s a.set (rw c.is_targets-targets.ensures at c.if-s-sites.true) in
-    record { routed = own.0; targets = own.1 }
-
-pub returns-then-s-sites : goal.returns-then-s-sites
-returns-then-s-sites c =
-    let a = c.args in
-    let h = rw c.is_targets-targets.ensures at c.if-s-sites.true in
-    let w = c.choose-found in
-    answer_blocked a.edition a.routes.now a.sites a.s a.outputs a.set h w.result w.ensures
-    c.if-found.false c.ways_of-blocking.result c.ways_of-blocking.ensures
-
-pub returns : goal.returns
-returns c =
-    let a = c.args in
-    let h = rw c.is_targets-targets.ensures at c.if-s-sites.false in
-    rw c.unserved.ensures (answer_none a.edition a.routes.now a.sites a.s a.outputs a.set h)
+    let w = c.in-Some.ensures in
+    let e = rw (w.1, w.2) at c.choose.ensures in
+    answer_blocked a.edition a.routes.now a.sites a.s a.outputs a.set w.0 (sym e ∙ c.in-None.is) c.ways_of.result
+    (rw (w.1, w.2) at c.ways_of.ensures)

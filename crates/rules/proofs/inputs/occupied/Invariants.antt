@@ -1,13 +1,6 @@
-use mathlib.Core.Path.{◌≡◌}
-use Prim.Native.Nat.{◌-◌, ◌≤◌}
-use lib.ListN.{length}
-use Rattle.base.specs.Sizes.{output_count}
-use Rattle.base.specs.Over.{over}
 use Rattle.rules.specs.Turns.{taken_at}
+use Rattle.rules.proofs.Filled.{Filled}
 use Rattle.rules.proofs.inputs.occupied.Given as goal
 
 abbrev pub invariant-loop-j : goal.invariant-loop-j
-invariant-loop-j l = (l.j ≤ output_count) × (length l.next ≡ output_count) × (l.next ≡ over (taken_at l.packet l.i l.sets l.outputs) l.j l.outputs)
-
-abbrev pub decreases-loop-j : goal.decreases-loop-j
-decreases-loop-j l = output_count - l.j
+invariant-loop-j l = Filled (taken_at l.packet l.i l.fn.sets l.fn.outputs) l.fn.outputs l.j l.next

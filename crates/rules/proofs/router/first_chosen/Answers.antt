@@ -1,36 +1,16 @@
 use mathlib.Core.Path.{refl}
-use borrow.Author.Tests.{eq-eqb, ne_eqb}
-use Rattle.model.specs.Router.{first_port}
+use mathlib.Core.List.{[], ◌∷◌}
+use native.Mathlib.Omega.{arith}
+use Rattle.std.proofs.Common.{rules, tests}
+use Rattle.std.proofs.lemmas.Iterator.{YieldsList-from_range}
+use Rattle.std.proofs.lemmas.Iterator.Search.{find_from_yields_List}
+use Rattle.model.specs.Router.{is_chosen}
+use Rattle.rules.proofs.Found.{found_first, same_found}
 use Rattle.rules.proofs.router.first_chosen.Goals as goal
 
-pub returns-then-sets-ne0 : goal.returns-then-sets-ne0
-unfolding first_port
-returns-then-sets-ne0 c = rw (ne_eqb _ 0 c.if-sets-ne0.true) refl
-
-pub returns-then-sets-ne0-2 : goal.returns-then-sets-ne0-2
-unfolding first_port
-returns-then-sets-ne0-2 c = rw (eq-eqb _ 0 c.if-sets-ne0.false, ne_eqb _ 0 c.if-sets-ne0-2.true) refl
-
-pub returns-then-sets-ne0-3 : goal.returns-then-sets-ne0-3
-unfolding first_port
-returns-then-sets-ne0-3 c = rw (eq-eqb _ 0 c.if-sets-ne0.false, eq-eqb _ 0 c.if-sets-ne0-2.false, ne_eqb _ 0 c.if-sets-ne0-3.true) refl
-
-pub returns-then-sets-ne0-4 : goal.returns-then-sets-ne0-4
-unfolding first_port
-returns-then-sets-ne0-4 c =
-    rw (
-      eq-eqb _ 0 c.if-sets-ne0.false,
-      eq-eqb _ 0 c.if-sets-ne0-2.false,
-      eq-eqb _ 0 c.if-sets-ne0-3.false,
-      ne_eqb _ 0 c.if-sets-ne0-4.true,
-    ) refl
-
 pub returns : goal.returns
-unfolding first_port
 returns c =
-    rw (
-      eq-eqb _ 0 c.if-sets-ne0.false,
-      eq-eqb _ 0 c.if-sets-ne0-2.false,
-      eq-eqb _ 0 c.if-sets-ne0-3.false,
-      eq-eqb _ 0 c.if-sets-ne0-4.false,
-    ) refl
+    let ok = is_chosen c.args.sets in
+    let e = same_found _ (find_from_yields_List ok _ _ c.find.result c.find.ensures.ran (YieldsList-from_range 1 5 4 refl (omega arith))
+    (λ x b q k. search (rules, tests))) in
+    rw (c.unwrap_or.ensures, e) (found_first ok (1 ∷ 2 ∷ 3 ∷ 4 ∷ []))
