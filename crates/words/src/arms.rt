@@ -24,9 +24,7 @@ fn is_at_rest(words: &[u64; WORDS], s: usize, j: usize) -> bool
     requires { (s < sites_most) × (j < output_count) }
     ensures { result ≡ at_rest (out_at (site_in words.now s) j) }
 {
-    let used = is_used(words, s, j);
-    let stalled = is_stalled(words, s, j);
-    !used | stalled
+    !is_used(words, s, j) | is_stalled(words, s, j)
 }
 
 // Codes 5 and 13: the net-output that fills in-queue q, output 0 or the split output.
@@ -54,10 +52,7 @@ pub(crate) fn channel_in_place(
         (channel_output edition (is_channel channel) (out_at (site_in words.old s) (suc j))
         (spec.end_of (sites_of words.old) channel)) }
 {
-    if is_at_rest(words, s, j + 1) {
-        return Ran::Nothing;
-    }
-    if channel == base::NO_CHANNEL {
+    if is_at_rest(words, s, j + 1) || channel == base::NO_CHANNEL {
         return Ran::Nothing;
     }
     let turn = channel_turn(edition, words, s, j, channel);
@@ -81,9 +76,7 @@ pub(crate) fn operator_in_place(depth: usize, words: &mut [u64; WORDS], s: usize
     requires { (s < sites_most) × (q < in_queue_count) }
     ensures { DidOwn words.old words.new s result (operator_act depth s (site_in words.old s) q) }
 {
-    let n = in_count(words, s, q);
-    let lacks = front_lacks(words, s, q);
-    if (n == 0) | lacks {
+    if (in_count(words, s, q) == 0) | front_lacks(words, s, q) {
         return Ran::Nothing;
     }
     let turn = operator_turn(depth, words, s, q);
@@ -95,20 +88,15 @@ pub(crate) fn timeout_in_place(edition: u8, words: &mut [u64; WORDS], s: usize) 
     requires { (s < sites_most) × ((out_at (site_in words.old s) 0).input < input_count) }
     ensures { DidOwn words.old words.new s result (timeout_act edition (site_in words.old s)) }
 {
-    if draws::is_restricted(edition) {
+    if draws::is_restricted(edition) || !is_stalled(words, s, 0) {
         return Ran::Nothing;
     }
-    if is_stalled(words, s, 0) {
-        let i = feeder_of(words, s);
-        let input = load_input(words, s, i);
-        let phase = input.phase;
-        if can_cut(phase) {
-            let connected = input.outputs;
-            let marks = cutting(connected);
-            let turn = timeout_turn(edition, words, s, marks, input);
-            return put_input(words, s, i, marks, turn);
-        }
+    let i = feeder_of(words, s);
+    let input = load_input(words, s, i);
+    if !can_cut(input.phase) {
         return Ran::Nothing;
     }
-    Ran::Nothing
+    let marks = cutting(input.outputs);
+    let turn = timeout_turn(edition, words, s, marks, input);
+    put_input(words, s, i, marks, turn)
 }

@@ -13,11 +13,11 @@ ghost use Rattle.words.specs.Events as spec;
 ghost use Rattle.words.specs.Events.{RunAsks, site_in, end_of};
 ghost use Rattle.words.specs.Marked.{masked, seen};
 
-use crate::load::{is_taken, load_input, state_of};
+use crate::load::{is_taken, load_input, phase_of};
 use crate::marked::{load_marked, load_seen, opening, touched};
 use crate::puts::put_input;
 use layout::WORDS;
-use rules::{InputTurn, all_ready, other_input, route_in, seek_turn};
+use rules::{InputTurn, all_ready, is_listening, other_input, route_in, seek_turn};
 use types::{Input, Network, Phase, Ran};
 
 // Whether the input at the end of a channel is open or abort; not where there is no channel.
@@ -29,8 +29,7 @@ fn is_heard(words: &[u64; WORDS], channel: u16) -> bool
         return false;
     }
     let b = base::wider(channel);
-    let number = state_of(words, b / base::PORTS, b % base::PORTS + 1);
-    matches!(number, 2 | 6)
+    is_listening(phase_of(words, b / base::PORTS, b % base::PORTS + 1))
 }
 
 // Whether output j + 1 is marked and ready; a branch by the mark would cost more than the look at it.
@@ -169,15 +168,19 @@ fn seek_in_place(network: &Network, words: &mut [u64; WORDS], s: usize, i: usize
     put_input(words, s, i, marks, turn)
 }
 
-// Codes 0 to 4: net-input i, by its state number.
+// Codes 0 to 4: net-input i, by its state.
 pub(crate) fn input_in_place(network: &Network, words: &mut [u64; WORDS], s: usize, i: usize) -> Ran
     requires place { i < input_count }
     requires asks { RunAsks network.now words.old s }
     ensures { spec.DidInput network.now words.old words.new s result i }
 {
-    match state_of(words, s, i) {
-        0 | 6 => Ran::Nothing,
-        1 => seek_in_place(network, words, s, i),
-        _ => other_in_place(network, words, s, i),
+    match phase_of(words, s, i) {
+        Phase::Free | Phase::Abort(_) => Ran::Nothing,
+        Phase::Seek => seek_in_place(network, words, s, i),
+        Phase::Open(_)
+        | Phase::Wait(_)
+        | Phase::Done(_, _)
+        | Phase::Last(_, _)
+        | Phase::FinAbort(_, _) => other_in_place(network, words, s, i),
     }
 }

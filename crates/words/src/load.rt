@@ -1,19 +1,18 @@
 // Places read from the words of a state, and what is cheap to see of a place before it is read.
 ghost use Rattle.std.specs.Prelude.{◌≡◌, ◌&&◌, ◌<◌};
 ghost use Rattle.base.specs.Sizes.{sites_most, input_count, output_count, in_queue_count, queue_room};
-ghost use Rattle.types.specs.Numbers.{state_number};
 ghost use Rattle.types.specs.Phases.{is_none};
 ghost use Rattle.model.specs.Types.{site_at, in_at, out_at, queue_at, in_entry, carries};
 ghost use Rattle.model.specs.Places.{stalled};
 ghost use Rattle.layout.specs.Layout.{site_places};
 ghost use Rattle.layout.specs.Words as spec;
 
-use crate::pack::{in_entry_from, input_from, out_entry_from, output_from};
+use crate::pack::{in_entry_from, input_from, out_entry_from, output_from, phase_from};
 use layout::{
     ARRIVED_FROM, COUNTER_AT, COUNTS_FROM, LEAVING_FROM, OUTPUTS_FROM, SITE_PLACES, WORDS,
 };
 use std::array;
-use types::{InEntry, InQueue, Input, OutEntry, OutQueue, Output, Site};
+use types::{InEntry, InQueue, Input, OutEntry, OutQueue, Output, Phase, Site};
 
 // The two words of place k of site s.
 pub(crate) fn set_at(words: &[u64; WORDS], s: usize, k: usize) -> u64
@@ -151,12 +150,12 @@ pub(crate) fn load_counter(words: &[u64; WORDS]) -> u8
 
 // ---- what is seen of a place by its packed word alone
 
-// The state number of net-input i.
-pub(crate) fn state_of(words: &[u64; WORDS], s: usize, i: usize) -> u64
+// The state of net-input i.
+pub(crate) fn phase_of(words: &[u64; WORDS], s: usize, i: usize) -> Phase
     requires { (s < sites_most) × (i < input_count) }
-    ensures { result ≡ state_number (in_at (site_at (spec.sites_of words.now) s) i).phase }
+    ensures { result ≡ (in_at (site_at (spec.sites_of words.now) s) i).phase }
 {
-    fields_at(words, s, i) % 8
+    phase_from(fields_at(words, s, i))
 }
 
 // Whether net-output j is in use, not closing, with its head taken.

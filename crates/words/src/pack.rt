@@ -1,5 +1,5 @@
 // A place as two words, its set and its small fields packed, and back. Takes any place and any words.
-ghost use Rattle.std.specs.Prelude.{◌≡◌, ◌<◌, length};
+ghost use Rattle.std.specs.Prelude.{◌≡◌, ◌/◌, ◌%◌, ◌<◌, length};
 ghost use Rattle.base.specs.Sizes.{output_count};
 ghost use Rattle.types.specs.Numbers.{connection_of};
 ghost use Rattle.layout.specs.Packed as spec;
@@ -79,13 +79,20 @@ fn received_of(phase: Phase) -> u8
     }
 }
 
+// The state of a net-input by its packed word.
+pub(crate) fn phase_from(w: u64) -> Phase
+    ensures { result ≡ spec.phase_at (w % 8) (spec.connection_at (w / 8 % 8)) (spec.received_at (w / 64 % 4)) }
+{
+    phase_at(w % 8, connection_at(w / 8 % 8), received_at(w / 64 % 4))
+}
+
 #[tactic(auto, unfolding(layout::specs::Packed::input_from))]
 pub(crate) fn input_from(set: u64, w: u64) -> Input
     ensures { result ≡ spec.input_from set w }
 {
     Input {
         set,
-        phase: phase_at(w % 8, connection_at(w / 8 % 8), received_at(w / 64 % 4)),
+        phase: phase_from(w),
         outputs: [
             w / 256 % 2 == 1,
             w / 512 % 2 == 1,
