@@ -1,5 +1,6 @@
 -- What RUN decides and what its code has stored. Assumes what each law names.
 use mathlib.Core.Path.{◌≡◌, refl, sym, ap, ap₂, subst, ◌∙◌}
+use Rattle.std.specs.Prelude.{Option}
 use mathlib.Core.List.{List}
 use mathlib.Core.Bool.{Bool, true, false, cond, not, ◌&&◌, ◌||◌, or-true}
 use Prim.Native.Nat.{ℕ, suc, ◌+◌, ◌<◌}
@@ -79,28 +80,28 @@ pub pass_none : (edition : ℕ) (o : Output) (y : Input) (b : ℕ) → is_channe
     → channel_output edition (is_channel b) o y ≡ Stay
 pass_none edition o y b e = rw e (unjoined edition o y)
 
--- ---- what a rule's struct says is what the rule decided
+-- ---- what a rule's code returns says what the rule decided
 
-pub local_back_lem : (o : Output) (q : InQueue) (t : Turn Output InQueue) → local_back (of_local_turn o q t) ≡ t
-local_back_lem o q Stay = refl
-local_back_lem o q (To p r) = refl
+pub local_back_lem : (t : Turn Output InQueue) → local_back (of_local_turn t) ≡ t
+local_back_lem Stay = refl
+local_back_lem (To p r) = refl
 
-pub channel_back_lem : (o : Output) (y : Input) (t : Turn Output Input) → channel_back (of_channel_turn o y t) ≡ t
-channel_back_lem o y Stay = refl
-channel_back_lem o y (To p z) = refl
+pub channel_back_lem : (t : Turn Output Input) → channel_back (of_channel_turn t) ≡ t
+channel_back_lem Stay = refl
+channel_back_lem (To p z) = refl
 
-pub queue_back_lem : (q : OutQueue) (y : Input) (t : Turn OutQueue Input) → queue_back (of_queue_turn q y t) ≡ t
-queue_back_lem q y Stay = refl
-queue_back_lem q y (To r z) = refl
+pub queue_back_lem : (t : Turn OutQueue Input) → queue_back (of_queue_turn t) ≡ t
+queue_back_lem Stay = refl
+queue_back_lem (To r z) = refl
 
-pub input_back_lem : (y : Input) (os : List Output) (t : Turn Input (List Output)) → input_back (of_input_turn y os t) ≡ t
-input_back_lem y os Stay = refl
-input_back_lem y os (To z ps) = refl
+pub input_back_lem : (t : Turn Input (List Output)) → input_back (of_input_turn t) ≡ t
+input_back_lem Stay = refl
+input_back_lem (To z ps) = refl
 
-pub work_back_lem : (a : InQueue) (b : OutQueue) (t : Work) → work_back (of_work a b t) ≡ t
-work_back_lem a b Rest = refl
-work_back_lem a b (Cleared c d) = refl
-work_back_lem a b (Service c d q) = refl
+pub work_back_lem : (t : Work) → work_back (of_work t) ≡ t
+work_back_lem Rest = refl
+work_back_lem (Cleared c d) = refl
+work_back_lem (Service c d q) = refl
 
 -- ---- an act by what is stored
 
@@ -124,49 +125,49 @@ module _ (c d : List ℕ) (s : ℕ) (r : Ran) where
   abbrev x : Site
   x = site_in c s
 
-  pub local_done : (D q : ℕ) (w : LocalTurn)
+  pub local_done : (D q : ℕ) (w : Option LocalTurn)
       → let o = out_at x (queue_port q) in
-      w ≡ of_local_turn o (queue_at x q) (local_output D o (queue_at x q))
+      w ≡ of_local_turn (local_output D o (queue_at x q))
       → DidOwn c d s r (own_turn (λ o iq. set_out (set_queue x q iq) (queue_port q) o) (local_back w)) → DidOwn c d s r (local_act D x q)
   local_done D q w e p n =
       let o = out_at x (queue_port q) in
       subst (λ (t : Turn Output InQueue). Did n c d s r (own_turn (λ o iq. set_out (set_queue x q iq) (queue_port q) o) t))
-      (ap local_back e ∙ local_back_lem o (queue_at x q) (local_output D o (queue_at x q))) (p n)
+      (ap local_back e ∙ local_back_lem (local_output D o (queue_at x q))) (p n)
 
-  pub channel_done : (edition j b : ℕ) (there : is_channel b ≡ true) (w : ChannelTurn)
+  pub channel_done : (edition j b : ℕ) (there : is_channel b ≡ true) (w : Option ChannelTurn)
       → let o = out_at x (suc j) in
       let y = far_end (sites_of c) b in
-      w ≡ of_channel_turn o y (channel_output edition true o y)
+      w ≡ of_channel_turn (channel_output edition true o y)
       → DidPass c d s r j b (channel_back w) → DidPass c d s r j b (channel_output edition (is_channel b) o (end_of (sites_of c) b))
   channel_done edition j b there w e p n f =
       let o = out_at x (suc j) in
       let y = far_end (sites_of c) b in
       rw there
       (subst (λ (t : Turn Output Input). Did n c d s r (pass_turn x (suc j) t))
-      (ap channel_back e ∙ channel_back_lem o y (channel_output edition true o y)) (p n f))
+      (ap channel_back e ∙ channel_back_lem (channel_output edition true o y)) (p n f))
 
-  pub queue_done : (w : QueueTurn) → w ≡ of_queue_turn x.outgoing (in_at x 0) (out_queue x.outgoing (in_at x 0))
+  pub queue_done : (w : Option QueueTurn) → w ≡ of_queue_turn (out_queue x.outgoing (in_at x 0))
       → DidOwn c d s r (own_turn (λ oq y. set_in (with_out_queue x oq) 0 y) (queue_back w)) → DidOwn c d s r (queue_act x)
   queue_done w e p n =
       subst (λ (t : Turn OutQueue Input). Did n c d s r (own_turn (λ oq y. set_in (with_out_queue x oq) 0 y) t))
-      (ap queue_back e ∙ queue_back_lem x.outgoing (in_at x 0) (out_queue x.outgoing (in_at x 0))) (p n)
+      (ap queue_back e ∙ queue_back_lem (out_queue x.outgoing (in_at x 0))) (p n)
 
-  pub work_done_lem : (D q : ℕ) (w : OperatorTurn) → w ≡ of_work (queue_at x q) x.outgoing (operator D s (queue_at x q) x.outgoing)
+  pub work_done_lem : (D q : ℕ) (w : Option OperatorTurn) → w ≡ of_work (operator D s (queue_at x q) x.outgoing)
       → DidOwn c d s r (work_done x q (work_back w)) → DidOwn c d s r (operator_act D s x q)
   work_done_lem D q w e p n =
       subst (λ (t : Work). Did n c d s r (work_done x q t))
-      (ap work_back e ∙ work_back_lem (queue_at x q) x.outgoing (operator D s (queue_at x q) x.outgoing)) (p n)
+      (ap work_back e ∙ work_back_lem (operator D s (queue_at x q) x.outgoing)) (p n)
 
   -- the timeout, i being the input that feeds output 0
   pub timeout_done : (edition i : ℕ) (z : Input) (bs : List Bool) → s < sites_most → i < input_count → i ≡ (out_at x 0).input → z ≡ in_at x i
-      → bs ≡ cutting z.outputs → (w : InputTurn)
-      → w ≡ of_input_turn z (masked bs x.outputs) (timeout edition (queue_at x 0) (masked bs x.outputs) z)
+      → bs ≡ cutting z.outputs → (w : Option InputTurn)
+      → w ≡ of_input_turn (timeout edition (queue_at x 0) (masked bs x.outputs) z)
       → DidOwn c d s r (own_turn (set_both x i) (merged_turn bs x.outputs (input_back w))) → DidOwn c d s r (timeout_act edition x)
   timeout_done edition i z bs hs hi e ez eb w f p n =
       let os = x.outputs in
       let iq = queue_at x 0 in
       let own : bs ≡ cutting (in_at x i).outputs = eb ∙ ap (λ (u : Input). cutting u.outputs) ez in
-      let back = ap input_back f ∙ input_back_lem z (masked bs os) (timeout edition iq (masked bs os) z) in
+      let back = ap input_back f ∙ input_back_lem (timeout edition iq (masked bs os) z) in
       let rule =
       ap (merged_turn bs os) back
       ∙ ap₂ (λ (m : List Bool) (u : Input). merged_turn m os (timeout edition iq (masked m os) u)) own ez

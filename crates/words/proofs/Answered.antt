@@ -29,7 +29,7 @@ use Rattle.words.specs.Events.{Did, Took, site_in, tried}
 use Rattle.layout.specs.Public.{RanWords, SentWords, of_ran, of_sent, form_refusal, ran_words, sent_words, shared_refusal}
 use Rattle.layout.proofs.Settled.{packed}
 use Rattle.words.proofs.Taken.{tried_is}
-use Rattle.words.proofs.Publics.{fit}
+use Rattle.words.proofs.Publics.{fit, unsized_state}
 
 -- ---- the words of a state
 
@@ -85,6 +85,10 @@ module _ (n : Network) (c : List ℕ) where
         go true h = of_refused k h (shared_state _ k h e ne) ne
         go false h = ap (λ (f : ℕ). record { answer = RunRefused f; blocking = 0; words = c }) (shared_other k h e)
 
+    pub run_unsized : (length c ≡ word_count → ⊥) → record { answer = RunRefused (form_refusal n); blocking = 0; words = c } ≡ ran_words n c s code
+    unfolding ran_words
+    run_unsized h = rw (unsized_state c h) refl
+
     pub run_none : shared_refusal n c ≡ 0 → (ltb s n.sites && ltb code (codes_in n.edition)) ≡ false
         → record { answer = RunRefused 9; blocking = 0; words = c } ≡ ran_words n c s code
     unfolding ran_words run_refusal
@@ -121,6 +125,10 @@ module _ (n : Network) (c : List ℕ) where
         go true h =
             sym (ap of_sent (sent_refused k (shared_state _ k h e ne) ne) ∙ ap (λ (l : List ℕ). record { answer = SendRefused k; words = l }) (in_form c h))
         go false h = ap (λ (f : ℕ). record { answer = SendRefused f; words = c }) (shared_other k h e)
+
+    pub send_unsized : (length c ≡ word_count → ⊥) → record { answer = SendRefused (form_refusal n); words = c } ≡ sent_words n c s X
+    unfolding sent_words
+    send_unsized h = rw (unsized_state c h) refl
 
     -- nothing shared is refused: SEND's own refusals are left
     sent_tried : shared_refusal n c ≡ 0 → sent n st s X ≡ try_send n st s X

@@ -1,6 +1,6 @@
 -- The outputs in the way, read from the words of a state in range. Assumes nothing beyond each statement.
 use Prim.Native.Nat.{ℕ, ◌*◌, ◌≤◌, ◌<◌}
-use mathlib.Core.Path.{◌≡◌, refl, ap}
+use mathlib.Core.Path.{◌≡◌, refl, ap, ◌∙◌}
 use mathlib.Core.List.{List}
 use mathlib.Core.Bool.{true, ◌&&◌}
 use borrow.Author.Tests.{lt-ltb, le-leb, eq-eqb}
@@ -17,12 +17,7 @@ use Rattle.model.specs.Steps.{blocking_at}
 use Rattle.model.proofs.Blocking.{seeks_at, passes_where, passes_same}
 use Rattle.rules.specs.Router.{seek_only, askable, passed_by}
 use Rattle.rules.proofs.Asked.{route_same}
-use Rattle.words.specs.Events.{RunAsks, SeekAsks, site_in}
-
--- what a RUN asks has what its net-inputs ask
-pub seek_asks : (n : Network) (c : List ℕ) (s : ℕ) → RunAsks n c s → SeekAsks n.routes n.sites c s
-seek_asks n c s p i hi =
-    record { site = p.site; few = p.few; words = p.words; routes = p.routes; set = p.sought i hi }
+use Rattle.words.specs.Events.{RunAsks, site_in}
 
 askable_by : (m : List ℕ) (S s X : ℕ) → s < S → S ≤ sites_most → length m ≡ sites_most * sites_most → targets S X ≡ true
     → askable m S s X ≡ true
@@ -31,21 +26,21 @@ askable_by m S s X a b e t =
     let room = eqb (length m) (sites_most * sites_most) in
     and (ltb s S && leb S sites_most && room) (targets S X) (and (ltb s S && leb S sites_most) room two (eq-eqb _ _ e)) t
 
--- a net-input in seek can ask; any other passes nothing on
-pub blocking_asked : (edition : ℕ) (m : List ℕ) (S T : ℕ) (c : List ℕ) (s : ℕ) → SeekAsks m S c s → (code : ℕ) → code < input_count
-    → passed_by edition m S T s (in_at (site_in c s) code) (site_in c s).outputs ≡ blocking_at (seek_only edition S T m) s (site_in c s) code
-blocking_asked edition m S T c s ok code hc =
-    let x = site_in c s in
-    let y = in_at x code in
-    let p = ok code hc in
-    passes_where (seek_only edition S T m) s x code (askable m S s y.set) hc
-    (λ e. askable_by m S s y.set p.site p.few p.routes (p.set (ap state_number (seeks_at y.phase e))))
-
 -- of a network edition, sites, tries and routes are looked at
-pub blocking_of : (n : Network) (s : ℕ) (x : Site) (code : ℕ)
+blocking_of : (n : Network) (s : ℕ) (x : Site) (code : ℕ)
     → blocking_at (seek_only n.edition n.sites n.tries n.routes) s x code ≡ blocking_at n s x code
 unfolding blocking_at
 blocking_of n s x code =
     let m = seek_only n.edition n.sites n.tries n.routes in
     let y = in_at x code in
     rw (passes_same m n s y x.outputs refl (λ a us. route_same m n refl refl s us refl y.set)) refl
+
+-- a net-input in seek can ask; any other passes nothing on
+pub blocking_asked : (n : Network) (c : List ℕ) (s : ℕ) → RunAsks n c s → length n.routes ≡ sites_most * sites_most → (code : ℕ) → code < input_count
+    → passed_by n.edition n.routes n.sites n.tries s (in_at (site_in c s) code) (site_in c s).outputs ≡ blocking_at n s (site_in c s) code
+blocking_asked n c s ok full code h =
+    let x = site_in c s in
+    let y = in_at x code in
+    passes_where (seek_only n.edition n.sites n.tries n.routes) s x code (askable n.routes n.sites s y.set) h
+    (λ e. askable_by n.routes n.sites s y.set ok.site ok.few full (ok.sought code h (ap state_number (seeks_at y.phase e))))
+    ∙ blocking_of n s x code

@@ -1,4 +1,4 @@
--- RUN's arms by the code number, and what an arm asks of the words. Assumes what each law names.
+-- RUN's arms by the code number. Assumes what each law names.
 use mathlib.Core.Path.{◌≡◌, refl}
 use mathlib.Core.Logic.{◌⊎◌, inl, inr}
 use mathlib.Core.List.{List}
@@ -8,7 +8,7 @@ use native.Mathlib.Omega.{arith}
 use borrow.Author.Tests.{lt-ltb, le-ltb, le-leb, ne_eqb}
 use lib.Dec.{eqb}
 use lib.ListN.{length}
-use Rattle.base.specs.Sizes.{sites_most, input_count, in_queue_count, code_count}
+use Rattle.base.specs.Sizes.{in_queue_count, code_count}
 use Rattle.types.specs.declared.Input.{Input}
 use Rattle.types.specs.declared.Network.{Network}
 use Rattle.types.specs.declared.Site.{Site}
@@ -19,19 +19,9 @@ use Rattle.model.specs.Places.{channel_output}
 use Rattle.model.specs.Steps.{net_output, act, ends}
 use Rattle.layout.specs.Layout.{word_count}
 use Rattle.layout.specs.Words.{sites_of}
-use Rattle.words.specs.Events.{Did, DidPass, RunAsks, Seekable, network_by, site_in, end_of}
+use Rattle.words.specs.Events.{Did, DidPass, site_in, end_of}
 use Rattle.rules.specs.Acts.{input_act, local_act, queue_act, operator_act, timeout_act}
 use Rattle.words.proofs.Acts.{did_nothing}
-
--- ---- what the arms ask
-
-module _ (version edition S D T : ℕ) (l m c : List ℕ) (s : ℕ) (ok : RunAsks (network_by version edition S D T l m) c s) where
-  pub below : s < sites_most
-  below = omega (arith, ok.site, ok.few)
-
-  pub seekable : (i : ℕ) → i < input_count → Seekable m S c s i
-  seekable i h =
-      record { site = ok.site; few = ok.few; words = ok.words; routes = ok.routes; set = λ e. ok.sought i h e }
 
 -- an arm of two codes serves both in-queues, that of the split output by the code beyond thirteen
 pub which_queue : {j k : ℕ} (code : ℕ) → (code ≡ j) ⊎ (code ≡ k) → j < 2 * code_count → k < 2 * code_count

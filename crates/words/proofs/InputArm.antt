@@ -1,5 +1,7 @@
 -- Codes 0 to 4 in place: readiness by the packed words, and what each way of the code makes of the definition. Assumes what each law names.
 use mathlib.Core.Path.{◌≡◌, refl, sym, ap, ap₂, subst, ◌∙◌}
+use mathlib.Core.Logic.{◌⊎◌, inl, inr}
+use Rattle.std.specs.Prelude.{Option}
 use mathlib.Core.List.{List}
 use mathlib.Core.Bool.{Bool, true, false, ◌&&◌, ◌||◌, and-true}
 use Prim.Native.Nat.{ℕ, zero, suc, ◌+◌, ◌*◌, ◌/◌, ◌%◌, ◌<◌, ◌≤◌}
@@ -8,12 +10,13 @@ use native.Mathlib.Omega.{arith}
 use borrow.Author.Tests.{lt-ltb, le-leb, eq-eqb}
 use lib.Dec.{eqb}
 use lib.ListN.{length}
-use Rattle.base.specs.Sizes.{sites_most, output_count}
+use Rattle.base.specs.Sizes.{sites_most, input_count, output_count}
 use Rattle.base.specs.Bools.{implies}
 use Rattle.base.specs.All.{all_same}
 use Rattle.sets.specs.Sets.{targets}
 use Rattle.types.specs.Numbers.{state_number}
 use Rattle.types.specs.Phases.{listening}
+use Rattle.types.specs.declared.Connection.{Connection}
 use Rattle.types.specs.declared.Phase.TheVariants.{the_data as Phase, Free, Seek, Open, Wait, Done, Last, Abort as Aborted, FinAbort}
 use Rattle.types.specs.declared.Input.{Input}
 use Rattle.types.specs.declared.Output.{Output}
@@ -30,12 +33,12 @@ use Rattle.rules.specs.declared.inputs.InputTurn.{InputTurn}
 use Rattle.rules.specs.Router.{of_choice, routes_only, asked_by}
 use Rattle.rules.specs.Turns.{of_input_turn, other_turn, seek_turn, to_choice}
 use Rattle.rules.proofs.Asked.{route_same}
-use Rattle.rules.proofs.ByNumber.{other_is, seek_is, choice_back}
+use Rattle.rules.proofs.ByState.{other_is, seek_is, choice_back}
 use Rattle.layout.specs.Layout.{word_count}
 use Rattle.layout.specs.Words.{sites_of}
-use Rattle.words.specs.Events.{Did, DidOwn, DidReady, DidInput, DidSought, network_by, site_in, end_of}
+use Rattle.words.specs.Events.{Did, DidOwn, DidReady, DidInput, RunAsks, site_in, end_of}
 use Rattle.layout.specs.Idle.{waits}
-use Rattle.words.specs.Events.{input_back, split_ready, ready_flags, sought, Seekable}
+use Rattle.words.specs.Events.{input_back, split_ready, ready_flags, sought}
 use Rattle.words.specs.Marked.{masked, merged_turn, touched, opening, seen}
 use Rattle.rules.specs.Acts.{input_act}
 use Rattle.words.proofs.Acts.{did_nothing, input_back_lem}
@@ -45,12 +48,12 @@ use Rattle.words.proofs.SeenLaws.{length_seen, own_seen, asked_seen}
 use Rattle.layout.proofs.Rests.{quiet_stays, stands_stays}
 
 -- the router asked by the parts of a network
-asked_is : (m : List ℕ) (version edition S D T : ℕ) (l : List ℕ) (s : ℕ) (os : List Output) (X : ℕ) → s < S → S ≤ sites_most
-    → length m ≡ sites_most * sites_most → targets S X ≡ true
-    → asked_by edition m S s os X ≡ route (network_by version edition S D T l m) s os X
-asked_is m version edition S D T l s os X a b e t =
-    rw (lt-ltb s S a, le-leb S sites_most b, eq-eqb (length m) (sites_most * sites_most) e, t)
-    (route_same (routes_only edition S m) (network_by version edition S D T l m) refl refl s os refl X)
+asked_is : (n : Network) (s : ℕ) (os : List Output) (X : ℕ) → s < n.sites → n.sites ≤ sites_most
+    → length n.routes ≡ sites_most * sites_most → targets n.sites X ≡ true → asked_by n.edition n.routes n.sites s os X ≡ route n s os X
+asked_is n s os X a b e t =
+    let m = n.routes in
+    rw (lt-ltb s n.sites a, le-leb n.sites sites_most b, eq-eqb (length m) (sites_most * sites_most) e, t)
+    (route_same (routes_only n.edition n.sites m) n refl refl s os refl X)
 
 -- ---- the input at a channel's end
 
@@ -115,6 +118,11 @@ by_flags n xs s i y os ph =
 
 -- ---- the ways of the code
 
+quiet_by : (ph p : Phase) → ph ≡ p → (ph ≡ Free) ⊎ ((k : Connection) × (ph ≡ Aborted k))
+    → (eqb (state_number p) 0 || eqb (state_number p) 6) ≡ true
+quiet_by ph p e (inl f) = rw (← e, f) refl
+quiet_by ph p e (inr f) = rw (← e, f.1) refl
+
 module _ (c : List ℕ) (s i : ℕ) where
   abbrev x : Site
   x = site_in c s
@@ -123,12 +131,12 @@ module _ (c : List ℕ) (s i : ℕ) where
   y = in_at x i
 
   -- the place has no rule
-  pub quiet_none : (n : Network) (k : ℕ) → length c ≡ word_count → k ≡ state_number y.phase → (eqb k 0 || eqb k 6) ≡ true
+  pub quiet_none : (n : Network) (ph : Phase) → length c ≡ word_count → ph ≡ y.phase → (ph ≡ Free) ⊎ ((k : Connection) × (ph ≡ Aborted k))
       → Did n c c s Nothing (input_act n s x (ends n (sites_of c) s) i)
-  quiet_none n k h e f =
+  quiet_none n ph h e f =
       did_nothing n c s (input_act n s x (ends n (sites_of c) s) i) h
       (ap (own_turn (set_both x i))
-      (quiet_stays n s i y x.outputs (ready_in n (sites_of c) s) y.phase (sym (ap (λ (m : ℕ). eqb m 0 || eqb m 6) e) ∙ f)))
+      (quiet_stays n s i y x.outputs (ready_in n (sites_of c) s) y.phase (quiet_by ph y.phase e f)))
 
   -- it waits
   pub waits_none : (isReady : ℕ → Bool) (z : Input) (w : Bool) → length c ≡ word_count → z ≡ y → w ≡ waits z isReady → w ≡ true
@@ -140,18 +148,18 @@ module _ (c : List ℕ) (s i : ℕ) where
 
   module _ (d : List ℕ) (r : Ran) where
     -- what the rule made of the marked outputs is stored, and the rule is t
-    merged_done : (bs : List Bool) (w : InputTurn) (t : Turn Input (List Output)) → merged_turn bs x.outputs (input_back w) ≡ t
+    merged_done : (bs : List Bool) (w : Option InputTurn) (t : Turn Input (List Output)) → merged_turn bs x.outputs (input_back w) ≡ t
         → DidOwn c d s r (own_turn (set_both x i) (merged_turn bs x.outputs (input_back w))) → DidOwn c d s r (own_turn (set_both x i) t)
     merged_done bs w t e p n = subst (λ (t : Turn Input (List Output)). Did n c d s r (own_turn (set_both x i) t)) e (p n)
 
     -- a rule moves it
-    pub ready_done : (isReady : ℕ → Bool) (z : Input) (bs : List Bool) (w : InputTurn) → s < sites_most → z ≡ y → (state_number y.phase ≡ 1 → ⊥)
-        → bs ≡ touched z.phase z.outputs → w ≡ of_input_turn z (masked bs x.outputs) (other_turn z (masked bs x.outputs) isReady)
+    pub ready_done : (isReady : ℕ → Bool) (z : Input) (bs : List Bool) (w : Option InputTurn) → s < sites_most → z ≡ y → (state_number y.phase ≡ 1 → ⊥)
+        → bs ≡ touched z.phase z.outputs → w ≡ of_input_turn (other_turn z (masked bs x.outputs) isReady)
         → DidOwn c d s r (own_turn (set_both x i) (merged_turn bs x.outputs (input_back w))) → DidReady c d s r i isReady
     ready_done isReady z bs w hs ez ne eb e p n =
         let os = x.outputs in
         let own = eb ∙ ap (λ (u : Input). touched u.phase u.outputs) ez in
-        let rule = ap input_back e ∙ input_back_lem z (masked bs os) (other_turn z (masked bs os) isReady)
+        let rule = ap input_back e ∙ input_back_lem (other_turn z (masked bs os) isReady)
         ∙ ap (λ (u : Input). other_turn u (masked bs os) isReady) ez ∙ other_is y (masked bs os) isReady n s i ne in
         merged_done bs w (net_input n s i y os isReady)
         (ap (merged_turn bs os) rule
@@ -159,40 +167,39 @@ module _ (c : List ℕ) (s i : ℕ) where
         ∙ other_merged n s i y os isReady (outputs_of_lem c s hs) y.phase ne) p n
 
     -- the flags are those of the network
-    pub flags_done : (l : List ℕ) (z : Input) (bs : List Bool) → z ≡ y → bs ≡ ready_flags l (sites_of c) s z.outputs
-        → DidReady c d s r i (mark bs) → DidInput l c d s r i
-    flags_done l z bs ez e p n f =
+    pub flags_done : (n : Network) (z : Input) (bs : List Bool) → z ≡ y → bs ≡ ready_flags n.channels (sites_of c) s z.outputs
+        → DidReady c d s r i (mark bs) → DidInput n c d s r i
+    flags_done n z bs ez e p =
         subst (λ (t : Turn Input (List Output)). Did n c d s r (own_turn (set_both x i) t))
         (ap (λ (b : List Bool). net_input n s i y x.outputs (mark b))
-        (e ∙ ap₂ (λ (k : List ℕ) (u : Input). ready_flags k (sites_of c) s u.outputs) (sym f) ez)
+        (e ∙ ap (λ (u : Input). ready_flags n.channels (sites_of c) s u.outputs) ez)
         ∙ by_flags n (sites_of c) s i y x.outputs y.phase)
         (p n)
 
     -- the router was asked
-    pub sought_done : (edition : ℕ) (m : List ℕ) (S T : ℕ) (bs : List Bool) (w : InputTurn) → Seekable m S c s i → state_number y.phase ≡ 1
-        → let ws = seen edition x.outputs in
-        w ≡ of_input_turn y ws (sought edition m S T y ws s i) → bs ≡ opening w.input
-        → DidOwn c d s r (own_turn (set_both x i) (merged_turn bs x.outputs (input_back w))) → DidSought edition m S T c d s r i
-    sought_done edition m S T bs w ok e f eb p version D l =
-        let n = network_by version edition S D T l m in
+    pub sought_done : (n : Network) (bs : List Bool) (w : Option InputTurn) → RunAsks n c s → length n.routes ≡ sites_most * sites_most
+        → i < input_count → state_number y.phase ≡ 1
+        → let ws = seen n.edition x.outputs in
+        w ≡ of_input_turn (sought n y ws s i) → bs ≡ opening w
+        → DidOwn c d s r (own_turn (set_both x i) (merged_turn bs x.outputs (input_back w))) → DidInput n c d s r i
+    sought_done n bs w ok full h e f eb p =
         let os = x.outputs in
-        let ws = seen edition os in
-        let t = sought edition m S T y ws s i in
+        let ws = seen n.edition os in
+        let t = sought n y ws s i in
         merged_done bs w (net_input n s i y os (ready_in n (sites_of c) s))
-        (ap₂ (λ (b : List Bool) (u : InputTurn). merged_turn b os (input_back u)) (eb ∙ ap (λ (u : InputTurn). opening u.input) f) f
-        ∙ opening_turn y ws os t
-        ∙ sought_merged T i y ws os (length_seen edition os) (outputs_of_lem c s (omega (arith, ok.site, ok.few))) (own_seen edition os) e
-        (asked_by edition m S s ws y.set)
-        ∙ ap (seek T i y os)
-        (asked_seen edition m S s os y.set
-        ∙ asked_is m version edition S D T l s os y.set ok.site ok.few ok.routes (ok.set e))
+        (ap₂ (λ (b : List Bool) (u : Option InputTurn). merged_turn b os (input_back u)) (eb ∙ ap opening f) f
+        ∙ opening_turn os t
+        ∙ sought_merged n.tries i y ws os (length_seen n.edition os) (outputs_of_lem c s (omega (arith, ok.site, ok.few)))
+        (own_seen n.edition os) e (asked_by n.edition n.routes n.sites s ws y.set)
+        ∙ ap (seek n.tries i y os)
+        (asked_seen n.edition n.routes n.sites s os y.set ∙ asked_is n s os y.set ok.site ok.few full (ok.sought i h e))
         ∙ sym (seek_is y os (ready_in n (sites_of c) s) n s i e)) p n
 
 -- what the loads and the router gave
-pub sought_by : (edition : ℕ) (m : List ℕ) (S T s i : ℕ) (z y : Input) (os ws : List Output) (ch : Choice) (w : InputTurn) → y ≡ z → os ≡ ws
-    → ch ≡ of_choice (asked_by edition m S s os y.set) → w ≡ seek_turn T i y os ch → w ≡ of_input_turn z ws (sought edition m S T z ws s i)
-sought_by edition m S T s i z y os ws ch w ey eo ec ew =
+pub sought_by : (n : Network) (s i : ℕ) (z y : Input) (os ws : List Output) (ch : Option Choice) (w : Option InputTurn) → y ≡ z → os ≡ ws
+    → ch ≡ of_choice (asked_by n.edition n.routes n.sites s os y.set) → w ≡ seek_turn n.tries i y os ch → w ≡ of_input_turn (sought n z ws s i)
+sought_by n s i z y os ws ch w ey eo ec ew =
     ew
-    ∙ ap (λ (h : Choice). of_input_turn y os (seek T i y os (to_choice h.served h.connection h.sets))) ec
-    ∙ ap (λ (h : ModelChoice). of_input_turn y os (seek T i y os h)) (choice_back (asked_by edition m S s os y.set))
+    ∙ ap (λ (h : Option Choice). of_input_turn (seek n.tries i y os (to_choice h))) ec
+    ∙ ap (λ (h : ModelChoice). of_input_turn (seek n.tries i y os h)) (choice_back (asked_by n.edition n.routes n.sites s os y.set))
     ∙ rw (ey, eo) refl

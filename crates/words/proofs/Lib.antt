@@ -4,6 +4,7 @@ pub mod Blocked
 pub mod Codes
 pub mod EventExamples
 pub mod InputArm
+pub mod Made
 pub mod MarkedLaws
 pub mod MarkedStores
 pub mod PlayLaws

@@ -29,7 +29,7 @@ use Rattle.model.specs.Places.{last_lacks, stalled, remote, cut_off, cut_at, tim
 use Rattle.layout.proofs.Rows.{get_d_rows, length_rows}
 use Rattle.rules.specs.Turns.{of_input_turn}
 use Rattle.words.specs.Events.{input_back}
-use Rattle.words.specs.Marked.{masked, merged, merged_turn, zeroth, touched, opening, cutting}
+use Rattle.words.specs.Marked.{masked, merged, merged_turn, zeroth, touched, opens, opening, cutting}
 
 -- ---- the outputs one by one
 
@@ -190,13 +190,12 @@ module _ (n : Network) (s i : ℕ) (y : Input) (os : List Output) (isReady : ℕ
 -- the router's answer to a net-input in seek, from outputs ws of which output 0 is empty if it is so in os
 abbrev pub merged_opening : List Output → Turned → Turned
 merged_opening os Stay = Stay
-merged_opening os (To z l) = To z (merged (opening z) l os)
+merged_opening os (To z l) = To z (merged (opens z) l os)
 
--- as the struct of the code says it
-pub opening_turn : (y : Input) (ws os : List Output) (t : Turned)
-    → merged_turn (opening (of_input_turn y ws t).input) os (input_back (of_input_turn y ws t)) ≡ merged_opening os t
-opening_turn y ws os Stay = refl
-opening_turn y ws os (To z l) = refl
+-- as the code says it
+pub opening_turn : (os : List Output) (t : Turned) → merged_turn (opening (of_input_turn t)) os (input_back (of_input_turn t)) ≡ merged_opening os t
+opening_turn os Stay = refl
+opening_turn os (To z l) = refl
 
 module _ (T i : ℕ) (y : Input) (ws os : List Output) (hw : length ws ≡ output_count) (ho : length os ≡ output_count)
     (own : is_empty ws 0 ≡ is_empty os 0) (seeks : state_number y.phase ≡ 1) where

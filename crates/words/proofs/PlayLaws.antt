@@ -1,10 +1,9 @@
 -- A player's loop over words: what is known before each turn, what a turn asks of it, and the end. Assumes what each law names.
-use Prim.Native.Nat.{ℕ, ◌+◌, ◌*◌, ◌≤◌, ◌<◌}
+use Prim.Native.Nat.{ℕ, ◌+◌, ◌≤◌, ◌<◌}
 use mathlib.Core.Path.{◌≡◌, refl, ap, ◌∙◌}
 use mathlib.Core.List.{List}
 use native.Mathlib.Omega.{arith}
 use lib.ListN.{length}
-use Rattle.base.specs.Sizes.{sites_most, port_count}
 use Rattle.types.specs.declared.State.{State}
 use Rattle.types.specs.declared.StoredSend.{StoredSend}
 use Rattle.types.specs.declared.Run.{Run}
@@ -27,8 +26,6 @@ use Rattle.words.proofs.RunLaws.{run_asks}
 pub record Going (R : Run) (room : List ℕ) (total k : ℕ) (c b : List ℕ) (t : Tally) : Type 0 where
   pub playing : Playing R room total k (standing t c b)
   pub size : length c ≡ word_count
-  pub channels : length R.network.channels ≡ port_count * sites_most
-  pub routes : length R.network.routes ≡ sites_most * sites_most
 
 abbrev start_tally : ℕ → Tally
 start_tally seed = record { accepted = 0; pairs = 0; serviced = 0; next = 0; clock = record { value = seed; draw = 0 } }
@@ -51,8 +48,6 @@ going R c room total ok e h =
             same = ap (λ (y : State). first R room y) (ap state_of ok.words ∙ empty_words) ∙ no_turn R room;
           };
       size = ap length ok.words ∙ length_none;
-      channels = ok.channels;
-      routes = ok.routes;
     }
 
 module _ {R : Run} {room : List ℕ} {total k : ℕ} {c b : List ℕ} {t : Tally} (at : Going R room total k c b t) where
@@ -63,11 +58,10 @@ module _ {R : Run} {room : List ℕ} {total k : ℕ} {c b : List ℕ} {t : Tally
         some = val.some;
         few = val.few;
         deep = val.deep;
-        words = at.size;
         next = next_most at.playing;
         accepted = accepted_most at.playing;
         pairs = pairs_most at.playing;
-        runs_at = λ s h. run_asks R.network c s val (state_in_range at.playing) at.size at.channels at.routes h;
+        runs_at = λ s h. run_asks R.network c s val (state_in_range at.playing) h;
       }
 
   pub goes_on : k < total → {m : ℕ} → m ≡ capped_at t.next → {o : StoredSend} → o ≡ send_at R m → {d q : List ℕ} {r : Tally}
@@ -82,21 +76,19 @@ module _ {R : Run} {room : List ℕ} {total k : ℕ} {c b : List ℕ} {t : Tally
             let low = draw_below R room at.playing.run.valid k (standing t c b) at.playing.same (omega (arith, l, at.playing.turns)) e in
             omega (arith, low, at.playing.draws)));
         size = turn.size;
-        channels = at.channels;
-        routes = at.routes;
       }
 
   pub gone : total ≤ k → Stands R c room b t
   gone l =
       let last : k ≡ R.count + R.draws = omega (arith, l, at.playing.here, at.playing.turns) in
-      record { size = at.size; same = at.playing.same ∙ ap (progress R room) last }
+      record { size = at.size; draws = at.playing.draws; same = at.playing.same ∙ ap (progress R room) last }
 
 -- the counts and the book at the end
-pub played_words : (R : Run) (d b q : List ℕ) (r : Tally) → Playable R (length b) → R.draws < 65536 → Stands R d b q r → (owed : ℕ)
+pub played_words : (R : Run) (d b q : List ℕ) (r : Tally) → Playable R (length b) → Stands R d b q r → (owed : ℕ)
     → owed ≡ owed_pairs (sites_of d)
     → (record { accepted = r.accepted; pairs = r.pairs; serviced = r.serviced; owed = owed } ≡ counts_of (played_run R)) × (q ≡ book_in R b)
-played_words R d b q r ok h st owed e =
+played_words R d b q r ok st owed e =
     let total = R.count + R.draws in
     let at : Playing R b total total (standing r d q) =
-    record { run = ok; turns = refl; draws = h; here = omega arith; same = st.same } in
+    record { run = ok; turns = refl; draws = st.draws; here = omega arith; same = st.same } in
     ended at (omega arith) e

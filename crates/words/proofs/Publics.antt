@@ -1,41 +1,48 @@
 -- The refusals that RUN and SEND on any lent words share, and what is known where none of them is given. Assumes nothing.
 use mathlib.Core.Path.{◌≡◌, refl, sym, ap, ◌∙◌}
-use mathlib.Core.List.{List, []}
+use mathlib.Core.List.{List}
 use mathlib.Core.Bool.{Bool, true, false, cond, ◌&&◌}
-use Prim.Native.Nat.{ℕ, ◌*◌, ◌<◌, ◌≤◌}
+use Prim.Native.Nat.{ℕ, ◌<◌, ◌≤◌}
 use native.Mathlib.Omega.{arith}
-use borrow.Author.Tests.{eqb-true, eqb-false, ne_eqb}
+use borrow.Author.Tests.{eqb-true, eqb-false, eq-eqb, ne_eqb}
 use lib.Dec.{eqb}
 use lib.ListN.{length}
-use Rattle.base.specs.Sizes.{port_count, sites_most, queue_room}
+use Rattle.base.specs.Sizes.{sites_most, queue_room}
 use Rattle.base.specs.Bools.{both, first_of}
-use Rattle.base.specs.All.{all, all_end}
+use Rattle.base.specs.All.{all}
 use Rattle.types.specs.declared.State.{State}
 use Rattle.types.specs.declared.Network.{Network}
 use Rattle.model.specs.Types.{site_at}
 use Rattle.model.specs.Network.{network_refusal}
 use Rattle.model.specs.Range.{place_ok, in_range}
 use Rattle.theorems.proofs.Networks.{valid_ok}
+use Rattle.std.specs.Array.{IsWholeChunk}
 use Rattle.layout.specs.Layout.{word_count}
 use Rattle.layout.specs.Words.{sites_of, state_of, canonical, is_state}
-use Rattle.words.specs.Events.{RunAsks, network_by}
+use Rattle.words.specs.Events.{RunAsks}
 use Rattle.layout.specs.Public.{shared_refusal}
 use Rattle.words.proofs.RunLaws.{run_asks}
 
 -- ---- in range
 
--- of a network its edition, sites, depth and tries alone are looked at
-pub in_range_is : (n : Network) (st : State) → in_range (network_by 0 n.edition n.sites n.depth n.tries [] []) st ≡ in_range n st
-unfolding in_range
-in_range_is n st = refl
-
 -- the test of all sites, k being the counter
-pub range_found : (E S T D k m : ℕ) (c : List ℕ) (ok : Bool) → k ≡ (state_of c).counter → m ≤ sites_most → sites_most ≤ m
-    → ok ≡ all (λ t. place_ok E S T D k t (site_at (sites_of c) t)) m → ok ≡ in_range (network_by 0 E S D T [] []) (state_of c)
+pub range_found : (n : Network) (k : ℕ) (c : List ℕ) (ok : Bool) → k ≡ (state_of c).counter
+    → ok ≡ all (λ t. place_ok n.edition n.sites n.tries n.depth k t (site_at (sites_of c) t)) sites_most → ok ≡ in_range n (state_of c)
 unfolding in_range
-range_found E S T D k m c ok e h l f = rw (← e) (all_end (λ t. place_ok E S T D k t (site_at (sites_of c) t)) sites_most m ok h l f)
+range_found n k c ok e f = rw (← e) f
 
-pub sized : (c : List ℕ) → is_state c ≡ true → length c ≡ word_count
+-- as many words as a state has, and another number
+pub sized_state : (c : List ℕ) → length c ≡ word_count → is_state c ≡ canonical c
+sized_state c h = rw (eq-eqb (length c) word_count h) refl
+
+pub unsized_state : (c : List ℕ) → (length c ≡ word_count → ⊥) → is_state c ≡ false
+unsized_state c h = rw (ne_eqb (length c) word_count h) refl
+
+-- lent words of the right number, as the array that they are
+pub whole_state : (c d : List ℕ) → IsWholeChunk c d word_count → is_state c ≡ canonical d
+whole_state c d w = sized_state c w.long ∙ ap canonical (sym w.same)
+
+sized : (c : List ℕ) → is_state c ≡ true → length c ≡ word_count
 sized c h = eqb-true (length c) word_count (both (eqb (length c) word_count) (canonical c) h).0
 
 -- ---- the refusals that both share
@@ -51,13 +58,10 @@ module _ (n : Network) (c : List ℕ) where
   unfolding shared_refusal
   shared_network k e ne = rw (← e, ne_eqb k 0 ne) refl
 
-  pub shared_fit : (k : ℕ) (a b : Bool) → k ≡ network_refusal n → k ≡ 0
-      → b ≡ is_state c && in_range (network_by 0 n.edition n.sites n.depth n.tries [] []) st
-      → b ≡ a → cond a 0 13 ≡ shared_refusal n c
+  pub shared_fit : (k : ℕ) (a b : Bool) → length c ≡ word_count → k ≡ network_refusal n → k ≡ 0 → a ≡ canonical c → b ≡ in_range n st
+      → cond (a && b) 0 13 ≡ shared_refusal n c
   unfolding shared_refusal
-  shared_fit k a b e z f g =
-      let h : fits ≡ a = sym (f ∙ ap (λ (r : Bool). is_state c && r) (in_range_is n st)) ∙ g in
-      rw (← e, z, h) refl
+  shared_fit k a b l e z f g = rw (← e, z, sized_state c l, ← f, ← g) refl
 
   -- what is known where none of them is given
   pub record Fit : Type 0 where
@@ -81,10 +85,9 @@ module _ (n : Network) (c : List ℕ) where
 -- ---- what RUN in place asks
 
 -- what SEND in place asks
-pub sendable : (n : Network) (c : List ℕ) → shared_refusal n c ≡ 0 → (n.sites ≤ sites_most) × (n.depth ≤ queue_room) × (length c ≡ word_count)
-sendable n c none = let ok = fit n c none in let val = valid_ok n ok.network in (val.few, val.deep, ok.size)
+pub sendable : (n : Network) (c : List ℕ) → shared_refusal n c ≡ 0 → (n.sites ≤ sites_most) × (n.depth ≤ queue_room)
+sendable n c none = let ok = fit n c none in let val = valid_ok n ok.network in (val.few, val.deep)
 
-pub runnable : (n : Network) (c : List ℕ) (s : ℕ) → shared_refusal n c ≡ 0 → s < n.sites → length n.channels ≡ port_count * sites_most
-    → length n.routes ≡ sites_most * sites_most → RunAsks n c s
-runnable n c s none hs hc hr =
-    let ok = fit n c none in run_asks n c s (valid_ok n ok.network) ok.range ok.size hc hr hs
+pub runnable : (n : Network) (c : List ℕ) (s : ℕ) → shared_refusal n c ≡ 0 → s < n.sites → RunAsks n c s
+runnable n c s none hs =
+    let ok = fit n c none in run_asks n c s (valid_ok n ok.network) ok.range hs

@@ -1,10 +1,8 @@
 -- RUN in place is the model's RUN on the state, and what it asks a valid network and a state in range give. Assumes what each law names.
-use Prim.Native.Nat.{ℕ, ◌*◌, ◌<◌, ◌%◌}
+use Prim.Native.Nat.{ℕ, ◌<◌, ◌%◌}
 use mathlib.Core.Path.{◌≡◌, ap, ap₂}
 use mathlib.Core.List.{List}
 use mathlib.Core.Bool.{true}
-use lib.ListN.{length}
-use Rattle.base.specs.Sizes.{sites_most, port_count}
 use Rattle.sets.proofs.Laws.{targets_by}
 use Rattle.types.specs.declared.Site.{Site}
 use Rattle.types.specs.declared.Network.{Network}
@@ -15,7 +13,6 @@ use Rattle.model.specs.Events.{runs}
 use Rattle.theorems.proofs.Networks.{Valid}
 use Rattle.machine.proofs.RangeAt.{range_runnable}
 use Rattle.machine.proofs.Seen.{valid_ends}
-use Rattle.layout.specs.Layout.{word_count}
 use Rattle.layout.specs.Words.{sites_of, state_of}
 use Rattle.words.specs.Events.{Did, RunAsks, site_in}
 
@@ -33,16 +30,12 @@ module _ (n : Network) (c d : List ℕ) (s code : ℕ) (r : Ran) (did : Did n c 
 
 -- ---- a valid network, and a state in range
 
-pub run_asks : (n : Network) (c : List ℕ) (s : ℕ) → Valid n → in_range n (state_of c) ≡ true → length c ≡ word_count
-    → length n.channels ≡ port_count * sites_most → length n.routes ≡ sites_most * sites_most → s < n.sites → RunAsks n c s
-run_asks n c s val ok size chans routes h =
+pub run_asks : (n : Network) (c : List ℕ) (s : ℕ) → Valid n → in_range n (state_of c) ≡ true → s < n.sites → RunAsks n c s
+run_asks n c s val ok h =
     let w = range_runnable n val (state_of c) ok s h in
     record {
       site = h;
       few = val.few;
-      words = size;
-      channels = chans;
-      routes = routes;
       feeder = w.feeder;
       ends = λ j k e. valid_ends n val s h j k e;
       sought = λ i k e. let t = w.sought i k e in targets_by n.sites _ t.0 t.1;

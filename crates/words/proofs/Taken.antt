@@ -39,8 +39,8 @@ abbrev fault : List ℕ → ℕ → ℕ → ℕ → ℕ → ℕ
 fault c S D s X = send_fault_by S D (state_of c).counter (site_in c s).outgoing.count s X
 
 -- what a SEND that is not refused is known by
-pub acceptable : (c : List ℕ) (S D s X f : ℕ) → (S ≤ sites_most) × (D ≤ queue_room) × (length c ≡ word_count) → f ≡ fault c S D s X → f ≡ 0
-    → (s < sites_most) × (length c ≡ word_count) × ((site_in c s).outgoing.count < 8) × ((state_of c).counter < 255)
+pub acceptable : (c : List ℕ) (S D s X f : ℕ) → (S ≤ sites_most) × (D ≤ queue_room) → f ≡ fault c S D s X → f ≡ 0
+    → (s < sites_most) × ((site_in c s).outgoing.count < 8) × ((state_of c).counter < 255)
 acceptable c S D s X f small e z =
     let k = (state_of c).counter in
     let m = (site_in c s).outgoing.count in
@@ -50,7 +50,7 @@ acceptable c S D s X f small e z =
     let t = first_of (ltb m D) 0 11 0 (λ z. omega arith) r.1 in
     let l = ltb-true s S p.0 in
     let n = ltb-true m D t.0 in
-    (omega (arith, small.0), small.2, omega (arith, small.1), ltb-true k packets_most r.0)
+    (omega (arith, small.0), omega (arith, small.1), ltb-true k packets_most r.0)
 
 module _ (c d : List ℕ) where
   -- an entry at the back: m is the count

@@ -1,5 +1,5 @@
 -- RUN and SEND in place: what they ask of the words, what an arm of RUN decides, what the words are after it.
-use Rattle.std.specs.Prelude.{ℕ, suc, ◌+◌, ◌*◌, ◌<◌, ◌≤◌, ◌≡◌, List, [], ◌∷◌, Bool, true, cond, ◌&&◌, length, get_or}
+use Rattle.std.specs.Prelude.{ℕ, suc, ◌+◌, ◌*◌, ◌<◌, ◌≤◌, ◌≡◌, List, [], ◌∷◌, Bool, true, cond, ◌&&◌, length, get_or, Option, None, Some}
 use Rattle.base.specs.Sizes.{sites_most, port_count, input_count, split_port}
 use Rattle.sets.specs.Sets.{targets}
 use Rattle.types.specs.Numbers.{state_number}
@@ -53,9 +53,6 @@ site_in c s = site_at (sites_of c) s
 pub record RunAsks (n : Network) (c : List ℕ) (s : ℕ) : Type 0 where
   pub site : s < n.sites
   pub few : n.sites ≤ sites_most
-  pub words : length c ≡ word_count
-  pub channels : length n.channels ≡ end_count
-  pub routes : length n.routes ≡ sites_most * sites_most
   pub feeder : (out_at (site_in c s) 0).input < input_count
   pub ends : (j : ℕ) → j < port_count → joined n s (suc j) ≡ true → channel n s (suc j) < end_count
   pub sought : (i : ℕ) → i < input_count → state_number (in_at (site_in c s) i).phase ≡ 1 → targets n.sites (in_at (site_in c s) i).set ≡ true
@@ -92,21 +89,30 @@ end_of xs b = cond (is_channel b) (far_end xs b) no_input
 abbrev pub DidPass : List ℕ → List ℕ → ℕ → Ran → ℕ → ℕ → Turn Output Input → Type 0
 DidPass c d s r j b t = (n : Network) → channel n s (suc j) ≡ b → Did n c d s r (pass_turn (site_in c s) (suc j) t)
 
--- what a rule decided, read from the struct that its code returns
-abbrev pub local_back : LocalTurn → Turn Output InQueue
-local_back r = cond r.changed (To r.output r.queue) Stay
+-- what a rule decided, read from what its code returns
+abbrev pub local_back : Option LocalTurn → Turn Output InQueue
+local_back None = Stay
+local_back (Some r) = To r.output r.queue
 
-abbrev pub channel_back : ChannelTurn → Turn Output Input
-channel_back r = cond r.changed (To r.output r.input) Stay
+abbrev pub channel_back : Option ChannelTurn → Turn Output Input
+channel_back None = Stay
+channel_back (Some r) = To r.output r.input
 
-abbrev pub queue_back : QueueTurn → Turn OutQueue Input
-queue_back r = cond r.changed (To r.queue r.input) Stay
+abbrev pub queue_back : Option QueueTurn → Turn OutQueue Input
+queue_back None = Stay
+queue_back (Some r) = To r.queue r.input
 
-abbrev pub input_back : InputTurn → Turn Input (List Output)
-input_back r = cond r.changed (To r.input r.outputs) Stay
+abbrev pub input_back : Option InputTurn → Turn Input (List Output)
+input_back None = Stay
+input_back (Some r) = To r.input r.outputs
 
-abbrev pub work_back : OperatorTurn → Work
-work_back r = cond r.changed (cond r.serviced (Service r.incoming r.outgoing r.packet) (Cleared r.incoming r.outgoing)) Rest
+abbrev pub serviced_back : OperatorTurn → Option ℕ → Work
+serviced_back r None = Cleared r.incoming r.outgoing
+serviced_back r (Some q) = Service r.incoming r.outgoing q
+
+abbrev pub work_back : Option OperatorTurn → Work
+work_back None = Rest
+work_back (Some r) = serviced_back r r.serviced
 
 -- ---- codes 0 to 4
 
@@ -136,34 +142,13 @@ abbrev pub ChannelsWithin : List ℕ → ℕ → Type 0
 ChannelsWithin l s = (j : ℕ) → j < port_count → is_channel (get_or l (port_count * s + j) 0) ≡ true → get_or l (port_count * s + j) 0 < end_count
 
 -- what the router's answer in an edition makes of a net-input y, which is net-input i of site s, the outputs being os
-abbrev pub sought : ℕ → List ℕ → ℕ → ℕ → Input → List Output → ℕ → ℕ → Turn Input (List Output)
-sought edition m S T y os s i = seek T i y os (asked_by edition m S s os y.set)
+abbrev pub sought : Network → Input → List Output → ℕ → ℕ → Turn Input (List Output)
+sought n y os s i = seek n.tries i y os (asked_by n.edition n.routes n.sites s os y.set)
 
--- what net-input i in seek asks of the routes m
-pub record Seekable (m : List ℕ) (S : ℕ) (c : List ℕ) (s i : ℕ) : Type 0 where
-  pub site : s < S
-  pub few : S ≤ sites_most
-  pub words : length c ≡ word_count
-  pub routes : length m ≡ sites_most * sites_most
-  pub set : state_number (in_at (site_in c s) i).phase ≡ 1 → targets S (in_at (site_in c s) i).set ≡ true
-
--- whichever it is
-abbrev pub SeekAsks : List ℕ → ℕ → List ℕ → ℕ → Type 0
-SeekAsks m S c s = (i : ℕ) → i < input_count → Seekable m S c s i
-
--- net-input i: of any network, where it is known which outputs are ready; of any with the channels l; of any with the
--- edition, the routes m, sites and tries; of any with all of these
+-- net-input i: of any network, where it is known which outputs are ready; of one network
 abbrev pub DidReady : List ℕ → List ℕ → ℕ → Ran → ℕ → (ℕ → Bool) → Type 0
 DidReady c d s r i isReady =
     (n : Network) → Did n c d s r (own_turn (set_both (site_in c s) i) (net_input n s i (in_at (site_in c s) i) (site_in c s).outputs isReady))
 
-abbrev pub DidInput : List ℕ → List ℕ → List ℕ → ℕ → Ran → ℕ → Type 0
-DidInput l c d s r i = (n : Network) → n.channels ≡ l → Did n c d s r (input_act n s (site_in c s) (ends n (sites_of c) s) i)
-
-abbrev pub DidSought : ℕ → List ℕ → ℕ → ℕ → List ℕ → List ℕ → ℕ → Ran → ℕ → Type 0
-DidSought edition m S T c d s r i =
-    (version D : ℕ) (l : List ℕ) → let n = network_by version edition S D T l m in Did n c d s r (input_act n s (site_in c s) (ends n (sites_of c) s) i)
-
-abbrev pub DidAsked : ℕ → List ℕ → List ℕ → ℕ → ℕ → List ℕ → List ℕ → ℕ → Ran → ℕ → Type 0
-DidAsked edition l m S T c d s r i =
-    (version D : ℕ) → let n = network_by version edition S D T l m in Did n c d s r (input_act n s (site_in c s) (ends n (sites_of c) s) i)
+abbrev pub DidInput : Network → List ℕ → List ℕ → ℕ → Ran → ℕ → Type 0
+DidInput n c d s r i = Did n c d s r (input_act n s (site_in c s) (ends n (sites_of c) s) i)

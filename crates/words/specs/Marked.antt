@@ -1,5 +1,5 @@
 -- The outputs that an arm of a net-input looks at and stores, by marks bs, one an output; the others are neither read nor written.
-use Rattle.std.specs.Prelude.{ℕ, List, [], ◌∷◌, Bool, true, false, cond, ◌&&◌, eqb, set}
+use Rattle.std.specs.Prelude.{ℕ, List, [], ◌∷◌, Bool, true, false, Option, None, Some, cond, ◌&&◌, eqb, set}
 use Rattle.base.specs.Over.{over}
 use Rattle.base.specs.Rows.{rows}
 use Rattle.base.specs.Sizes.{output_count, split_port}
@@ -9,6 +9,7 @@ use Rattle.types.specs.declared.Terminator.TheVariants.{None as t_none}
 use Rattle.types.specs.declared.Phase.TheVariants.{the_data as Phase, Free, Seek, Open, Wait, Done, Last, Abort as Aborted, FinAbort}
 use Rattle.types.specs.declared.Input.{Input}
 use Rattle.types.specs.declared.Output.{Output}
+use Rattle.rules.specs.declared.inputs.InputTurn.{InputTurn}
 use Rattle.model.specs.Types.{no_marks, no_output, out_of, mark}
 use Rattle.model.specs.NetInput.{Turn, Stay, To}
 
@@ -40,8 +41,12 @@ touched (Aborted c) bs = no_marks
 touched (FinAbort c r) bs = zeroth
 
 -- those that the router's answer takes: of a net-input that went to open the connected ones
-abbrev pub opening : Input → List Bool
-opening y = cond (eqb (state_number y.phase) 2) y.outputs no_marks
+abbrev pub opens : Input → List Bool
+opens y = cond (eqb (state_number y.phase) 2) y.outputs no_marks
+
+abbrev pub opening : Option InputTurn → List Bool
+opening None = no_marks
+opening (Some r) = opens r.input
 
 -- those that the timeout looks at: output 0, and the connected ones
 abbrev pub cutting : List Bool → List Bool

@@ -13,7 +13,7 @@ use Rattle.machine.specs.Clock.{advanced}
 use Rattle.machine.specs.Progress.{Progress, due, answered, entries_by, book_by, turned, progress}
 use Rattle.machine.specs.Play.{Playable}
 use Rattle.words.specs.declared.player.Tally.{Tally}
-use Rattle.layout.specs.Layout.{word_count, end_count}
+use Rattle.layout.specs.Layout.{word_count}
 use Rattle.layout.specs.Words.{state_of, no_words}
 use Rattle.words.specs.Events.{RunAsks, tried}
 
@@ -36,7 +36,6 @@ pub record Turnable (n : Network) (c : List ℕ) (t : Tally) : Type 0 where
   pub some : 1 ≤ n.sites
   pub few : n.sites ≤ sites_most
   pub deep : n.depth ≤ queue_room
-  pub words : length c ≡ word_count
   pub next : t.next ≤ sends_most
   pub accepted : t.accepted ≤ sends_most
   pub pairs : t.pairs ≤ sends_most * set_bits
@@ -72,14 +71,13 @@ pub record Turned (n : Network) (count : ℕ) (c d b q : List ℕ) (o : StoredSe
   pub same : (R : Run) → R.network ≡ n → R.count ≡ count → (t.next < count → o ≡ send_at R t.next)
       → (due R (standing t c b) ≡ false → t.clock.draw < 65535) → standing r d q ≡ turned R (standing t c b)
 
--- a run that can be played from these words: it is valid with room for its book, its network's arrays are whole, the words are zero
+-- a run that can be played from these words: it is valid with room for its book, the words are zero
 pub record Startable (R : Run) (c : List ℕ) (room : ℕ) : Type 0 where
   pub run : Playable R room
-  pub channels : length R.network.channels ≡ end_count
-  pub routes : length R.network.routes ≡ sites_most * sites_most
   pub words : c ≡ no_words
 
 -- where it stands after its last turn, the book b at first
 pub record Stands (R : Run) (d b q : List ℕ) (r : Tally) : Type 0 where
   pub size : length d ≡ word_count
+  pub draws : R.draws < 65536
   pub same : standing r d q ≡ progress R b (R.count + R.draws)

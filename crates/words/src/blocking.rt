@@ -2,29 +2,35 @@
 // player does not ask for them.
 ghost use Rattle.std.specs.Prelude.{◌≡◌};
 ghost use Rattle.model.specs.Steps.{blocking_at};
-ghost use Rattle.rules.specs.Router.{seek_only};
-ghost use Rattle.words.specs.Events.{SeekAsks, site_in};
+ghost use Rattle.words.specs.Events.{RunAsks, site_in};
 
 use crate::load::{load_input, load_outputs};
+use layout::WORDS;
 use rules::blocking_in;
+use types::Network;
 
 // Those that RUN (s, code) names, on the words of a state in range: a net-input's; no other code has any.
 pub(crate) fn blocking_in_place(
-    edition: u8,
-    routes: &[u16],
-    sites: usize,
-    tries: u8,
-    words: &[u64],
+    network: &Network,
+    words: &[u64; WORDS],
     s: usize,
     code: usize,
 ) -> u64
-    requires { SeekAsks routes.now sites words.now s }
-    ensures { result ≡ blocking_at (seek_only edition sites tries routes.now) s (site_in words.now s) code }
+    requires { RunAsks network.now words.now s }
+    ensures { result ≡ blocking_at network.now s (site_in words.now s) code }
 {
     if code < base::INPUTS {
         let input = load_input(words, s, code);
         let outputs = load_outputs(words, s);
-        return blocking_in(edition, routes, sites, tries, s, input, outputs);
+        return blocking_in(
+            network.edition,
+            &network.routes,
+            network.sites,
+            network.tries,
+            s,
+            input,
+            outputs,
+        );
     }
     0
 }

@@ -1,9 +1,8 @@
 // The outputs of a site that an arm of a net-input looks at: those with a mark read and written, and for the router whether each is in use.
-ghost use Rattle.std.specs.Prelude.{◌≡◌, cond, ◌&&◌, ◌<◌, length};
+ghost use Rattle.std.specs.Prelude.{◌≡◌, cond, ◌&&◌, ◌<◌};
 ghost use Rattle.base.specs.Sizes.{sites_most, output_count, split_port};
 ghost use Rattle.draws.specs.Draws.{restricted};
 ghost use Rattle.model.specs.Types.{no_output, out_at, set_site, set_out, with_outputs};
-ghost use Rattle.layout.specs.Layout.{word_count};
 ghost use Rattle.layout.specs.Words.{sites_of};
 ghost use Rattle.layout.specs.Stored.{Stored};
 ghost use Rattle.words.specs.Events.{site_in};
@@ -11,68 +10,59 @@ ghost use Rattle.words.specs.Marked as spec;
 
 use crate::load::{is_used, load_output};
 use crate::store::store_output;
-use rules::empty_output;
-use types::{Input, Output, Phase, Terminator};
+use layout::WORDS;
+use rules::{InputTurn, empty_output};
+use std::array;
+use types::{Output, Phase, Terminator};
 
 // Output j of site s if it is marked.
-fn load_if(words: &[u64], s: usize, j: usize, marked: bool) -> Output
-    requires { (s < sites_most) × (j < output_count) × (length words.now ≡ word_count) }
+fn load_if(words: &[u64; WORDS], s: usize, j: usize, marked: bool) -> Output
+    requires { (s < sites_most) × (j < output_count) }
     ensures { result ≡ cond marked (out_at (site_in words.now s) j) no_output }
 {
     if marked {
-        return load_output(words, s, j);
+        load_output(words, s, j)
+    } else {
+        empty_output()
     }
-    empty_output()
 }
 
 pub(crate) fn load_marked(
-    words: &[u64],
+    words: &[u64; WORDS],
     s: usize,
     marks: [bool; base::OUTPUTS],
 ) -> [Output; base::OUTPUTS]
-    requires { (s < sites_most) × (length words.now ≡ word_count) }
+    requires { s < sites_most }
     ensures { result ≡ spec.masked marks (site_in words.now s).outputs }
 {
-    [
-        load_if(words, s, 0, marks[0]),
-        load_if(words, s, 1, marks[1]),
-        load_if(words, s, 2, marks[2]),
-        load_if(words, s, 3, marks[3]),
-        load_if(words, s, 4, marks[4]),
-        load_if(words, s, 5, marks[5]),
-    ]
+    array::from_fn(|j| load_if(words, s, j, marks[j]))
 }
 
 // Output j of site s, if it is marked.
-fn store_if(words: &mut [u64], s: usize, j: usize, marked: bool, output: Output)
-    requires { (s < sites_most) × (j < output_count) × (length words.old ≡ word_count) }
+fn store_if(words: &mut [u64; WORDS], s: usize, j: usize, marked: bool, output: Output)
+    requires { (s < sites_most) × (j < output_count) }
     ensures { Stored words.old words.new
         (set_site (sites_of words.old) s
         (set_out (site_in words.old s) j (cond marked output (out_at (site_in words.old s) j)))) }
 {
     if marked {
         store_output(words, s, j, output);
-        return;
     }
 }
 
 pub(crate) fn store_marked(
-    words: &mut [u64],
+    words: &mut [u64; WORDS],
     s: usize,
     marks: [bool; base::OUTPUTS],
     outputs: [Output; base::OUTPUTS],
 )
-    requires { (s < sites_most) × (length words.old ≡ word_count) }
+    requires { s < sites_most }
     ensures { Stored words.old words.new
         (set_site (sites_of words.old) s
         (with_outputs (site_in words.old s) (spec.merged marks outputs (site_in words.old s).outputs))) }
 {
-    let mut j: usize = 0;
-    while j < base::OUTPUTS {
-        let marked = marks[j];
-        let output = outputs[j];
-        store_if(words, s, j, marked, output);
-        j += 1;
+    for (j, output) in outputs.iter().enumerate() {
+        store_if(words, s, j, marks[j], *output);
     }
 }
 
@@ -81,27 +71,28 @@ pub(crate) fn touched(phase: Phase, marks: [bool; base::OUTPUTS]) -> [bool; base
     ensures { result ≡ spec.touched phase marks }
 {
     match phase {
-        Phase::Free => [false; base::OUTPUTS],
-        Phase::Seek => [false; base::OUTPUTS],
-        Phase::Open(_) => [false; base::OUTPUTS],
-        Phase::Wait(_) => [false; base::OUTPUTS],
         Phase::Done(_, _) => marks,
-        Phase::Last(_, _) => [false; base::OUTPUTS],
-        Phase::Abort(_) => [false; base::OUTPUTS],
         Phase::FinAbort(_, _) => [true, false, false, false, false, false],
+        Phase::Free
+        | Phase::Seek
+        | Phase::Open(_)
+        | Phase::Wait(_)
+        | Phase::Last(_, _)
+        | Phase::Abort(_) => [false; base::OUTPUTS],
     }
 }
 
 // Those that the router's answer takes.
-pub(crate) fn opening(input: Input) -> [bool; base::OUTPUTS]
-    ensures { result ≡ spec.opening input }
+pub(crate) fn opening(turn: Option<InputTurn>) -> [bool; base::OUTPUTS]
+    ensures { result ≡ spec.opening turn }
 {
-    let phase = input.phase;
-    let marks = input.outputs;
-    if types::state_number(phase) == 2 {
-        return marks;
+    let Some(turn) = turn else {
+        return [false; base::OUTPUTS];
+    };
+    match turn.input.phase {
+        Phase::Open(_) => turn.input.outputs,
+        _ => [false; base::OUTPUTS],
     }
-    [false; base::OUTPUTS]
 }
 
 // Those that the timeout looks at.
@@ -129,19 +120,16 @@ fn glimpse(used: bool) -> Output
 }
 
 // Whether the split output is in use; it is looked at in edition 3 alone.
-fn is_split_used(edition: u8, words: &[u64], s: usize) -> bool
-    requires { (s < sites_most) × (length words.now ≡ word_count) }
+fn is_split_used(edition: u8, words: &[u64; WORDS], s: usize) -> bool
+    requires { s < sites_most }
     ensures { result ≡ (restricted edition && (out_at (site_in words.now s) split_port).used) }
 {
-    if draws::is_restricted(edition) {
-        return is_used(words, s, base::SPLIT_PORT);
-    }
-    false
+    draws::is_restricted(edition) && is_used(words, s, base::SPLIT_PORT)
 }
 
 // The outputs as the router sees them.
-pub(crate) fn load_seen(edition: u8, words: &[u64], s: usize) -> [Output; base::OUTPUTS]
-    requires { (s < sites_most) × (length words.now ≡ word_count) }
+pub(crate) fn load_seen(edition: u8, words: &[u64; WORDS], s: usize) -> [Output; base::OUTPUTS]
+    requires { s < sites_most }
     ensures { result ≡ spec.seen edition (site_in words.now s).outputs }
 {
     [

@@ -1,12 +1,12 @@
 // The owed pairs of the state that words stand for, site by site.
-ghost use Rattle.std.specs.Prelude.{◌≡◌, length};
+ghost use Rattle.std.specs.Prelude.{◌≡◌};
 ghost use Rattle.model.specs.Owing.{owed_pairs};
-ghost use Rattle.layout.specs.Layout.{word_count};
 ghost use Rattle.layout.specs.Words.{sites_of};
 ghost use Rattle.words.specs.Owing.{owed_words};
 
-use crate::form::is_state;
+use crate::form::is_canonical;
 use crate::load::load_site;
+use layout::WORDS;
 
 // The owed pairs of lent words, or 13.
 #[derive(Clone, Copy)]
@@ -15,14 +15,12 @@ pub struct OwedAnswer {
     pub refusal: u8,
 }
 
-pub(crate) fn owed_in_place(words: &[u64]) -> usize
-    requires { length words.now ≡ word_count }
+pub(crate) fn owed_in_place(words: &[u64; WORDS]) -> usize
     ensures { result ≡ owed_pairs (sites_of words.now) }
 {
-    let mut n = 0usize;
-    for s in 0usize..base::SITES {
-        let site = load_site(words, s);
-        n += machine::site_pairs(s, site);
+    let mut n = 0;
+    for s in 0..base::SITES {
+        n += machine::site_pairs(s, load_site(words, s));
     }
     n
 }
@@ -31,14 +29,14 @@ pub(crate) fn owed_in_place(words: &[u64]) -> usize
 pub fn owed(words: &[u64]) -> OwedAnswer
     ensures { result ≡ owed_words words.now }
 {
-    if is_state(words) {
-        return OwedAnswer {
+    match words.as_array::<WORDS>() {
+        Some(words) if is_canonical(words) => OwedAnswer {
             pairs: owed_in_place(words),
             refusal: 0,
-        };
-    }
-    OwedAnswer {
-        pairs: 0,
-        refusal: 13,
+        },
+        _ => OwedAnswer {
+            pairs: 0,
+            refusal: 13,
+        },
     }
 }

@@ -1,95 +1,57 @@
 // A place as two words, its set and its small fields packed, and back. Takes any place and any words.
-ghost use Rattle.std.specs.Prelude.{◌≡◌, ◌<◌, ◌≤◌, length};
-ghost use Rattle.base.specs.Bools.{count};
+ghost use Rattle.std.specs.Prelude.{◌≡◌, ◌/◌, ◌%◌, ◌<◌, length};
 ghost use Rattle.base.specs.Sizes.{output_count};
 ghost use Rattle.types.specs.Numbers.{connection_of};
 ghost use Rattle.layout.specs.Packed as spec;
 
 use types::{Connection, InEntry, Input, OutEntry, Output, Phase, Received, Terminator};
 
-// A byte as a word.
-fn word(x: u8) -> u64
-    ensures { (result ≡ x) × (result < 256) }
-{
-    x as u64
-}
-
-fn bit(b: bool) -> u64
-    ensures { (result ≡ count b) × (result ≤ 1) }
-{
-    if b { 1 } else { 0 }
-}
-
 fn connection_at(m: u64) -> Connection
     ensures { result ≡ spec.connection_at m }
 {
-    if m == 1 {
-        return Connection::Unicast;
+    match m {
+        1 => Connection::Unicast,
+        2 => Connection::Passthru,
+        3 => Connection::AllRemote,
+        4 => Connection::SomeLocal,
+        5 => Connection::Handed,
+        _ => Connection::Branch,
     }
-    if m == 2 {
-        return Connection::Passthru;
-    }
-    if m == 3 {
-        return Connection::AllRemote;
-    }
-    if m == 4 {
-        return Connection::SomeLocal;
-    }
-    if m == 5 {
-        return Connection::Handed;
-    }
-    Connection::Branch
 }
 
 fn received_at(m: u64) -> Received
     ensures { result ≡ spec.received_at m }
 {
-    if m == 1 {
-        return Received::End;
+    match m {
+        1 => Received::End,
+        _ => Received::Abort,
     }
-    Received::Abort
 }
 
 fn terminator_at(m: u64) -> Terminator
     ensures { result ≡ spec.terminator_at m }
 {
-    if m == 0 {
-        return Terminator::None;
+    match m {
+        0 => Terminator::None,
+        1 => Terminator::End,
+        2 => Terminator::Abort,
+        _ => Terminator::KeepLocal,
     }
-    if m == 1 {
-        return Terminator::End;
-    }
-    if m == 2 {
-        return Terminator::Abort;
-    }
-    Terminator::KeepLocal
 }
 
 fn phase_at(m: u64, connection: Connection, received: Received) -> Phase
     ensures { result ≡ spec.phase_at m connection received }
 {
-    if m == 0 {
-        return Phase::Free;
+    match m {
+        0 => Phase::Free,
+        1 => Phase::Seek,
+        2 => Phase::Open(connection),
+        3 => Phase::Wait(connection),
+        4 => Phase::Done(connection, received),
+        5 => Phase::Last(connection, received),
+        6 => Phase::Abort(connection),
+        _ => Phase::FinAbort(connection, received),
     }
-    if m == 1 {
-        return Phase::Seek;
-    }
-    if m == 2 {
-        return Phase::Open(connection);
-    }
-    if m == 3 {
-        return Phase::Wait(connection);
-    }
-    if m == 4 {
-        return Phase::Done(connection, received);
-    }
-    if m == 5 {
-        return Phase::Last(connection, received);
-    }
-    if m == 6 {
-        return Phase::Abort(connection);
-    }
-    Phase::FinAbort(connection, received)
 }
 
 // The number of a state's connection; 0 where it has none.
@@ -97,14 +59,13 @@ fn connection_of(phase: Phase) -> u8
     ensures { result ≡ connection_of phase }
 {
     match phase {
-        Phase::Free => 0,
-        Phase::Seek => 0,
-        Phase::Open(c) => types::connection_number(c),
-        Phase::Wait(c) => types::connection_number(c),
-        Phase::Done(c, _) => types::connection_number(c),
-        Phase::Last(c, _) => types::connection_number(c),
-        Phase::Abort(c) => types::connection_number(c),
-        Phase::FinAbort(c, _) => types::connection_number(c),
+        Phase::Free | Phase::Seek => 0,
+        Phase::Open(c)
+        | Phase::Wait(c)
+        | Phase::Done(c, _)
+        | Phase::Last(c, _)
+        | Phase::Abort(c)
+        | Phase::FinAbort(c, _) => types::connection_number(c),
     }
 }
 
@@ -113,26 +74,25 @@ fn received_of(phase: Phase) -> u8
     ensures { result ≡ spec.received_of phase }
 {
     match phase {
-        Phase::Free => 0,
-        Phase::Seek => 0,
-        Phase::Open(_) => 0,
-        Phase::Wait(_) => 0,
-        Phase::Done(_, r) => types::received_number(r),
-        Phase::Last(_, r) => types::received_number(r),
-        Phase::Abort(_) => 0,
-        Phase::FinAbort(_, r) => types::received_number(r),
+        Phase::Done(_, r) | Phase::Last(_, r) | Phase::FinAbort(_, r) => types::received_number(r),
+        Phase::Free | Phase::Seek | Phase::Open(_) | Phase::Wait(_) | Phase::Abort(_) => 0,
     }
 }
 
+// The state of a net-input by its packed word.
+pub(crate) fn phase_from(w: u64) -> Phase
+    ensures { result ≡ spec.phase_at (w % 8) (spec.connection_at (w / 8 % 8)) (spec.received_at (w / 64 % 4)) }
+{
+    phase_at(w % 8, connection_at(w / 8 % 8), received_at(w / 64 % 4))
+}
+
+#[tactic(auto, unfolding(layout::specs::Packed::input_from))]
 pub(crate) fn input_from(set: u64, w: u64) -> Input
     ensures { result ≡ spec.input_from set w }
 {
-    let connection = connection_at(w / 8 % 8);
-    let received = received_at(w / 64 % 4);
-    let phase = phase_at(w % 8, connection, received);
     Input {
         set,
-        phase,
+        phase: phase_from(w),
         outputs: [
             w / 256 % 2 == 1,
             w / 512 % 2 == 1,
@@ -150,90 +110,86 @@ pub(crate) fn input_from(set: u64, w: u64) -> Input
 fn marks_word(marks: [bool; base::OUTPUTS]) -> u64
     ensures { (result ≡ spec.marks_word marks) × (result < 65536) × (length marks ≡ output_count) }
 {
-    256 * bit(marks[0])
-        + 512 * bit(marks[1])
-        + 1024 * bit(marks[2])
-        + 2048 * bit(marks[3])
-        + 4096 * bit(marks[4])
-        + 8192 * bit(marks[5])
+    256 * u64::from(marks[0])
+        + 512 * u64::from(marks[1])
+        + 1024 * u64::from(marks[2])
+        + 2048 * u64::from(marks[3])
+        + 4096 * u64::from(marks[4])
+        + 8192 * u64::from(marks[5])
 }
 
+#[tactic(auto, unfolding(layout::specs::Packed::input_word))]
 pub(crate) fn input_word(input: Input) -> u64
-    ensures { (result ≡ spec.input_word input) × (input.packet < 256) × (input.tries < 256) × (length input.outputs ≡ output_count) }
+    ensures { (result ≡ spec.input_word input) × (input.packet < 256) × (input.tries < 256) ×
+        (length input.outputs ≡ output_count) }
 {
-    let phase = input.phase;
-    let marks = input.outputs;
-    let packet = input.packet;
-    let tries = input.tries;
-    word(types::state_number(phase))
-        + 8 * word(connection_of(phase))
-        + 64 * word(received_of(phase))
-        + marks_word(marks)
-        + 65536 * word(packet)
-        + 16777216 * word(tries)
+    u64::from(types::state_number(input.phase))
+        + 8 * u64::from(connection_of(input.phase))
+        + 64 * u64::from(received_of(input.phase))
+        + marks_word(input.outputs)
+        + 65536 * u64::from(input.packet)
+        + 16777216 * u64::from(input.tries)
 }
 
+#[tactic(auto, unfolding(layout::specs::Packed::output_from))]
 pub(crate) fn output_from(set: u64, w: u64) -> Output
     ensures { result ≡ spec.output_from set w }
 {
-    let terminator = terminator_at(w / 4 % 4);
     Output {
         set,
-        terminator,
+        terminator: terminator_at(w / 4 % 4),
         packet: (w / 65536 % 256) as u8,
         input: (w / 256 % 256) as u8,
-        used: w / 1 % 2 == 1,
+        used: w % 2 == 1,
         head: w / 2 % 2 == 1,
         closing: w / 16 % 2 == 1,
     }
 }
 
+#[tactic(auto, unfolding(layout::specs::Packed::output_word))]
 pub(crate) fn output_word(output: Output) -> u64
     ensures { (result ≡ spec.output_word output) × (output.packet < 256) × (output.input < 256) }
 {
-    let terminator = output.terminator;
-    let input = output.input;
-    let packet = output.packet;
-    bit(output.used)
-        + 2 * bit(output.head)
-        + 4 * word(types::terminator_number(terminator))
-        + 16 * bit(output.closing)
-        + 256 * word(input)
-        + 65536 * word(packet)
+    u64::from(output.used)
+        + 2 * u64::from(output.head)
+        + 4 * u64::from(types::terminator_number(output.terminator))
+        + 16 * u64::from(output.closing)
+        + 256 * u64::from(output.input)
+        + 65536 * u64::from(output.packet)
 }
 
+#[tactic(auto, unfolding(layout::specs::Packed::out_entry_from))]
 pub(crate) fn out_entry_from(set: u64, w: u64) -> OutEntry
     ensures { result ≡ spec.out_entry_from set w }
 {
     OutEntry {
         set,
         packet: (w / 256 % 256) as u8,
-        started: w / 1 % 2 == 1,
+        started: w % 2 == 1,
     }
 }
 
+#[tactic(auto, unfolding(layout::specs::Packed::out_entry_word))]
 pub(crate) fn out_entry_word(entry: OutEntry) -> u64
     ensures { (result ≡ spec.out_entry_word entry) × (entry.packet < 256) }
 {
-    let packet = entry.packet;
-    bit(entry.started) + 256 * word(packet)
+    u64::from(entry.started) + 256 * u64::from(entry.packet)
 }
 
+#[tactic(auto, unfolding(layout::specs::Packed::in_entry_from))]
 pub(crate) fn in_entry_from(set: u64, w: u64) -> InEntry
     ensures { result ≡ spec.in_entry_from set w }
 {
-    let terminator = terminator_at(w % 4);
     InEntry {
         set,
-        terminator,
+        terminator: terminator_at(w % 4),
         packet: (w / 256 % 256) as u8,
     }
 }
 
+#[tactic(auto, unfolding(layout::specs::Packed::in_entry_word))]
 pub(crate) fn in_entry_word(entry: InEntry) -> u64
     ensures { (result ≡ spec.in_entry_word entry) × (entry.packet < 256) }
 {
-    let terminator = entry.terminator;
-    let packet = entry.packet;
-    word(types::terminator_number(terminator)) + 256 * word(packet)
+    u64::from(types::terminator_number(entry.terminator)) + 256 * u64::from(entry.packet)
 }

@@ -1,17 +1,18 @@
 // What a rule says of the places that it names, read from the words: loads, then the rule by value.
-ghost use Rattle.std.specs.Prelude.{◌≡◌, true, suc, ◌<◌, length};
+ghost use Rattle.std.specs.Prelude.{◌≡◌, true, suc, ◌<◌};
 ghost use Rattle.base.specs.Sizes.{sites_most, port_count, in_queue_count};
 ghost use Rattle.model.specs.Types.{in_at, out_at, queue_at, queue_port};
 ghost use Rattle.model.specs.Places as places;
 ghost use Rattle.model.specs.Steps.{far_end};
 ghost use Rattle.rules.specs.Turns.{of_local_turn, of_channel_turn, of_queue_turn, of_work, of_input_turn};
-ghost use Rattle.layout.specs.Layout.{word_count, end_count};
+ghost use Rattle.layout.specs.Layout.{end_count};
 ghost use Rattle.layout.specs.Words.{sites_of};
 ghost use Rattle.words.specs.Events.{site_in};
 ghost use Rattle.words.specs.Marked.{masked};
 
 use crate::load::{load_in_queue, load_input, load_out_queue, load_output};
 use crate::marked::load_marked;
+use layout::WORDS;
 use rules::{
     ChannelTurn, InputTurn, LocalTurn, OperatorTurn, QueueTurn, channel_output, local_output,
     operator, out_queue, time_out,
@@ -19,10 +20,14 @@ use rules::{
 use types::Input;
 
 // The output that fills in-queue q.
-pub(crate) fn local_turn(depth: usize, words: &[u64], s: usize, q: usize) -> LocalTurn
-    requires { (s < sites_most) × (q < in_queue_count) × (length words.now ≡ word_count) }
-    ensures { result ≡ of_local_turn (out_at (site_in words.now s) (queue_port q)) (queue_at (site_in words.now s) q)
-        (places.local_output depth (out_at (site_in words.now s) (queue_port q))
+pub(crate) fn local_turn(
+    depth: usize,
+    words: &[u64; WORDS],
+    s: usize,
+    q: usize,
+) -> Option<LocalTurn>
+    requires { (s < sites_most) × (q < in_queue_count) }
+    ensures { result ≡ of_local_turn (places.local_output depth (out_at (site_in words.now s) (queue_port q))
         (queue_at (site_in words.now s) q)) }
 {
     let output = load_output(words, s, base::SPLIT_PORT * q);
@@ -33,14 +38,13 @@ pub(crate) fn local_turn(depth: usize, words: &[u64], s: usize, q: usize) -> Loc
 // Output j + 1, and the input at the end of its channel, this one.
 pub(crate) fn channel_turn(
     edition: u8,
-    words: &[u64],
+    words: &[u64; WORDS],
     s: usize,
     j: usize,
     channel: u16,
-) -> ChannelTurn
-    requires { (s < sites_most) × (j < port_count) × (length words.now ≡ word_count) × (channel < end_count) }
-    ensures { result ≡ of_channel_turn (out_at (site_in words.now s) (suc j)) (far_end (sites_of words.now) channel)
-        (places.channel_output edition true (out_at (site_in words.now s) (suc j))
+) -> Option<ChannelTurn>
+    requires { (s < sites_most) × (j < port_count) × (channel < end_count) }
+    ensures { result ≡ of_channel_turn (places.channel_output edition true (out_at (site_in words.now s) (suc j))
         (far_end (sites_of words.now) channel)) }
 {
     let b = base::wider(channel);
@@ -49,10 +53,9 @@ pub(crate) fn channel_turn(
     channel_output(edition, true, output, input)
 }
 
-pub(crate) fn queue_turn(words: &[u64], s: usize) -> QueueTurn
-    requires { (s < sites_most) × (length words.now ≡ word_count) }
-    ensures { result ≡ of_queue_turn (site_in words.now s).outgoing (in_at (site_in words.now s) 0)
-        (places.out_queue (site_in words.now s).outgoing (in_at (site_in words.now s) 0)) }
+pub(crate) fn queue_turn(words: &[u64; WORDS], s: usize) -> Option<QueueTurn>
+    requires { s < sites_most }
+    ensures { result ≡ of_queue_turn (places.out_queue (site_in words.now s).outgoing (in_at (site_in words.now s) 0)) }
 {
     let queue = load_out_queue(words, s);
     let input = load_input(words, s, 0);
@@ -60,10 +63,14 @@ pub(crate) fn queue_turn(words: &[u64], s: usize) -> QueueTurn
 }
 
 // The operator at in-queue q.
-pub(crate) fn operator_turn(depth: usize, words: &[u64], s: usize, q: usize) -> OperatorTurn
-    requires { (s < sites_most) × (q < in_queue_count) × (length words.now ≡ word_count) }
-    ensures { result ≡ of_work (queue_at (site_in words.now s) q) (site_in words.now s).outgoing
-        (places.operator depth s (queue_at (site_in words.now s) q) (site_in words.now s).outgoing) }
+pub(crate) fn operator_turn(
+    depth: usize,
+    words: &[u64; WORDS],
+    s: usize,
+    q: usize,
+) -> Option<OperatorTurn>
+    requires { (s < sites_most) × (q < in_queue_count) }
+    ensures { result ≡ of_work (places.operator depth s (queue_at (site_in words.now s) q) (site_in words.now s).outgoing) }
 {
     let incoming = load_in_queue(words, s, q);
     let outgoing = load_out_queue(words, s);
@@ -73,14 +80,13 @@ pub(crate) fn operator_turn(depth: usize, words: &[u64], s: usize, q: usize) -> 
 // The timeout, on the net-input that feeds output 0 and the marked outputs.
 pub(crate) fn timeout_turn(
     edition: u8,
-    words: &[u64],
+    words: &[u64; WORDS],
     s: usize,
     marks: [bool; base::OUTPUTS],
     input: Input,
-) -> InputTurn
-    requires { (s < sites_most) × (length words.now ≡ word_count) }
-    ensures { result ≡ of_input_turn input (masked marks (site_in words.now s).outputs)
-        (places.timeout edition (queue_at (site_in words.now s) 0)
+) -> Option<InputTurn>
+    requires { s < sites_most }
+    ensures { result ≡ of_input_turn (places.timeout edition (queue_at (site_in words.now s) 0)
         (masked marks (site_in words.now s).outputs) input) }
 {
     let queue = load_in_queue(words, s, 0);

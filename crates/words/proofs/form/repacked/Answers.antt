@@ -45,9 +45,9 @@ returns-then-k-lt-COUNTS_FROM c =
       lt-ltb _ _ c.if-k-lt-COUNTS_FROM.true,
     ) refl
 
-pub returns : goal.returns
+pub returns-else-k-lt-COUNTS_FROM : goal.returns-else-k-lt-COUNTS_FROM
 unfolding repacked
-returns c =
+returns-else-k-lt-COUNTS_FROM c =
     rw (
       le-ltb _ _ c.if-k-lt-OUTPUTS_FROM.false,
       le-ltb _ _ c.if-k-lt-LEAVING_FROM.false,

@@ -1,14 +1,11 @@
-use mathlib.Core.Path.{sym}
-use native.Mathlib.Omega.{arith}
-use Rattle.base.specs.All.{all_none, all_next, all_end}
+use mathlib.Core.Path.{refl}
+use Rattle.base.specs.Ranges.{all_in_range}
+use Rattle.layout.specs.Layout.{site_places}
+use Rattle.layout.specs.Words.{place_same}
 use borrow.Author.Rules.{rules}
 use Rattle.words.proofs.form.site_same.Goals as goal
 
-pub loop-k-init : goal.loop-k-init
-loop-k-init c = (omega arith, sym (all_none _))
-
-pub loop-k-preserved : goal.loop-k-preserved
-loop-k-preserved c = (search rules, all_next _ c.loop-k.k _ _ c.loop-k.invariant.1 c.place_same-one.ensures)
-
 pub returns : goal.returns
-returns c = all_end _ 38 c.loop-k.k _ c.loop-k.invariant.0 (search rules) c.loop-k.invariant.1
+returns c =
+    let a = c.args in
+    rw (all_in_range (place_same a.words.now a.s) site_places _ _ _ c.all.ensures.ran refl (λ x b q k. search rules)) refl

@@ -1,19 +1,15 @@
-use mathlib.Core.Path.{refl, sym}
+use mathlib.Core.Path.{refl}
 use borrow.Author.Tests.{eq-eqb, ne_eqb}
-use Rattle.layout.specs.Words.{emptied}
+use Rattle.layout.specs.Words.{no_words, emptied}
+use borrow.Author.Rules.{rules}
 use Rattle.words.proofs.form.write_empty.Goals as goal
 
-pub write_zeros-requires : goal.write_zeros-requires
-write_zeros-requires c = c.if-words-eq-WORDS.true
+pub returns-then-sized : goal.returns-then-sized
+unfolding emptied no_words
+returns-then-sized c =
+    let h = c.if-sized.true in
+    (refl, rw (eq-eqb _ _ h) (rw h at (c.fill.ensures.after (λ y e. search rules))))
 
-pub returns-then-words-eq-WORDS : goal.returns-then-words-eq-WORDS
+pub returns-else-sized : goal.returns-else-sized
 unfolding emptied
-returns-then-words-eq-WORDS c = (
-  sym (eq-eqb _ _ c.if-words-eq-WORDS.true),
-  rw (eq-eqb _ _ c.if-words-eq-WORDS.true)
-      c.write_zeros.ensures,
-)
-
-pub returns : goal.returns
-unfolding emptied
-returns c = (sym (ne_eqb _ _ c.if-words-eq-WORDS.false), rw (ne_eqb _ _ c.if-words-eq-WORDS.false) refl)
+returns-else-sized c = (refl, rw (ne_eqb _ _ c.if-sized.false) refl)

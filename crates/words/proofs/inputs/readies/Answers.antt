@@ -1,3 +1,4 @@
+use mathlib.Core.Bool.{and-true}
 use Rattle.words.proofs.inputs.readies.Goals as goal
 
 pub returns : goal.returns
@@ -8,5 +9,6 @@ returns c =
       c.is_ready-3.ensures,
       c.is_ready-2.ensures,
       c.is_ready.ensures,
-      c.is_taken-own.ensures,
+      c.is_taken.ensures,
+      and-true _,
     )

@@ -4,5 +4,5 @@ use Rattle.words.proofs.inputs.seek_in_place.Goals as goal
 pub returns : goal.returns
 returns c =
     let pre = c.requires in
-    sought_done _ _ _ _ _ _ _ _ _ _ _ pre.seekable pre.seeks c.seeking-turn.ensures
-    c.opening-marks.ensures c.put_input.ensures
+    let turn = c.seeking-turn.ensures in
+    sought_done _ _ _ _ _ c.args.network.now _ _ pre.asks turn.routes pre.place pre.seeks turn.turn c.opening-marks.ensures c.put_input.ensures

@@ -1,15 +1,18 @@
-use Rattle.words.proofs.Publics.{sized}
-use mathlib.Core.Path.{sym, ◌∙◌}
+use mathlib.Core.Path.{refl}
 use Rattle.words.specs.Owing.{owed_words}
+use Rattle.words.proofs.Publics.{whole_state, unsized_state}
 use Rattle.words.proofs.owing.owed.Goals as goal
 
-pub owed_in_place-requires : goal.owed_in_place-requires
-owed_in_place-requires c = sized c.args.words.now (sym c.is_state.ensures ∙ c.if-is_state.true)
-
-pub returns-then-is_state : goal.returns-then-is_state
+pub returns-in-Some : goal.returns-in-Some
 unfolding owed_words
-returns-then-is_state c = rw (sym c.is_state.ensures ∙ c.if-is_state.true, c.owed_in_place.ensures)
+returns-in-Some c =
+    let w = c.in-Some.ensures.cases in
+    rw (whole_state _ _ w, ← c.is_canonical.ensures, c.if-is_canonical.true, c.owed_in_place.ensures, w.same) refl
 
-pub returns : goal.returns
+pub returns-in_default : goal.returns-in_default
 unfolding owed_words
-returns c = rw (sym c.is_state.ensures ∙ c.if-is_state.false)
+returns-in_default c = rw (whole_state _ _ c.in-Some.ensures.cases, ← c.is_canonical.ensures, c.if-is_canonical.false) refl
+
+pub returns-in_default-2 : goal.returns-in_default-2
+unfolding owed_words
+returns-in_default-2 c = rw (unsized_state _ (rw c.in_default.is at c.as_array.ensures.cases)) refl

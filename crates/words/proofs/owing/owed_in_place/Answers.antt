@@ -28,7 +28,7 @@ loop-s-preserved c =
         arith,
         l.invariant.2,
         c.site_pairs-n.ensures.0,
-        ap (pairs_site l.s) c.load_site-site.ensures,
+        ap (pairs_site l.s) c.load_site.ensures,
         isum_next pairs_site xs l.s site_d (omega arith),
       ),
     )

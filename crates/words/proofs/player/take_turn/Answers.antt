@@ -8,8 +8,8 @@ returns-then-is_due c =
     let is_due = c.is_due in
     send_turned _ _ _ _ _ _ _ _ _ _ is_due.ensures if1.true c.send_turn.ensures refl
 
-pub returns : goal.returns
-returns c =
+pub returns-else-is_due : goal.returns-else-is_due
+returns-else-is_due c =
     let draw_turn = c.draw_turn in
     let if1 = c.if-is_due in
     let is_due = c.is_due in

@@ -1,17 +1,18 @@
-use mathlib.Core.Path.{sym}
-use native.Mathlib.Omega.{arith}
-use borrow.Author.Rules.{rules}
-use Rattle.base.specs.All.{all_none, all_next}
+use mathlib.Core.Path.{refl}
+use Prim.Native.Nat.{ℕ}
+use Rattle.base.specs.Sizes.{sites_most}
+use Rattle.base.specs.Ranges.{all_in_range}
+use Rattle.model.specs.Types.{site_at}
+use Rattle.model.specs.Range.{place_ok}
+use Rattle.layout.specs.Words.{sites_of}
 use Rattle.words.proofs.Publics.{range_found}
+use borrow.Author.Rules.{rules}
 use Rattle.words.proofs.refusals.is_in_range.Goals as goal
 
-pub loop-s-init : goal.loop-s-init
-loop-s-init c = (omega arith, sym (all_none _))
-
-pub loop-s-preserved : goal.loop-s-preserved
-loop-s-preserved c =
-    let l = c.loop-s in
-    (search rules, all_next _ l.s _ _ l.invariant.1 (rw (← c.load_site-site.ensures) c.place_ok-one.ensures))
-
 pub returns : goal.returns
-returns c = range_found _ _ _ _ _ _ _ _ c.load_counter-counter.ensures c.loop-s.invariant.0 (search rules) c.loop-s.invariant.1
+returns c =
+    let n = c.args.network.now in
+    let xs = sites_of c.args.words.now in
+    let ok = λ (t : ℕ). place_ok n.edition n.sites n.tries n.depth c.load_counter-counter.result t (site_at xs t) in
+    range_found n _ c.args.words.now _ c.load_counter-counter.ensures
+    (all_in_range ok sites_most _ _ c.all.result c.all.ensures.ran refl (λ x b q k. search rules))

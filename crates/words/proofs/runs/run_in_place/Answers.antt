@@ -1,7 +1,7 @@
 use Prim.Native.Nat.{ℕ, ◌-◌, ◌<◌}
 use native.Mathlib.Omega.{arith}
 use Rattle.base.specs.Sizes.{port_count}
-use Rattle.words.proofs.Codes.{by_input, by_local, by_channel_lem, by_queue, by_operator, by_timeout, by_none, seekable}
+use Rattle.words.proofs.Codes.{by_input, by_local, by_channel_lem, by_queue, by_operator, by_timeout, by_none}
 use Rattle.words.proofs.Codes.{which_queue}
 use borrow.Author.Rules.{rules}
 use Rattle.words.proofs.runs.run_in_place.Goals as goal
@@ -14,7 +14,6 @@ local_in_place-requires c =
     let p = c.requires in (
       omega (arith, p.site, p.few),
       which_queue c.args.code c.in-5.is (omega arith) (omega arith),
-      p.words,
     )
 
 pub operator_in_place-requires : goal.operator_in_place-requires
@@ -22,42 +21,17 @@ operator_in_place-requires c =
     let p = c.requires in (
       omega (arith, p.site, p.few),
       which_queue c.args.code c.in-11.is (omega arith) (omega arith),
-      p.words,
     )
 
 pub input_in_place-requires : goal.input_in_place-requires
-input_in_place-requires c =
-    let a = c.args in
-    let p = c.requires in
-    let i : a.code < 5 = omega arith in
-    record {
-      place = (i, p.channels);
-      within = λ j h e. p.ends j h e;
-      seekable = seekable a.version a.edition a.sites a.depth a.tries a.channels.now a.routes.now
-          a.words.now a.s p a.code i;
-    }
-
-pub overflow_sub-code : goal.overflow_sub-code
-overflow_sub-code c = grind arith
-
-pub overflow_sub-code-in-6-to-9 : goal.overflow_sub-code-in-6-to-9
-overflow_sub-code-in-6-to-9 c = grind arith
-
-pub overflow_add-s : goal.overflow_add-s
-overflow_add-s c = omega (arith, c.requires.site, c.requires.few)
-
-pub offset_bounds-channels-s : goal.offset_bounds-channels-s
-offset_bounds-channels-s c = omega (arith, c.requires.site, c.requires.few)
-
-pub bounds-channels-s : goal.bounds-channels-s
-bounds-channels-s c = omega (arith, c.requires.site, c.requires.few, c.requires.channels)
+input_in_place-requires c = record { place = omega arith; asks = c.requires }
 
 pub channel_in_place-requires : goal.channel_in_place-requires
 channel_in_place-requires c =
     let a = c.args in
     let p = c.requires in
     let j = port_below a.code (omega arith) in
-    (omega (arith, p.site, p.few), j, p.words, λ e. p.ends (a.code - 6) j e)
+    (omega (arith, p.site, p.few), j, λ e. p.ends (a.code - 6) j e)
 
 pub returns-in-5 : goal.returns-in-5
 returns-in-5 c = by_local _ _ _ _ _ _ c.in-5.is (c.local_in_place.ensures _)
@@ -72,7 +46,7 @@ pub returns-in-12 : goal.returns-in-12
 returns-in-12 c = by_timeout _ _ _ _ _ _ c.in-12.is (c.timeout_in_place.ensures _)
 
 pub returns-in-0-to-4 : goal.returns-in-0-to-4
-returns-in-0-to-4 c = by_input _ _ _ _ _ _ (omega arith) (c.input_in_place.ensures _ _)
+returns-in-0-to-4 c = by_input _ _ _ _ _ _ (omega arith) c.input_in_place.ensures
 
 pub returns-in-6-to-9 : goal.returns-in-6-to-9
 returns-in-6-to-9 c =

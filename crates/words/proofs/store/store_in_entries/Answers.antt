@@ -1,32 +1,18 @@
-use mathlib.Core.Path.{◌≡◌, sym, ◌∙◌}
+use mathlib.Core.Path.{◌≡◌}
 use lib.ListN.{length}
-use native.Mathlib.Omega.{arith}
 use Rattle.layout.proofs.Chained.{arrived_part, arrived_kept, none_filled, one_filled, all_filled}
 use borrow.Author.Rules.{rules}
 use Rattle.words.proofs.store.store_in_entries.Goals as goal
 
 pub loop-m-init : goal.loop-m-init
-loop-m-init c = (omega arith, none_filled (arrived_part c.args.q) _ _ c.args.entries c.requires.2)
-
-pub store_in_entry-requires : goal.store_in_entry-requires
-store_in_entry-requires c =
-    let loop = c.loop-m in
-    let pre = c.requires in
-    (pre.0, pre.1, omega arith, loop.invariant.1.size)
+loop-m-init c = none_filled (arrived_part c.args.q) _ _ c.args.entries (search rules)
 
 pub loop-m-preserved : goal.loop-m-preserved
 loop-m-preserved c =
-    let loop = c.loop-m in
-    let l = loop in (
-      omega arith,
-      one_filled (arrived_part _) (arrived_kept _ c.requires.1) _ _ _ _ c.args.entries _ c.requires.0 c.loop-m-test.true l.invariant.1
-          c.store_in_entry.ensures,
-    )
-
-pub shape_of-words : goal.shape_of-words
-shape_of-words c = c.loop-m.invariant.1.size ∙ sym c.requires.2
+    one_filled (arrived_part _) (arrived_kept _ c.requires.1) _ _ _ _ c.args.entries _ c.requires.0 (search rules) c.loop-m.invariant
+    c.store_in_entry.ensures
 
 pub returns : goal.returns
 returns c =
     let e : length c.args.entries ≡ 8 = search rules in
-    all_filled (arrived_part _) (arrived_kept _ c.requires.1) _ _ _ _ c.loop-m.m c.requires.0 e (omega arith) c.loop-m.invariant.1
+    all_filled (arrived_part _) (arrived_kept _ c.requires.1) _ _ _ _ c.loop-m.m c.requires.0 e (search rules) c.loop-m.invariant
