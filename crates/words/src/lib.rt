@@ -27,5 +27,5 @@ mod turns;
 pub use events::{run, send};
 pub use form::write_empty;
 pub use layout::WORDS;
-pub use owing::{OwedAnswer, owed};
+pub use owing::owed;
 pub use player::{Tally, play};

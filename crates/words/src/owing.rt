@@ -2,18 +2,12 @@
 ghost use Rattle.std.specs.Prelude.{◌≡◌};
 ghost use Rattle.model.specs.Owing.{owed_pairs};
 ghost use Rattle.layout.specs.Words.{sites_of};
-ghost use Rattle.words.specs.Owing.{owed_words};
+ghost use Rattle.words.specs.Owing.{owed_words, told_owed};
 
 use crate::form::is_canonical;
 use crate::load::load_site;
+use base::Refusal;
 use layout::WORDS;
-
-// The owed pairs of lent words, or 13.
-#[derive(Clone, Copy)]
-pub struct OwedAnswer {
-    pub pairs: usize,
-    pub refusal: u8,
-}
 
 pub(crate) fn owed_in_place(words: &[u64; WORDS]) -> usize
     ensures { result ≡ owed_pairs (sites_of words.now) }
@@ -26,17 +20,11 @@ pub(crate) fn owed_in_place(words: &[u64; WORDS]) -> usize
 }
 
 // The owed pairs of the state that any lent words stand for; 13 for words that are no state's.
-pub fn owed(words: &[u64]) -> OwedAnswer
-    ensures { result ≡ owed_words words.now }
+pub fn owed(words: &[u64]) -> Result<usize, Refusal>
+    ensures { told_owed result ≡ owed_words words.now }
 {
     match words.as_array::<WORDS>() {
-        Some(words) if is_canonical(words) => OwedAnswer {
-            pairs: owed_in_place(words),
-            refusal: 0,
-        },
-        _ => OwedAnswer {
-            pairs: 0,
-            refusal: 13,
-        },
+        Some(words) if is_canonical(words) => Ok(owed_in_place(words)),
+        _ => Err(Refusal::State),
     }
 }

@@ -3,14 +3,15 @@
 ghost use Rattle.std.specs.Prelude.{◌≡◌, ◌+◌, ◌*◌, ◌≤◌, length};
 ghost use Rattle.base.specs.Sizes.{sites_most, queue_room, sends_most, set_bits};
 ghost use Rattle.model.specs.Runs.{played_run, counts_of};
-ghost use Rattle.machine.specs.Play.{play_answer, play_book, book_in, Playable};
+ghost use Rattle.machine.specs.Play.{play_answer, play_book, told_play, book_in, Playable};
 ghost use Rattle.words.specs.Turned.{Tried, Drew, Turned, Turnable, Startable, Stands};
 
 use crate::owing::owed_in_place;
 use crate::runs::run_in_place;
 use crate::sends::send_in_place;
+use base::Refusal;
 use layout::WORDS;
-use machine::{Clock, PlayAnswer, capped, enter_answer, is_due, refused, start, ticked};
+use machine::{Clock, capped, enter_answer, is_due, start, ticked};
 use types::{Counts, Network, Run, Sent, StoredSend};
 
 // Where a run stands beside its state and its book: the packets accepted, their summed set sizes, the services, the next stored send,
@@ -56,8 +57,8 @@ fn draw_turn(network: &Network, words: &mut [u64; WORDS], book: &mut [u8], t: Ta
     ensures { Drew network.now words.old words.new book.old book.new t result }
 {
     let clock = ticked(t.clock);
-    let named = draws::event_of(clock.value, network.sites, network.edition);
-    let answer = run_in_place(network, words, named.site, named.code);
+    let event = draws::event_of(clock.value, network.sites, network.edition).unwrap();
+    let answer = run_in_place(network, words, event.site, event.code);
     let serviced = enter_answer(book, t.serviced, t.clock.draw, answer);
     Tally {
         serviced,
@@ -123,17 +124,13 @@ fn play_run(run: &Run, book: &mut [u8]) -> Counts
 }
 
 // The player, for any bytes and any lent room: refusals 1 to 8 and 14, or the run played and its book at the room's front.
-pub fn play(bytes: &[u8], book: &mut [u8]) -> PlayAnswer
-    ensures { (result ≡ play_answer bytes.now (length book.old))
+pub fn play(bytes: &[u8], book: &mut [u8]) -> Result<Counts, Refusal>
+    ensures { (told_play result ≡ play_answer bytes.now (length book.old))
         × (book.new ≡ play_book bytes.now book.old) }
 {
     let started = start(bytes, book.len());
-    let refusal = started.refusal;
-    if refusal != 0 {
-        return refused(refusal);
+    if let Some(refusal) = started.refused {
+        return Err(refusal);
     }
-    PlayAnswer {
-        refusal: 0,
-        counts: play_run(&started.run, book),
-    }
+    Ok(play_run(&started.run, book))
 }

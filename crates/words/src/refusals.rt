@@ -1,12 +1,14 @@
 // The refusals that RUN and SEND on lent words share: 2, 17, 3, 6, 7 of the network; 13 for words that are no state's, or of a state
 // that is not in range.
 ghost use Rattle.std.specs.Prelude.{◌≡◌};
+ghost use Rattle.base.specs.Refusals.{number, refusal_of};
 ghost use Rattle.model.specs.Range.{in_range};
 ghost use Rattle.layout.specs.Words.{state_of};
 ghost use Rattle.layout.specs.Public.{form_refusal, shared_refusal};
 
 use crate::form::is_canonical;
 use crate::load::{load_counter, load_site};
+use base::Refusal;
 use layout::WORDS;
 use types::Network;
 
@@ -29,23 +31,22 @@ fn is_in_range(network: &Network, words: &[u64; WORDS]) -> bool
 }
 
 // What is told of words that are no state's: the network's refusal, else 13.
-pub(crate) fn form_refusal(network: &Network) -> u8
-    ensures { result ≡ form_refusal network.now }
+pub(crate) fn form_refusal(network: &Network) -> Refusal
+    ensures { number result ≡ form_refusal network.now }
 {
-    let refusal = checks::network_refusal(*network);
-    if refusal != 0 { refusal } else { 13 }
+    match checks::network_refusal(*network) {
+        Err(refusal) => refusal,
+        Ok(()) => Refusal::State,
+    }
 }
 
-pub(crate) fn shared_refusal(network: &Network, words: &[u64; WORDS]) -> u8
-    ensures { result ≡ shared_refusal network.now words.now }
+pub(crate) fn shared_refusal(network: &Network, words: &[u64; WORDS]) -> Result<(), Refusal>
+    ensures { refusal_of result ≡ shared_refusal network.now words.now }
 {
-    let refusal = checks::network_refusal(*network);
-    if refusal != 0 {
-        return refusal;
-    }
+    checks::network_refusal(*network)?;
     if is_canonical(words) && is_in_range(network, words) {
-        0
+        Ok(())
     } else {
-        13
+        Err(Refusal::State)
     }
 }

@@ -1,5 +1,6 @@
 // SEND in place: its own refusals, then the new entry, the count and the counter's word.
 ghost use Rattle.std.specs.Prelude.{◌≡◌, ◌+◌, ◌<◌, ◌≤◌};
+ghost use Rattle.base.specs.Refusals.{refusal_of};
 ghost use Rattle.base.specs.Sizes.{sites_most, queue_room, packets_most};
 ghost use Rattle.model.specs.Types.{set_site, with_out_queue, push_out};
 ghost use Rattle.model.specs.Steps.{enqueue};
@@ -11,6 +12,7 @@ ghost use Rattle.words.specs.Events.{Took, site_in};
 
 use crate::load::{load_counter, out_count};
 use crate::store::{store_counter, store_out_count, store_out_entry};
+use base::Refusal;
 use layout::WORDS;
 use types::{OutEntry, Sent};
 
@@ -25,9 +27,15 @@ fn out_entries(words: &[u64; WORDS], s: usize) -> usize
     }
 }
 
-// SEND's own refusal: 9, 10, 12, 11, or 0.
-fn own_refusal(sites: usize, depth: usize, words: &[u64; WORDS], s: usize, set: u64) -> u8
-    ensures { result ≡ send_fault_by sites depth (state_of words.now).counter
+// SEND's own refusal: 9, 10, 12 or 11.
+fn own_refusal(
+    sites: usize,
+    depth: usize,
+    words: &[u64; WORDS],
+    s: usize,
+    set: u64,
+) -> Result<(), Refusal>
+    ensures { refusal_of result ≡ send_fault_by sites depth (state_of words.now).counter
         (site_in words.now s).outgoing.count s set }
 {
     let packet = load_counter(words);
@@ -92,9 +100,8 @@ pub(crate) fn send_in_place(
     requires { (sites ≤ sites_most) × (depth ≤ queue_room) }
     ensures { Took words.old words.new result (spec.tried sites depth (state_of words.old) s set) }
 {
-    let refusal = own_refusal(sites, depth, words, s, set);
-    if refusal != 0 {
-        return Sent::Refused(refusal);
+    if let Err(refusal) = own_refusal(sites, depth, words, s, set) {
+        return Sent::Refused(u8::from(refusal));
     }
     accept(words, s, set)
 }

@@ -1,12 +1,13 @@
+use Rattle.std.proofs.Common.{refl, rules}
+use Rattle.base.specs.Refusals.{number_nonzero}
 use Rattle.words.proofs.Taken.{acceptable, took_accepted, took_refused}
-use borrow.Author.Rules.{rules}
 use Rattle.words.proofs.sends.send_in_place.Goals as goal
 
-pub returns-then-refusal-ne0 : goal.returns-then-refusal-ne0
-returns-then-refusal-ne0 c = took_refused _ _ _ _ _ _ (search rules) c.own_refusal-refusal.ensures c.if-refusal-ne0.true
+pub returns-in-Err : goal.returns-in-Err
+returns-in-Err c = rw c.from.ensures (took_refused _ _ _ _ _ _ (search rules) c.in-Err.ensures (number_nonzero c.in-Err.refusal))
 
 pub accept-requires : goal.accept-requires
-accept-requires c = acceptable _ _ _ _ c.args.set _ c.requires c.own_refusal-refusal.ensures c.if-refusal-ne0.false
+accept-requires c = acceptable _ _ _ _ c.args.set _ c.requires c.in_default.ensures refl
 
 pub returns : goal.returns
-returns c = took_accepted _ _ _ _ _ _ _ _ c.own_refusal-refusal.ensures c.if-refusal-ne0.false c.accept.ensures
+returns c = took_accepted _ _ _ _ _ _ _ _ c.in_default.ensures refl c.accept.ensures
