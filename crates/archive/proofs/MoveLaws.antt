@@ -15,7 +15,10 @@ use Rattle.base.specs.Put.{put, put_front}
 use Rattle.types.specs.declared.Run.{Run}
 use Rattle.model.specs.Network.{version_ok, edition_ok, sites_in, sizes_ok, channels_ok, routes_ok, network_under}
 use Rattle.model.specs.Runs.{sends_ok, body_refusal}
-use Rattle.format.specs.Refusals.{Written}
+use Rattle.std.specs.Prelude.{Result, Ok, Err}
+use Rattle.base.specs.declared.refusal.Refusal.{Refusal}
+use Rattle.base.specs.Refusals.{refusal_of}
+use Rattle.format.specs.Refusals.{Written, told_length}
 use Rattle.format.specs.Format.{length_of, version_of, network_of, run_of}
 use Rattle.format.specs.Refusals.{least_length, length_ok, size_ok, head_then, read_refusal}
 use Rattle.format.specs.Moves.{run_under, file_under, file_refusal, goes_into, go_refusal, move_refusal, move_answer}
@@ -148,3 +151,8 @@ unfolding move_answer
 answer_refusal from to b room =
     let f = move_refusal from to b room in
     either_way (eqb f 0) (λ e. rw e (sym (eqb-true f 0 e))) (λ e. rw e refl)
+
+-- the same of an answer of the code
+pub told_refusal : (r : Result ℕ Refusal) → refusal_of r ≡ (told_length r).refusal
+told_refusal (Ok n) = refl
+told_refusal (Err e) = refl

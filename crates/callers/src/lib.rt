@@ -5,11 +5,12 @@
 
 ghost use Rattle.std.specs.Prelude.{◌≡◌, length};
 ghost use Rattle.model.specs.Events as events;
-ghost use Rattle.machine.specs.Play.{play_answer, play_book};
+ghost use Rattle.machine.specs.Play.{play_answer, play_book, told_play};
 ghost use Rattle.callers.specs.TwoDraws.{two_draws};
 
-use machine::PlayAnswer;
-use types::{AfterRun, AfterSend, Network, Sent, State};
+use base::Refusal;
+use draws::Event;
+use types::{AfterRun, AfterSend, Counts, Network, Sent, State};
 
 // RUN (site, code): the answer and the next state; a refusal hands the state back.
 pub fn run(network: Network, state: State, site: usize, code: usize) -> AfterRun
@@ -42,21 +43,19 @@ pub fn send(network: Network, state: State, site: usize, set: u64) -> AfterSend
     }
 }
 
-// The player, for any bytes and any lent room: refusals 1 to 8 and 14, or the run played and its book at the room's
+// The player, for any bytes and any lent room: refusals 1 to 8, 17 and 14, or the run played and its book at the room's
 // front.
-pub fn play(bytes: &[u8], book: &mut [u8]) -> PlayAnswer
-    ensures { (result ≡ play_answer bytes.now (length book.old))
+pub fn play(bytes: &[u8], book: &mut [u8]) -> Result<Counts, Refusal>
+    ensures { (told_play result ≡ play_answer bytes.now (length book.old))
         × (book.new ≡ play_book bytes.now book.old) }
 {
     let played = machine::play(bytes, book);
-    let refusal = played.refusal;
-    let counts = played.counts;
-    PlayAnswer { refusal, counts }
+    played
 }
 
 // The same with a second room lent, of which no byte changes.
-pub fn play_beside(bytes: &[u8], book: &mut [u8], beside: &mut [u8]) -> PlayAnswer
-    ensures { (result ≡ play_answer bytes.now (length book.old))
+pub fn play_beside(bytes: &[u8], book: &mut [u8], beside: &mut [u8]) -> Result<Counts, Refusal>
+    ensures { (told_play result ≡ play_answer bytes.now (length book.old))
         × (book.new ≡ play_book bytes.now book.old)
         × (beside.new ≡ beside.old) }
 {
@@ -68,14 +67,13 @@ pub fn play_beside(bytes: &[u8], book: &mut [u8], beside: &mut [u8]) -> PlayAnsw
 pub fn two_draws(network: Network, state: State, seed: u32) -> AfterRun
     ensures { result ≡ two_draws network state seed }
 {
-    let sites = network.sites;
-    let edition = network.edition;
+    let none = Event { site: 0, code: 0 };
     let value = draws::draw(seed);
-    let named = draws::event_of(value, sites, edition);
-    let first = machine::run(network, state, named.site, named.code);
+    let event = draws::event_of(value, network.sites, network.edition).unwrap_or(none);
+    let first = machine::run(network, state, event.site, event.code);
     let between = first.state;
     let value_2 = draws::draw(value);
-    let named_2 = draws::event_of(value_2, sites, edition);
-    let second = machine::run(network, between, named_2.site, named_2.code);
+    let event_2 = draws::event_of(value_2, network.sites, network.edition).unwrap_or(none);
+    let second = machine::run(network, between, event_2.site, event_2.code);
     second
 }

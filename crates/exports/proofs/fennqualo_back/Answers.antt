@@ -1,8 +1,10 @@
 -- `fennqualo_back` meets its contract: the refusal of a move's answer. Assumes nothing.
-use mathlib.Core.Path.{ap, ◌∙◌}
+use Rattle.std.proofs.Common.{ap, ◌∙◌}
 use Rattle.format.specs.Refusals.{Written}
-use Rattle.archive.proofs.MoveLaws.{answer_refusal}
+use Rattle.archive.proofs.MoveLaws.{answer_refusal, told_refusal}
 use Rattle.exports.proofs.fennqualo_back.Goals as goal
 
 pub returns : goal.returns
-returns c = let e = c.move_back-written.ensures in (ap (λ (w : Written). w.refusal) e.0 ∙ answer_refusal _ _ _ _, e.1)
+returns c =
+    let m = c.move_back.ensures in
+    (c.told.ensures ∙ told_refusal _ ∙ ap (λ (w : Written). w.refusal) m.0 ∙ answer_refusal _ _ _ _, m.1)
