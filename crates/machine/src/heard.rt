@@ -28,7 +28,9 @@ pub(crate) fn channel_at(network: Network, s: usize, j: usize) -> u16
     requires { (s < sites_most) × (j < port_count) }
     ensures { result ≡ net.channel network s (suc j) }
 {
-    network.channels[base::PORTS * s + j]
+    // In a local of its own: indexed within the network, the compiler copies the whole network for each read.
+    let channels = network.channels;
+    channels[base::PORTS * s + j]
 }
 
 // Whether output j + 1 of site s has a channel.
