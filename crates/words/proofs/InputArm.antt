@@ -16,7 +16,6 @@ use Rattle.base.specs.All.{all_same}
 use Rattle.sets.specs.Sets.{targets}
 use Rattle.types.specs.Numbers.{state_number}
 use Rattle.types.specs.Phases.{listening}
-use Rattle.types.specs.declared.Connection.{Connection}
 use Rattle.types.specs.declared.Phase.TheVariants.{the_data as Phase, Free, Seek, Open, Wait, Done, Last, Abort as Aborted, FinAbort}
 use Rattle.types.specs.declared.Input.{Input}
 use Rattle.types.specs.declared.Output.{Output}
@@ -118,10 +117,9 @@ by_flags n xs s i y os ph =
 
 -- ---- the ways of the code
 
-quiet_by : (ph p : Phase) → ph ≡ p → (ph ≡ Free) ⊎ ((k : Connection) × (ph ≡ Aborted k))
-    → (eqb (state_number p) 0 || eqb (state_number p) 6) ≡ true
-quiet_by ph p e (inl f) = rw (← e, f) refl
-quiet_by ph p e (inr f) = rw (← e, f.1) refl
+quiet_by : (k : ℕ) → (k ≡ 0) ⊎ (k ≡ 6) → (eqb k 0 || eqb k 6) ≡ true
+quiet_by k (inl e) = rw e refl
+quiet_by k (inr e) = rw e refl
 
 module _ (c : List ℕ) (s i : ℕ) where
   abbrev x : Site
@@ -131,12 +129,12 @@ module _ (c : List ℕ) (s i : ℕ) where
   y = in_at x i
 
   -- the place has no rule
-  pub quiet_none : (n : Network) (ph : Phase) → length c ≡ word_count → ph ≡ y.phase → (ph ≡ Free) ⊎ ((k : Connection) × (ph ≡ Aborted k))
+  pub quiet_none : (n : Network) (k : ℕ) → length c ≡ word_count → k ≡ state_number y.phase → (k ≡ 0) ⊎ (k ≡ 6)
       → Did n c c s Nothing (input_act n s x (ends n (sites_of c) s) i)
-  quiet_none n ph h e f =
+  quiet_none n k h e f =
       did_nothing n c s (input_act n s x (ends n (sites_of c) s) i) h
       (ap (own_turn (set_both x i))
-      (quiet_stays n s i y x.outputs (ready_in n (sites_of c) s) y.phase (quiet_by ph y.phase e f)))
+      (quiet_stays n s i y x.outputs (ready_in n (sites_of c) s) y.phase (quiet_by _ (rw e at f))))
 
   -- it waits
   pub waits_none : (isReady : ℕ → Bool) (z : Input) (w : Bool) → length c ≡ word_count → z ≡ y → w ≡ waits z isReady → w ≡ true
