@@ -1,5 +1,6 @@
 -- Laws that belong to no one function.
 pub mod Blocked
+pub mod Entered
 pub mod Lifts
 pub mod OwingSums
 pub mod PlayedArchive

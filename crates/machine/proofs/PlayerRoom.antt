@@ -1,15 +1,16 @@
 -- The room that a book may take, summed send by send. Assumes what each law names.
-use Prim.Native.Nat.{ℕ, zero, suc, ◌+◌, ◌*◌, ◌≤◌}
+use Prim.Native.Nat.{ℕ, zero, suc, ◌+◌, ◌*◌, ◌≤◌, ◌<◌, min}
 use mathlib.Core.Path.{◌≡◌, refl, sym, ap, ◌∙◌}
 use mathlib.Core.List.{List}
 use mathlib.Core.Logic.{⊎_elim}
 use native.Mathlib.Nat.{le_of_suc-le-suc, eq-or-lt_of_le}
 use native.Mathlib.Numerals.{add-one}
 use native.Mathlib.Omega.{arith}
-use borrow.Author.Tests.{ltb-false}
+use borrow.Author.Tests.{ltb-true, ltb-false}
 use lib.Dec.{ltb}
 use lib.ListN.{length, take, get_or}
 use lib.Seq.{length-take-le, get_or-take}
+use Rattle.std.proofs.lemmas.List.{length-take}
 use Rattle.base.specs.Sizes.{set_bits, sends_most}
 use Rattle.base.specs.Bools.{either_way}
 use Rattle.base.specs.Sums.{sum, sum_upto, upto, upto_last, upto_ext}
@@ -32,6 +33,13 @@ sizes_none l = refl
 
 pub sizes_next : (l : List StoredSend) (k : ℕ) → sizes_to l (k + 1) ≡ sizes_to l k + size (get_or l k send_d).set
 sizes_next l k = rw (add-one k) (upto_last k (λ j. size (get_or l j send_d).set))
+
+-- one send more of the first m
+pub sizes_more : (l : List StoredSend) (m k : ℕ) → k < length (take m l) → {n a : ℕ} → n ≡ sizes_to l k → a ≡ size (get_or (take m l) k send_d).set
+    → n + a ≡ sizes_to l (k + 1)
+sizes_more l m k h e q =
+    let below : k < m = omega (arith, length-take m l) in
+    rw (e, q, get_or-take m l k send_d below) (sym (sizes_next l k))
 
 pub sizes_most : (l : List StoredSend) (k : ℕ) → sizes_to l k ≤ set_bits * k
 unfolding upto
@@ -67,3 +75,11 @@ unfolding book_space
 space_is l k h =
     either_way (ltb k sends_most) (λ e. rw e refl)
     (λ e. let f = ltb-false k sends_most e in let g : sends_most ≡ k = omega arith in rw e (ap (room_of l) g))
+
+-- summed to the end of the places that there are
+pub space_by : (l : List StoredSend) (k m n : ℕ) → m ≡ min k sends_most → n ≡ sizes_to l m → 4 * n ≡ book_space l k
+unfolding book_space
+space_by l k m n e f =
+    either_way (ltb k sends_most)
+    (λ b. let g : m ≡ k = omega (arith, e, ltb-true k sends_most b) in rw (b, f, g) refl)
+    (λ b. let g : m ≡ sends_most = omega (arith, e, ltb-false k sends_most b) in rw (b, f, g) refl)

@@ -2,7 +2,7 @@
 // A turn is a send that is due, or a draw. specs/Play.antt has what it answers, specs/Progress.antt the turns.
 ghost use Rattle.std.specs.Prelude.{◌≡◌, length};
 ghost use Rattle.model.specs.Runs.{played_run, counts_of};
-ghost use Rattle.machine.specs.Play.{refused_by, play_answer, play_book, book_in, run_with, Playable, start_of};
+ghost use Rattle.machine.specs.Play.{refused_by, play_answer, play_book, book_in, Playable, start_of};
 
 use crate::clock::{Clock, ticked};
 use crate::events::{act_of, empty_state, try_send};
@@ -10,7 +10,7 @@ use crate::owing::owed_pairs;
 use crate::store::{answer_to, store_act};
 use crate::turns::{book_room, capped, enter_answer, is_due};
 use format::Decoded;
-use types::{Counts, Network, Sent, StoredSend};
+use types::{Counts, Run, Sent};
 
 // What the player answers: the refusal, or 0 and the counts; with a refusal all counts are zero.
 #[derive(Clone, Copy)]
@@ -35,62 +35,47 @@ pub fn refused(refusal: u8) -> PlayAnswer
 }
 
 // A valid run played from the empty state, the book large enough: one state, advanced draw by draw by the core step by value.
-fn play_run(
-    network: Network,
-    sends: [StoredSend; base::SENDS],
-    count: usize,
-    seed: u32,
-    draws: u16,
-    book: &mut [u8],
-) -> Counts
-    requires { Playable (run_with network sends count seed draws) (length book.old) }
-    ensures { (result ≡ counts_of (played_run (run_with network sends count seed draws)))
-        × (book.new ≡ book_in (run_with network sends count seed draws) book.old) }
+fn play_run(run: &Run, book: &mut [u8]) -> Counts
+    requires { Playable run.now (length book.old) }
+    ensures { (result ≡ counts_of (played_run run.now)) × (book.new ≡ book_in run.now book.old) }
 {
-    let total = count + (draws as usize);
+    let network = run.network;
+    let total = run.count + (run.draws as usize);
     let mut state = empty_state();
     let mut clock = Clock {
-        value: seed,
+        value: run.seed,
         draw: 0,
     };
-    let mut next: usize = 0;
-    let mut accepted: usize = 0;
-    let mut pairs: usize = 0;
-    let mut serviced: usize = 0;
-    let mut turn: usize = 0;
-    while turn < total {
-        turn += 1;
-        let place = capped(next);
-        let order = sends[place];
-        let d = clock.draw;
-        if is_due(order, next, count, d) {
+    let mut next = 0usize;
+    let mut accepted = 0usize;
+    let mut pairs = 0usize;
+    let mut serviced = 0usize;
+    for _turn in 0..total {
+        let order = run.sends[capped(next)];
+        let draw = clock.draw;
+        if is_due(order, next, run.count, draw) {
             next += 1;
-            let set = order.set;
-            let after = try_send(network, state, base::wide(order.site), set);
-            let answer = after.answer;
-            let sent = after.state;
-            let Sent::Accepted(_) = answer else {
+            let after = try_send(network, state, base::wide(order.site), order.set);
+            let Sent::Accepted(_) = after.answer else {
                 continue;
             };
-            state = sent;
+            state = after.state;
             accepted += 1;
-            pairs += sets::size(set);
+            pairs += sets::size(order.set);
             continue;
         }
         clock = ticked(clock);
         let named = draws::event_of(clock.value, network.sites, network.edition);
-        let s = named.site;
-        let looked = act_of(network, state, s, named.code);
-        state = store_act(state, s, looked.act);
-        let answer = answer_to(&looked.act, s);
-        serviced = enter_answer(book, serviced, d, answer);
+        let looked = act_of(network, state, named.site, named.code);
+        state = store_act(state, named.site, looked.act);
+        let answer = answer_to(&looked.act, named.site);
+        serviced = enter_answer(book, serviced, draw, answer);
     }
-    let owed = owed_pairs(state);
     Counts {
         accepted,
         pairs,
         serviced,
-        owed,
+        owed: owed_pairs(state),
     }
 }
 
@@ -120,15 +105,9 @@ pub fn play(bytes: &[u8], book: &mut [u8]) -> PlayAnswer
 {
     let started = start(bytes, book.len());
     let refusal = started.refusal;
-    let run = started.run;
-    let network = run.network;
-    let sends = run.sends;
-    let count = run.count;
-    let seed = run.seed;
-    let draws = run.draws;
     if refusal != 0 {
         return refused(refusal);
     }
-    let counts = play_run(network, sends, count, seed, draws, book);
+    let counts = play_run(&started.run, book);
     PlayAnswer { refusal: 0, counts }
 }

@@ -10,10 +10,7 @@ use types::{Ran, StoredSend};
 pub fn capped(k: usize) -> usize
     ensures { result ≡ capped_at k }
 {
-    if k < base::SENDS {
-        return k;
-    }
-    base::SENDS - 1
+    k.min(base::SENDS - 1)
 }
 
 // Whether send k of so many is to be applied before draw d.
@@ -33,10 +30,8 @@ pub fn enter(book: &mut [u8], serviced: usize, draw: u16, packet: u8, site: u8) 
         return serviced;
     }
     let at = 4 * serviced;
-    book[at] = (draw / 256 % 256) as u8;
-    book[at + 1] = (draw % 256) as u8;
-    book[at + 2] = packet;
-    book[at + 3] = site;
+    let [high, low] = draw.to_be_bytes();
+    book[at..at + 4].copy_from_slice(&[high, low, packet, site]);
     serviced + 1
 }
 
@@ -46,35 +41,19 @@ pub fn enter_answer(book: &mut [u8], serviced: usize, draw: u16, answer: Ran) ->
         × (book.new ≡ book_by answer book.old serviced draw) }
 {
     match answer {
-        Ran::Nothing => serviced,
-        Ran::Changed => serviced,
         Ran::Serviced(packet, site) => enter(book, serviced, draw, packet, site),
-        Ran::Refused(_) => serviced,
+        Ran::Nothing | Ran::Changed | Ran::Refused(_) => serviced,
     }
 }
 
-// The bytes that the book of the first so many sends may take: 4 for each site of each set.
-fn room_of(sends: [StoredSend; base::SENDS], count: usize) -> usize
-    requires { count ≤ sends_most }
-    ensures { result ≡ room_of sends count }
-{
-    let mut sum: usize = 0;
-    let mut k: usize = 0;
-    while k < count {
-        let send = sends[k];
-        let size = sets::size(send.set);
-        sum += size;
-        k += 1;
-    }
-    4 * sum
-}
-
-// The same for any count: no more sends than there are places.
+// The bytes that the book of the first so many sends may take: 4 for each site of each set, for any count. There are no
+// more sends than there are places.
 pub fn book_room(sends: [StoredSend; base::SENDS], count: usize) -> usize
     ensures { result ≡ book_space sends count }
 {
-    if count < base::SENDS {
-        return room_of(sends, count);
+    let mut sum = 0usize;
+    for send in &sends[..count.min(base::SENDS)] {
+        sum += sets::size(send.set);
     }
-    room_of(sends, base::SENDS)
+    4 * sum
 }

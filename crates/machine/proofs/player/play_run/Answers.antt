@@ -1,30 +1,18 @@
 use mathlib.Core.Path.{refl}
 use native.Mathlib.Omega.{arith}
-use Rattle.machine.specs.Play.{run_with}
-use Rattle.machine.specs.Progress.{capped_below}
+use borrow.Author.Rules.{rules}
 use Rattle.machine.proofs.ProgressLaws.{stored_sends}
-use Rattle.machine.proofs.PlayerTurns.{begun, known, total_most, set_most, next_most, accepted_most, pairs_most, network_valid}
+use Rattle.machine.proofs.PlayerTurns.{begun, known, set_most, next_most, accepted_most, pairs_most, network_valid}
 use Rattle.machine.proofs.PlayerTurns.{network_ok, state_in_range, named_below, sent_on, drawn_on, ended}
 use Rattle.machine.proofs.Single.{act_storable, run_done, looked_act}
 use Rattle.machine.proofs.player.play_run.Goals as goal
 
 pub overflow_add-total : goal.overflow_add-total
 overflow_add-total c =
-    let a = c.args in
-    let r = run_with a.network a.sends a.count a.seed a.draws in
-    omega (arith, (stored_sends r c.requires.valid).0, c.ranges.draws)
+    omega (arith, (stored_sends c.args.run.now c.requires.valid).0)
 
 pub loop-turn-init : goal.loop-turn-init
-loop-turn-init c = begun c.requires refl (omega (arith, c.ranges.draws)) c.empty_state-state.ensures
-
-pub overflow_add-turn : goal.overflow_add-turn
-overflow_add-turn c = omega (arith, total_most c.loop-turn.invariant, c.loop-turn-test.true)
-
-pub offset_bounds-sends-place : goal.offset_bounds-sends-place
-offset_bounds-sends-place c = omega (arith, c.capped-place.ensures, capped_below c.loop-turn.next)
-
-pub bounds-sends-place : goal.bounds-sends-place
-bounds-sends-place c = omega (arith, c.capped-place.ensures, capped_below c.loop-turn.next)
+loop-turn-init c = begun c.requires refl (search rules) c.empty_state-state.ensures
 
 pub overflow_add-next : goal.overflow_add-next
 overflow_add-next c = omega (arith, next_most c.loop-turn.invariant)
@@ -32,13 +20,10 @@ overflow_add-next c = omega (arith, next_most c.loop-turn.invariant)
 pub try_send-after-requires : goal.try_send-after-requires
 try_send-after-requires c = let v = network_valid c.loop-turn.invariant in (v.few, v.deep)
 
-pub loop-turn-smaller-in_default : goal.loop-turn-smaller-in_default
-loop-turn-smaller-in_default c = omega arith
-
 pub loop-turn-preserved-in_default : goal.loop-turn-preserved-in_default
 loop-turn-preserved-in_default c =
     let at = c.loop-turn.invariant in
-    sent_on at c.loop-turn-test.true c.capped-place.ensures
+    sent_on at c.loop-turn-test.true c.capped.ensures
     c.is_due.ensures c.if-is_due.true c.wide.ensures.0
     c.try_send-after.ensures c.in_default.is
 
@@ -48,16 +33,13 @@ overflow_add-accepted c = omega (arith, accepted_most c.loop-turn.invariant)
 pub overflow_add-pairs : goal.overflow_add-pairs
 overflow_add-pairs c =
     let at = c.loop-turn.invariant in
-    omega (arith, pairs_most at, set_most at c.capped-place.result c.size-pairs.ensures)
-
-pub loop-turn-smaller-then-is_due : goal.loop-turn-smaller-then-is_due
-loop-turn-smaller-then-is_due c = omega arith
+    omega (arith, pairs_most at, set_most at c.capped.result c.size-pairs.ensures)
 
 pub loop-turn-preserved-then-is_due : goal.loop-turn-preserved-then-is_due
 loop-turn-preserved-then-is_due c =
     let at = c.loop-turn.invariant in
     rw c.size-pairs.ensures
-    (sent_on at c.loop-turn-test.true c.capped-place.ensures
+    (sent_on at c.loop-turn-test.true c.capped.ensures
     c.is_due.ensures c.if-is_due.true c.wide.ensures.0
     c.try_send-after.ensures c.in-Accepted.is)
 
@@ -68,7 +50,7 @@ act_of-looked-requires c =
 
 pub store_act-state-requires : goal.store_act-state-requires
 store_act-state-requires c =
-    let n = c.args.network in
+    let n = c.args.run.now.network in
     let e = c.event_of-named in
     let own = act_storable n (network_ok c.loop-turn.invariant) c.loop-turn.state.sites e.result.site e.result.code
     (named_below c.loop-turn.invariant c.ticked-clock.result.value e.ensures) (looked_act c.act_of-looked.ensures) in
@@ -80,16 +62,13 @@ answer_to-answer-requires c =
     let e = c.event_of-named in
     omega (arith, named_below at c.ticked-clock.result.value e.ensures, (network_valid at).few)
 
-pub loop-turn-smaller : goal.loop-turn-smaller
-loop-turn-smaller c = omega arith
-
 pub loop-turn-preserved : goal.loop-turn-preserved
 loop-turn-preserved c =
-    let n = c.args.network in
+    let n = c.args.run.now.network in
     let named = c.event_of-named in
     let ran = run_done n c.loop-turn.state named.result.site named.result.code (looked_act c.act_of-looked.ensures)
     c.answer_to-answer.ensures c.store_act-state.ensures refl in
-    drawn_on c.loop-turn.invariant c.loop-turn-test.true c.capped-place.ensures
+    drawn_on c.loop-turn.invariant c.loop-turn-test.true c.capped.ensures
     c.is_due.ensures c.if-is_due.false c.ticked-clock.ensures named.ensures ran
     c.enter_answer-serviced.ensures.0 c.enter_answer-serviced.ensures.1
 
@@ -97,4 +76,4 @@ pub shape_of-book : goal.shape_of-book
 shape_of-book c = (known c.loop-turn.invariant).kept
 
 pub returns : goal.returns
-returns c = ended c.loop-turn.invariant c.loop-turn-test.false c.owed_pairs-owed.ensures
+returns c = ended c.loop-turn.invariant c.loop-turn-test.false c.owed_pairs.ensures
