@@ -4,8 +4,7 @@ use mathlib.Core.Logic.{◌⊎◌, inl, inr}
 use Rattle.std.specs.Prelude.{Option}
 use mathlib.Core.List.{List}
 use mathlib.Core.Bool.{Bool, true, false, ◌&&◌, ◌||◌, and-true}
-use Prim.Native.Nat.{ℕ, zero, suc, ◌+◌, ◌*◌, ◌/◌, ◌%◌, ◌<◌, ◌≤◌}
-use native.Mathlib.Numerals.{add-one}
+use Prim.Native.Nat.{ℕ, zero, suc, ◌*◌, ◌<◌, ◌≤◌}
 use native.Mathlib.Omega.{arith}
 use borrow.Author.Tests.{lt-ltb, le-leb, eq-eqb}
 use lib.Dec.{eqb}
@@ -15,7 +14,6 @@ use Rattle.base.specs.Bools.{implies}
 use Rattle.base.specs.All.{all_same}
 use Rattle.sets.specs.Sets.{targets}
 use Rattle.types.specs.Numbers.{state_number}
-use Rattle.types.specs.Phases.{listening}
 use Rattle.types.specs.declared.Phase.TheVariants.{the_data as Phase, Free, Seek, Open, Wait, Done, Last, Abort as Aborted, FinAbort}
 use Rattle.types.specs.declared.Input.{Input}
 use Rattle.types.specs.declared.Output.{Output}
@@ -23,7 +21,7 @@ use Rattle.types.specs.declared.Site.{Site}
 use Rattle.types.specs.declared.Network.{Network}
 use Rattle.types.specs.declared.Ran.TheVariants.{the_data as Ran, Nothing}
 use Rattle.model.specs.Types.{site_at, in_at, mark}
-use Rattle.model.specs.Network.{is_channel, joined}
+use Rattle.model.specs.Network.{joined}
 use Rattle.model.specs.Router.{Choice as ModelChoice, route}
 use Rattle.model.specs.NetInput.{Turn, hears, ready, all_ready, in_state, net_input, seek}
 use Rattle.model.specs.Steps.{own_turn, set_both, ends}
@@ -35,7 +33,7 @@ use Rattle.rules.proofs.Asked.{route_same}
 use Rattle.rules.proofs.ByState.{other_is, seek_is, choice_back}
 use Rattle.layout.specs.Layout.{word_count}
 use Rattle.layout.specs.Words.{sites_of}
-use Rattle.words.specs.Events.{Did, DidOwn, DidReady, DidInput, RunAsks, site_in, end_of}
+use Rattle.words.specs.Events.{Did, DidOwn, DidReady, DidInput, RunAsks, site_in}
 use Rattle.layout.specs.Idle.{waits}
 use Rattle.words.specs.Events.{input_back, split_ready, ready_flags, sought}
 use Rattle.words.specs.Marked.{masked, merged_turn, touched, opening, seen}
@@ -53,23 +51,6 @@ asked_is n s os X a b e t =
     let m = n.routes in
     rw (lt-ltb s n.sites a, le-leb n.sites sites_most b, eq-eqb (length m) (sites_most * sites_most) e, t)
     (route_same (routes_only n.edition n.sites m) n refl refl s os refl X)
-
--- ---- the input at a channel's end
-
-listening_number : (ph : Phase) → (eqb (state_number ph) 2 || eqb (state_number ph) 6) ≡ listening ph
-listening_number Free = refl
-listening_number Seek = refl
-listening_number (Open c) = refl
-listening_number (Wait c) = refl
-listening_number (Done c r) = refl
-listening_number (Last c r) = refl
-listening_number (Aborted c) = refl
-listening_number (FinAbort c r) = refl
-
-pub heard_by : (xs : List Site) (b byte k : ℕ) → b ≡ byte → is_channel byte ≡ true
-    → k ≡ state_number (in_at (site_at xs (b / 4)) (b % 4 + 1)).phase → (eqb k 2 || eqb k 6) ≡ (is_channel byte && listening (end_of xs byte).phase)
-heard_by xs b byte k e there f =
-    rw (there, ← e, f, add-one (b % 4)) (listening_number (in_at (site_at xs (b / 4)) (suc (b % 4))).phase)
 
 -- ---- which outputs are ready
 

@@ -101,7 +101,7 @@ fn play_turns(run: &Run, words: &mut [u64; WORDS], book: &mut [u8]) -> Tally
             draw: 0,
         },
     };
-    for k in 0..total {
+    for _turn in 0..total {
         let order = run.sends[capped(t.next)];
         t = take_turn(run, order, words, book, t);
     }
