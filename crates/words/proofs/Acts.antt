@@ -2,7 +2,7 @@
 use mathlib.Core.Path.{◌≡◌, refl, sym, ap, ap₂, subst, ◌∙◌}
 use Rattle.std.specs.Prelude.{Option}
 use mathlib.Core.List.{List}
-use mathlib.Core.Bool.{Bool, true, false, cond, not, ◌&&◌, ◌||◌, or-true}
+use mathlib.Core.Bool.{Bool, true, false, cond, not, ◌&&◌, ◌||◌}
 use Prim.Native.Nat.{ℕ, suc, ◌+◌, ◌<◌}
 use native.Mathlib.Numerals.{add-one}
 use borrow.Author.Tests.{eq-eqb}
@@ -15,27 +15,25 @@ use Rattle.types.specs.declared.OutQueue.{OutQueue}
 use Rattle.types.specs.declared.InQueue.{InQueue}
 use Rattle.types.specs.declared.Site.{Site}
 use Rattle.types.specs.declared.Network.{Network}
-use Rattle.types.specs.declared.Ran.TheVariants.{the_data as Ran, Nothing, Changed, Serviced}
+use Rattle.types.specs.declared.Ran.TheVariants.{the_data as Ran, Nothing}
 use Rattle.types.specs.Phases.{is_none}
 use Rattle.draws.specs.Draws.{restricted}
-use Rattle.model.specs.Types.{in_at, out_of, out_at, queue_at, in_entry, queue_port, set_site, set_in, set_out, set_queue, with_out_queue}
-use Rattle.model.specs.Network.{channel, is_channel}
+use Rattle.model.specs.Types.{in_at, out_of, out_at, queue_at, in_entry, queue_port, set_in, set_out, set_queue, with_out_queue}
+use Rattle.model.specs.Network.{is_channel}
 use Rattle.model.specs.NetInput.{Turn, Stay, To}
 use Rattle.model.specs.Places.{Work, Rest, Cleared, Service, local_output, channel_output, out_queue, operator, timeout, last_lacks, stalled}
-use Rattle.model.specs.Steps.{Act, Idle, Own, Serve, Pass, own_turn, pass_turn, work_done, set_both, far_end, set_far}
+use Rattle.model.specs.Steps.{Act, Idle, own_turn, pass_turn, work_done, set_both}
 use Rattle.rules.specs.declared.inputs.InputTurn.{InputTurn}
 use Rattle.rules.specs.declared.places.LocalTurn.{LocalTurn}
-use Rattle.rules.specs.declared.places.ChannelTurn.{ChannelTurn}
 use Rattle.rules.specs.declared.places.QueueTurn.{QueueTurn}
 use Rattle.rules.specs.declared.work.OperatorTurn.{OperatorTurn}
-use Rattle.rules.specs.Turns.{of_local_turn, of_channel_turn, of_queue_turn, of_work, of_input_turn, cuts}
+use Rattle.rules.specs.Turns.{of_local_turn, of_queue_turn, of_work, of_input_turn, cuts}
 use Rattle.layout.specs.Layout.{word_count}
 use Rattle.layout.specs.Words.{sites_of}
-use Rattle.layout.specs.Stored.{Stored}
 use Rattle.words.specs.Events.{Did, DidOwn, DidPass, site_in, end_of}
 use Rattle.rules.specs.Acts.{local_act, queue_act, operator_act, timeout_act}
 use Rattle.layout.specs.Idle.{at_rest}
-use Rattle.words.specs.Events.{local_back, channel_back, queue_back, input_back, work_back}
+use Rattle.words.specs.Events.{local_back, queue_back, input_back, work_back}
 use Rattle.words.specs.Marked.{masked, merged_turn, cutting}
 use Rattle.layout.proofs.Chained.{stays}
 use Rattle.layout.proofs.Rests.{local_rests, queue_rests, operator_rests, timeout_rests, channel_rests}
@@ -86,10 +84,6 @@ pub local_back_lem : (t : Turn Output InQueue) → local_back (of_local_turn t) 
 local_back_lem Stay = refl
 local_back_lem (To p r) = refl
 
-pub channel_back_lem : (t : Turn Output Input) → channel_back (of_channel_turn t) ≡ t
-channel_back_lem Stay = refl
-channel_back_lem (To p z) = refl
-
 pub queue_back_lem : (t : Turn OutQueue Input) → queue_back (of_queue_turn t) ≡ t
 queue_back_lem Stay = refl
 queue_back_lem (To r z) = refl
@@ -109,16 +103,6 @@ module _ (n : Network) (c : List ℕ) (s : ℕ) where
   pub did_nothing : (a : Act) → length c ≡ word_count → a ≡ Idle → Did n c c s Nothing a
   did_nothing a h e = rw e (record { answer = refl; stored = stays c h })
 
-  pub did_own_lem : (d : List ℕ) (x : Site) → Stored c d (set_site (sites_of c) s x) → Did n c d s Changed (Own x)
-  did_own_lem d x p = record { answer = refl; stored = p }
-
-  pub did_serve_lem : (d : List ℕ) (x : Site) (q : ℕ) → Stored c d (set_site (sites_of c) s x) → Did n c d s (Serviced q s) (Serve x q)
-  did_serve_lem d x q p = record { answer = refl; stored = p }
-
-  pub did_pass_lem : (d : List ℕ) (x : Site) (j : ℕ) (y : Input) (b : ℕ) → channel n s j ≡ b
-      → Stored c d (set_far (set_site (sites_of c) s x) b y) → Did n c d s Changed (Pass x j y)
-  did_pass_lem d x j y b e p = record { answer = refl; stored = rw e p }
-
 -- ---- an arm: what its rule decided is stored
 
 module _ (c d : List ℕ) (s : ℕ) (r : Ran) where
@@ -133,18 +117,6 @@ module _ (c d : List ℕ) (s : ℕ) (r : Ran) where
       let o = out_at x (queue_port q) in
       subst (λ (t : Turn Output InQueue). Did n c d s r (own_turn (λ o iq. set_out (set_queue x q iq) (queue_port q) o) t))
       (ap local_back e ∙ local_back_lem (local_output D o (queue_at x q))) (p n)
-
-  pub channel_done : (edition j b : ℕ) (there : is_channel b ≡ true) (w : Option ChannelTurn)
-      → let o = out_at x (suc j) in
-      let y = far_end (sites_of c) b in
-      w ≡ of_channel_turn (channel_output edition true o y)
-      → DidPass c d s r j b (channel_back w) → DidPass c d s r j b (channel_output edition (is_channel b) o (end_of (sites_of c) b))
-  channel_done edition j b there w e p n f =
-      let o = out_at x (suc j) in
-      let y = far_end (sites_of c) b in
-      rw there
-      (subst (λ (t : Turn Output Input). Did n c d s r (pass_turn x (suc j) t))
-      (ap channel_back e ∙ channel_back_lem (channel_output edition true o y)) (p n f))
 
   pub queue_done : (w : Option QueueTurn) → w ≡ of_queue_turn (out_queue x.outgoing (in_at x 0))
       → DidOwn c d s r (own_turn (λ oq y. set_in (with_out_queue x oq) 0 y) (queue_back w)) → DidOwn c d s r (queue_act x)
@@ -191,15 +163,6 @@ module _ (c : List ℕ) (s : ℕ) (h : length c ≡ word_count) where
       → (eqb m 0 || l) ≡ true → DidOwn c c s Nothing (operator_act D s z q)
   operator_none D q m l e f g n =
       did_nothing n c s (operator_act D s z q) h (operator_idle D s z q (sym (ap₂ (λ (k : ℕ) (b : Bool). eqb k 0 || b) e f) ∙ g))
-
-  pub timeout_never : (edition : ℕ) → restricted edition ≡ true → DidOwn c c s Nothing (timeout_act edition z)
-  timeout_never edition e n =
-      did_nothing n c s (timeout_act edition z) h (timeout_idle edition z (ap (λ (b : Bool). b || not (stalled (out_at z 0))) e))
-
-  pub timeout_none : (edition : ℕ) → stalled (out_at z 0) ≡ false → DidOwn c c s Nothing (timeout_act edition z)
-  timeout_none edition e n =
-      did_nothing n c s (timeout_act edition z) h
-      (timeout_idle edition z (ap (λ (b : Bool). restricted edition || not b) e ∙ or-true (restricted edition)))
 
   pub timeout_spared : (edition i : ℕ) (y : Input) → i ≡ (out_at z 0).input → y ≡ in_at z i → cuts y.phase ≡ false
       → DidOwn c c s Nothing (timeout_act edition z)

@@ -3,7 +3,7 @@ use mathlib.Core.Path.{◌≡◌, refl}
 use mathlib.Core.Logic.{◌⊎◌, inl, inr}
 use mathlib.Core.List.{List}
 use mathlib.Core.Bool.{false}
-use Prim.Native.Nat.{ℕ, suc, ◌-◌, ◌*◌, ◌/◌, ◌≤◌, ◌<◌}
+use Prim.Native.Nat.{ℕ, suc, ◌-◌, ◌*◌, ◌/◌, ◌<◌}
 use native.Mathlib.Omega.{arith}
 use borrow.Author.Tests.{lt-ltb, le-ltb, le-leb, ne_eqb}
 use lib.Dec.{eqb}
@@ -28,20 +28,6 @@ pub which_queue : {j k : ℕ} (code : ℕ) → (code ≡ j) ⊎ (code ≡ k) →
     → code / code_count < in_queue_count
 which_queue code (inl e) hj hk = omega (arith, e, hj)
 which_queue code (inr e) hj hk = omega (arith, e, hk)
-
--- the codes that are in no arm of single ones: 6 to 9 behind the net-inputs, and none behind 14
-next_code : (code m : ℕ) → (code ≡ m → ⊥) → m ≤ code → m < code
-next_code code m e h = omega arith
-
-pub past_local : (code : ℕ) → ((code ≡ 5) ⊎ (code ≡ 13) → ⊥) → 5 ≤ code → 5 < code
-past_local code locals h = next_code code 5 (λ e. locals (inl e)) h
-
-pub past_all : (code : ℕ) → ((code ≡ 5) ⊎ (code ≡ 13) → ⊥) → (code ≡ 10 → ⊥) → ((code ≡ 11) ⊎ (code ≡ 14) → ⊥) → (code ≡ 12 → ⊥)
-    → 10 ≤ code → 14 < code
-past_all code locals queue operators timeout h =
-    next_code code 14 (λ e. operators (inr e))
-    (next_code code 13 (λ e. locals (inr e))
-    (next_code code 12 timeout (next_code code 11 (λ e. operators (inl e)) (next_code code 10 queue h))))
 
 -- ---- an arm by its code
 

@@ -4,8 +4,7 @@ use mathlib.Core.Logic.{◌⊎◌, inl, inr}
 use Rattle.std.specs.Prelude.{Option}
 use mathlib.Core.List.{List}
 use mathlib.Core.Bool.{Bool, true, false, ◌&&◌, ◌||◌, and-true}
-use Prim.Native.Nat.{ℕ, zero, suc, ◌+◌, ◌*◌, ◌/◌, ◌%◌, ◌<◌, ◌≤◌}
-use native.Mathlib.Numerals.{add-one}
+use Prim.Native.Nat.{ℕ, zero, suc, ◌*◌, ◌<◌, ◌≤◌}
 use native.Mathlib.Omega.{arith}
 use borrow.Author.Tests.{lt-ltb, le-leb, eq-eqb}
 use lib.Dec.{eqb}
@@ -15,8 +14,6 @@ use Rattle.base.specs.Bools.{implies}
 use Rattle.base.specs.All.{all_same}
 use Rattle.sets.specs.Sets.{targets}
 use Rattle.types.specs.Numbers.{state_number}
-use Rattle.types.specs.Phases.{listening}
-use Rattle.types.specs.declared.Connection.{Connection}
 use Rattle.types.specs.declared.Phase.TheVariants.{the_data as Phase, Free, Seek, Open, Wait, Done, Last, Abort as Aborted, FinAbort}
 use Rattle.types.specs.declared.Input.{Input}
 use Rattle.types.specs.declared.Output.{Output}
@@ -24,7 +21,7 @@ use Rattle.types.specs.declared.Site.{Site}
 use Rattle.types.specs.declared.Network.{Network}
 use Rattle.types.specs.declared.Ran.TheVariants.{the_data as Ran, Nothing}
 use Rattle.model.specs.Types.{site_at, in_at, mark}
-use Rattle.model.specs.Network.{is_channel, joined}
+use Rattle.model.specs.Network.{joined}
 use Rattle.model.specs.Router.{Choice as ModelChoice, route}
 use Rattle.model.specs.NetInput.{Turn, hears, ready, all_ready, in_state, net_input, seek}
 use Rattle.model.specs.Steps.{own_turn, set_both, ends}
@@ -36,7 +33,7 @@ use Rattle.rules.proofs.Asked.{route_same}
 use Rattle.rules.proofs.ByState.{other_is, seek_is, choice_back}
 use Rattle.layout.specs.Layout.{word_count}
 use Rattle.layout.specs.Words.{sites_of}
-use Rattle.words.specs.Events.{Did, DidOwn, DidReady, DidInput, RunAsks, site_in, end_of}
+use Rattle.words.specs.Events.{Did, DidOwn, DidReady, DidInput, RunAsks, site_in}
 use Rattle.layout.specs.Idle.{waits}
 use Rattle.words.specs.Events.{input_back, split_ready, ready_flags, sought}
 use Rattle.words.specs.Marked.{masked, merged_turn, touched, opening, seen}
@@ -54,23 +51,6 @@ asked_is n s os X a b e t =
     let m = n.routes in
     rw (lt-ltb s n.sites a, le-leb n.sites sites_most b, eq-eqb (length m) (sites_most * sites_most) e, t)
     (route_same (routes_only n.edition n.sites m) n refl refl s os refl X)
-
--- ---- the input at a channel's end
-
-listening_number : (ph : Phase) → (eqb (state_number ph) 2 || eqb (state_number ph) 6) ≡ listening ph
-listening_number Free = refl
-listening_number Seek = refl
-listening_number (Open c) = refl
-listening_number (Wait c) = refl
-listening_number (Done c r) = refl
-listening_number (Last c r) = refl
-listening_number (Aborted c) = refl
-listening_number (FinAbort c r) = refl
-
-pub heard_by : (xs : List Site) (b byte k : ℕ) → b ≡ byte → is_channel byte ≡ true
-    → k ≡ state_number (in_at (site_at xs (b / 4)) (b % 4 + 1)).phase → (eqb k 2 || eqb k 6) ≡ (is_channel byte && listening (end_of xs byte).phase)
-heard_by xs b byte k e there f =
-    rw (there, ← e, f, add-one (b % 4)) (listening_number (in_at (site_at xs (b / 4)) (suc (b % 4))).phase)
 
 -- ---- which outputs are ready
 
@@ -118,10 +98,9 @@ by_flags n xs s i y os ph =
 
 -- ---- the ways of the code
 
-quiet_by : (ph p : Phase) → ph ≡ p → (ph ≡ Free) ⊎ ((k : Connection) × (ph ≡ Aborted k))
-    → (eqb (state_number p) 0 || eqb (state_number p) 6) ≡ true
-quiet_by ph p e (inl f) = rw (← e, f) refl
-quiet_by ph p e (inr f) = rw (← e, f.1) refl
+quiet_by : (k : ℕ) → (k ≡ 0) ⊎ (k ≡ 6) → (eqb k 0 || eqb k 6) ≡ true
+quiet_by k (inl e) = rw e refl
+quiet_by k (inr e) = rw e refl
 
 module _ (c : List ℕ) (s i : ℕ) where
   abbrev x : Site
@@ -131,12 +110,12 @@ module _ (c : List ℕ) (s i : ℕ) where
   y = in_at x i
 
   -- the place has no rule
-  pub quiet_none : (n : Network) (ph : Phase) → length c ≡ word_count → ph ≡ y.phase → (ph ≡ Free) ⊎ ((k : Connection) × (ph ≡ Aborted k))
+  pub quiet_none : (n : Network) (k : ℕ) → length c ≡ word_count → k ≡ state_number y.phase → (k ≡ 0) ⊎ (k ≡ 6)
       → Did n c c s Nothing (input_act n s x (ends n (sites_of c) s) i)
-  quiet_none n ph h e f =
+  quiet_none n k h e f =
       did_nothing n c s (input_act n s x (ends n (sites_of c) s) i) h
       (ap (own_turn (set_both x i))
-      (quiet_stays n s i y x.outputs (ready_in n (sites_of c) s) y.phase (quiet_by ph y.phase e f)))
+      (quiet_stays n s i y x.outputs (ready_in n (sites_of c) s) y.phase (quiet_by _ (rw e at f))))
 
   -- it waits
   pub waits_none : (isReady : ℕ → Bool) (z : Input) (w : Bool) → length c ≡ word_count → z ≡ y → w ≡ waits z isReady → w ≡ true

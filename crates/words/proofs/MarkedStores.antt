@@ -25,14 +25,6 @@ outputs_of_lem c s hs = ap (λ (x : Site). length x.outputs) (site_at_lem c s hs
 pub marks_of_lem : (c : List ℕ) (s : ℕ) → s < sites_most → (i : ℕ) → i < input_count → length (in_at (site_at (sites_of c) s) i).outputs ≡ output_count
 marks_of_lem c s hs i hi = ((shaped c).site s hs).marks i hi
 
--- an output stored as it is
-pub none_stored : (c : List ℕ) (s j : ℕ) → length c ≡ word_count
-    → Stored c c (set_site (sites_of c) s (set_out (site_at (sites_of c) s) j (out_at (site_at (sites_of c) s) j)))
-none_stored c s j h =
-    let x = site_at (sites_of c) s in
-    let e = ap (λ (os : List Output). set_site (sites_of c) s (with_outputs x os)) (set-get_or x.outputs j no_output) ∙ set-get_or (sites_of c) s site_d in
-    record { size = h; sites = sym e; counter = refl; kept = λ ok. ok }
-
 -- the site of the words c with its first k outputs stored, those that are marked in bs from l
 module _ (c : List ℕ) (s : ℕ) (bs : List Bool) (l : List Output) where
   abbrev x : Site

@@ -1,6 +1,6 @@
 -- A turn over words is a turn of the run: a send tried, a draw made, the one or the other. Assumes what each law names.
 use Prim.Native.Nat.{ℕ, ◌+◌, ◌≤◌, ◌<◌}
-use mathlib.Core.Path.{◌≡◌, refl, sym, ap, ap₂, subst, ◌∙◌}
+use mathlib.Core.Path.{◌≡◌, refl, sym, ap, subst, ◌∙◌}
 use mathlib.Core.List.{List, []}
 use mathlib.Core.Bool.{Bool, true, false, cond, ◌&&◌}
 use native.Mathlib.Omega.{arith}
@@ -8,7 +8,6 @@ use borrow.Author.Tests.{ltb-true}
 use lib.Dec.{eqb, ltb}
 use Rattle.base.specs.Bools.{clash}
 use Rattle.base.specs.Sizes.{sites_most}
-use Rattle.sets.specs.Sets.{size}
 use Rattle.draws.specs.Draws.{DrawnEvent}
 use Rattle.draws.specs.Draws.{drawn, drawn_site, drawn_code, event_of}
 use Rattle.draws.proofs.Laws.{event_named, site_below}
@@ -66,9 +65,6 @@ standing_in t y b =
 abbrev passed_over : Tally → Tally
 passed_over t = record { accepted = t.accepted; pairs = t.pairs; serviced = t.serviced; next = t.next + 1; clock = t.clock }
 
-abbrev taken_up : Tally → ℕ → Tally
-taken_up t m = record { accepted = t.accepted + 1; pairs = t.pairs + m; serviced = t.serviced; next = t.next + 1; clock = t.clock }
-
 module _ (S D : ℕ) (c d : List ℕ) (o : StoredSend) (t : Tally) (w : Sent) (s : ℕ) (hs : s ≡ o.site)
     (k : Took c d w (tried S D (state_of c) s o.set)) where
   took : Took c d w (tried_send S D c o)
@@ -84,17 +80,6 @@ module _ (S D : ℕ) (c d : List ℕ) (o : StoredSend) (t : Tally) (w : Sent) (s
         same =
             λ b.
             ap (λ (y : State). standing_in (passed_over t) y b) y
-            ∙ sym (ap (answered (standing t c b) o.set (tried_send S D c o)) a);
-      }
-
-  pub accepted_on : (q m : ℕ) → w ≡ Accepted q → m ≡ size o.set → Tried S D c d o t (taken_up t m)
-  accepted_on q m e hm =
-      let a : (tried_send S D c o).answer ≡ Accepted q = sym took.answer ∙ e in
-      record {
-        size = took.size;
-        same =
-            λ b.
-            ap₂ (λ (y : State) (j : ℕ). standing_in (taken_up t j) y b) took.state hm
             ∙ sym (ap (answered (standing t c b) o.set (tried_send S D c o)) a);
       }
 

@@ -13,7 +13,7 @@ ghost use Rattle.words.specs.Events as spec;
 ghost use Rattle.words.specs.Events.{RunAsks, site_in, end_of};
 ghost use Rattle.words.specs.Marked.{masked, seen};
 
-use crate::load::{is_taken, load_input, phase_of};
+use crate::load::{is_taken, load_input, phase_of, state_of};
 use crate::marked::{load_marked, load_seen, opening, touched};
 use crate::puts::put_input;
 use layout::WORDS;
@@ -168,19 +168,16 @@ fn seek_in_place(network: &Network, words: &mut [u64; WORDS], s: usize, i: usize
     put_input(words, s, i, marks, turn)
 }
 
-// Codes 0 to 4: net-input i, by its state.
+// Codes 0 to 4: net-input i, by its state number in a local, as the specification asks of RUN (docs/DECISIONS.md, its forms).
 pub(crate) fn input_in_place(network: &Network, words: &mut [u64; WORDS], s: usize, i: usize) -> Ran
     requires place { i < input_count }
     requires asks { RunAsks network.now words.old s }
     ensures { spec.DidInput network.now words.old words.new s result i }
 {
-    match phase_of(words, s, i) {
-        Phase::Free | Phase::Abort(_) => Ran::Nothing,
-        Phase::Seek => seek_in_place(network, words, s, i),
-        Phase::Open(_)
-        | Phase::Wait(_)
-        | Phase::Done(_, _)
-        | Phase::Last(_, _)
-        | Phase::FinAbort(_, _) => other_in_place(network, words, s, i),
+    let number = state_of(words, s, i);
+    match number {
+        0 | 6 => Ran::Nothing,
+        1 => seek_in_place(network, words, s, i),
+        _ => other_in_place(network, words, s, i),
     }
 }

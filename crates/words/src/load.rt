@@ -1,6 +1,7 @@
 // Places read from the words of a state, and what is cheap to see of a place before it is read.
 ghost use Rattle.std.specs.Prelude.{◌≡◌, ◌&&◌, ◌<◌};
 ghost use Rattle.base.specs.Sizes.{sites_most, input_count, output_count, in_queue_count, queue_room};
+ghost use Rattle.types.specs.Numbers.{state_number};
 ghost use Rattle.types.specs.Phases.{is_none};
 ghost use Rattle.model.specs.Types.{site_at, in_at, out_at, queue_at, in_entry, carries};
 ghost use Rattle.model.specs.Places.{stalled};
@@ -149,6 +150,14 @@ pub(crate) fn load_counter(words: &[u64; WORDS]) -> u8
 }
 
 // ---- what is seen of a place by its packed word alone
+
+// The state number of net-input i.
+pub(crate) fn state_of(words: &[u64; WORDS], s: usize, i: usize) -> u64
+    requires { (s < sites_most) × (i < input_count) }
+    ensures { result ≡ state_number (in_at (site_at (spec.sites_of words.now) s) i).phase }
+{
+    fields_at(words, s, i) % 8
+}
 
 // The state of net-input i.
 pub(crate) fn phase_of(words: &[u64; WORDS], s: usize, i: usize) -> Phase

@@ -37,17 +37,18 @@ fn send_turn(
         (t.pairs ≤ sends_most * set_bits) }
     ensures { Tried sites depth words.old words.new order t result }
 {
-    match send_in_place(sites, depth, words, usize::from(order.site), order.set) {
-        Sent::Accepted(_) => Tally {
-            accepted: t.accepted + 1,
-            pairs: t.pairs + sets::size(order.set),
-            next: t.next + 1,
-            ..t
-        },
-        Sent::Refused(_) => Tally {
-            next: t.next + 1,
-            ..t
-        },
+    let answer = send_in_place(sites, depth, words, usize::from(order.site), order.set);
+    let tried = Tally {
+        next: t.next + 1,
+        ..t
+    };
+    let Sent::Accepted(_) = answer else {
+        return tried;
+    };
+    Tally {
+        accepted: t.accepted + 1,
+        pairs: t.pairs + sets::size(order.set),
+        ..tried
     }
 }
 
@@ -101,20 +102,21 @@ fn play_turns(run: &Run, words: &mut [u64; WORDS], book: &mut [u8]) -> Tally
             draw: 0,
         },
     };
-    for k in 0..total {
+    for _turn in 0..total {
         let order = run.sends[capped(t.next)];
         t = take_turn(run, order, words, book, t);
     }
     t
 }
 
-// A valid run played from the empty state, the book large enough: its words are a local's, lent to the loop.
-fn play_run(run: &Run, book: &mut [u8]) -> Counts
-    requires { Playable run.now (length book.old) }
-    ensures { (result ≡ counts_of (played_run run.now)) × (book.new ≡ book_in run.now book.old) }
+// A valid run played from the empty state, the book large enough: its words are a local's, lent to the loop. The run comes by
+// value: where `play` lends it, the compiler keeps a second one, and the stack is above its bound (scripts/stack.sh).
+fn play_run(run: Run, book: &mut [u8]) -> Counts
+    requires { Playable run (length book.old) }
+    ensures { (result ≡ counts_of (played_run run)) × (book.new ≡ book_in run book.old) }
 {
     let mut words = [0u64; WORDS];
-    let t = play_turns(run, &mut words, book);
+    let t = play_turns(&run, &mut words, book);
     Counts {
         accepted: t.accepted,
         pairs: t.pairs,
@@ -132,5 +134,5 @@ pub fn play(bytes: &[u8], book: &mut [u8]) -> Result<Counts, Refusal>
     if let Some(refusal) = started.refused {
         return Err(refusal);
     }
-    Ok(play_run(&started.run, book))
+    Ok(play_run(started.run, book))
 }
