@@ -1,5 +1,5 @@
 // What a batch is asked for: its options, in any order, and how many names its words have.
-use front::{Desk, Words};
+use front::{Desk, NoWork, Program, Words};
 
 // The options of batch's own.
 pub const NO_OPTION: u8 = 0;
@@ -47,19 +47,16 @@ fn nothing_asked(words: Words) -> Asked {
     }
 }
 
-// What the arguments from number `first` on ask for.
-pub fn asked_of(rt: &impl Desk, who: &[u8], first: usize) -> Asked {
-    let mut asked = nothing_asked(front::no_words(rt, who, first));
-    for i in first..front::arg_count(rt) {
-        asked = take_argument(rt, who, i, asked);
-    }
-    whole(rt, who, asked)
-}
-
-fn take_argument(rt: &impl Desk, who: &[u8], i: usize, asked: Asked) -> Asked {
+// What the words ask for.
+pub fn asked_of(program: &Program<impl Desk>) -> Result<Asked, NoWork> {
+    let nothing = nothing_asked(Words::none(program)?);
     let mut room = io::buffer();
-    let n = front::word_at(rt, i, &mut room);
-    take_word(rt, who, i, &room[..n], asked)
+    let asked = program.fold_words(
+        &mut room,
+        Ok(nothing),
+        |asked, i, word| take_word(program, i, word, asked?),
+    )?;
+    whole(program, asked)
 }
 
 // The number of an option of batch's own, or NO_OPTION; there is none behind `--`.
@@ -83,20 +80,21 @@ pub fn option_of(ended: bool, word: &[u8]) -> u8 {
 }
 
 // One word more.
-fn take_word(rt: &impl Desk, who: &[u8], i: usize, word: &[u8], asked: Asked) -> Asked {
+fn take_word(
+    program: &Program<impl Desk>,
+    i: usize,
+    word: &[u8],
+    asked: Asked,
+) -> Result<Asked, NoWork> {
     let words = asked.words;
     let mut now = asked;
-    if words.help | words.wrong {
-        return now;
-    }
     if asked.wants != NONE {
-        return take_number(rt, who, word, asked);
+        return take_number(program, word, asked);
     }
-    let option = option_of(words.ended, word);
+    let option = option_of(words.is_ended, word);
     if option == NO_OPTION {
-        let more = front::take_word(rt, who, i, word, words);
-        now.words = more;
-        return now;
+        now.words = words.with(program, i, word)?;
+        return Ok(now);
     }
     now.services = asked.services | (option == SERVICES);
     now.zero = asked.zero | (option == ZERO);
@@ -104,55 +102,36 @@ fn take_word(rt: &impl Desk, who: &[u8], i: usize, word: &[u8], asked: Asked) ->
     if option == SLICE {
         now.slice = true;
         now.wants = SKIPPED;
-        return now;
     }
-    now
+    Ok(now)
 }
 
 // A number of `--slice A B`.
-fn take_number(rt: &impl Desk, who: &[u8], word: &[u8], asked: Asked) -> Asked {
+fn take_number(program: &Program<impl Desk>, word: &[u8], asked: Asked) -> Result<Asked, NoWork> {
     let mut now = asked;
     let number = number_of(word);
     if !number.good {
-        return wrong(rt, who, b"--slice wants two numbers", asked);
+        return Err(program.misused("--slice wants two numbers"));
     }
     if asked.wants == SKIPPED {
         now.skip = number.value;
         now.wants = PLAYED;
-        return now;
+        return Ok(now);
     }
     now.left = number.value;
     now.wants = NONE;
-    now
+    Ok(now)
 }
 
 // Behind the last word: whether the words fit together.
-fn whole(rt: &impl Desk, who: &[u8], asked: Asked) -> Asked {
-    let words = asked.words;
-    if words.help | words.wrong {
-        return asked;
-    }
+fn whole(program: &Program<impl Desk>, asked: Asked) -> Result<Asked, NoWork> {
     if asked.wants != NONE {
-        return wrong(rt, who, b"--slice wants two numbers", asked);
+        return Err(program.misused("--slice wants two numbers"));
     }
-    if asked.slice & (words.names > 0) {
-        return wrong(
-            rt,
-            who,
-            b"--slice takes its names from standard input",
-            asked,
-        );
+    if asked.slice && asked.words.names > 0 {
+        return Err(program.misused("--slice takes its names from standard input"));
     }
-    asked
-}
-
-fn wrong(rt: &impl Desk, who: &[u8], text: &[u8], asked: Asked) -> Asked {
-    front::say(rt, who, text, b"");
-    let mut words = asked.words;
-    words.wrong = true;
-    let mut now = asked;
-    now.words = words;
-    now
+    Ok(asked)
 }
 
 // A number in decimal, if it is `good`.

@@ -1,7 +1,7 @@
 // The names of a batch, from the arguments or from standard input, each played as it comes.
 use crate::asked::{Asked, NO_OPTION, option_of};
 use crate::one::{Totals, long_name, no_files, play_file, print_part, tell_unplayed};
-use front::{Desk, Words};
+use front::{Desk, Program, Words};
 use std::io::{Error, Read};
 
 // The longest argument that Linux passes, with the 0 that ends it.
@@ -50,81 +50,76 @@ struct Arguments {
     names: Names,
 }
 
-// Plays the files that the arguments name, from number `first` on.
-pub fn from_arguments(rt: &impl Desk, who: &[u8], first: usize, asked: Asked) -> Totals {
+// Plays the files that the words name.
+pub fn from_arguments(program: &Program<impl Desk>, asked: Asked) -> Totals {
     let manner = Manner {
         end: 0,
         line: false,
         services: asked.services,
         unplayed: asked.unplayed,
     };
-    let mut arguments = Arguments {
-        words: front::no_words(rt, who, first),
-        names: no_names(asked),
+    let names = no_names(asked);
+    let Ok(words) = Words::none(program) else {
+        return names.totals;
     };
     let mut argument = [0u8; ARGUMENT];
     let mut name = io::buffer();
-    for i in first..front::arg_count(rt) {
-        arguments = take_argument(rt, who, i, &mut argument, &mut name, manner, arguments);
-    }
-    let names = arguments.names;
-    names.totals
+    let arguments = program.fold_words(
+        &mut argument,
+        Arguments { words, names },
+        |arguments, i, word| { take_argument(program, i, word, &mut name, manner, arguments) },
+    );
+    arguments.names.totals
 }
 
 // Argument i; of one longer than the room only its first bytes are known.
 fn take_argument(
-    rt: &impl Desk,
-    who: &[u8],
+    program: &Program<impl Desk>,
     i: usize,
-    argument: &mut [u8],
+    argument: &[u8],
     name: &mut [u8],
     manner: Manner,
     arguments: Arguments,
 ) -> Arguments {
     let words = arguments.words;
     let names = arguments.names;
-    let n = front::word_at(rt, i, argument);
-    if option_of(words.ended, &argument[..n]) != NO_OPTION {
+    if option_of(words.is_ended, argument) != NO_OPTION {
         return arguments;
     }
-    let more = front::take_word(rt, who, i, &argument[..n], words);
-    if more.names == words.names {
-        return Arguments {
+    match words.with(program, i, argument) {
+        Ok(more) if more.names != words.names => Arguments {
             words: more,
-            names: names,
-        };
-    }
-    Arguments {
-        words: more,
-        names: play_argument(rt, who, &argument[..n], name, manner, names),
+            names: play_argument(program, argument, name, manner, names),
+        },
+        Ok(more) => Arguments { words: more, names },
+        Err(_) => arguments,
     }
 }
 
 fn play_argument(
-    rt: &impl Desk,
-    who: &[u8],
+    program: &Program<impl Desk>,
     argument: &[u8],
     name: &mut [u8],
     manner: Manner,
     names: Names,
 ) -> Names {
-    let all = take_chunk(rt, who, argument, name, manner, names);
-    end_name(rt, who, name, manner, all)
+    let all = take_chunk(program, argument, name, manner, names);
+    end_name(program, name, manner, all)
 }
 
 // ---- from standard input
 
 // Plays the files that standard input names. The last name may lack its end. A proved loop has to end, and nothing says
 // that the input does, so the turns are counted down from a number that no run uses up.
-pub fn from_input(rt: &impl Desk, who: &[u8], asked: Asked) -> Totals {
-    let mut input = rt.reader();
+pub fn from_input(program: &Program<impl Desk>, asked: Asked) -> Totals {
+    let mut input = program.rt.reader();
     let mut name = io::buffer();
     let mut names = no_names(asked);
     let manner = manner_of(asked);
     let mut turns = u64::MAX;
     while turns > 0 {
         turns -= 1;
-        names = read_some(rt, who, &mut input, &mut name, manner, names);
+        names = read_some(program, &mut input, &mut name, manner, names);
         if names.over {
             break;
         }
@@ -143,8 +138,7 @@ fn manner_of(asked: Asked) -> Manner {
 
 // Reads once, and plays the names that are complete.
 fn read_some(
-    rt: &impl Desk,
-    who: &[u8],
+    program: &Program<impl Desk>,
     input: &mut impl Read,
     name: &mut [u8],
     manner: Manner,
@@ -152,15 +146,15 @@ fn read_some(
 ) -> Names {
     let mut chunk = io::buffer();
     match input.read(&mut chunk) {
-        Ok(0) => end_input(rt, who, name, manner, names),
-        Ok(n) => take_chunk(rt, who, &chunk[..n], name, manner, names),
-        Err(error) => cut(rt, who, names, error),
+        Ok(0) => end_input(program, name, manner, names),
+        Ok(n) => take_chunk(program, &chunk[..n], name, manner, names),
+        Err(error) => cut(program, names, error),
     }
 }
 
 // Standard input cannot be read, or not further.
-fn cut(rt: &impl Desk, who: &[u8], names: Names, error: Error) -> Names {
-    front::no_input(rt, who, error);
+fn cut(program: &Program<impl Desk>, names: Names, error: Error) -> Names {
+    program.no_input(error);
     let mut totals = names.totals;
     totals.cut = true;
     let mut now = names;
@@ -169,9 +163,9 @@ fn cut(rt: &impl Desk, who: &[u8], names: Names, error: Error) -> Names {
     now
 }
 
-fn end_input(rt: &impl Desk, who: &[u8], name: &[u8], manner: Manner, names: Names) -> Names {
+fn end_input(program: &Program<impl Desk>, name: &[u8], manner: Manner, names: Names) -> Names {
     if (names.count > 0) | names.long {
-        let mut now = end_name(rt, who, name, manner, names);
+        let mut now = end_name(program, name, manner, names);
         now.over = true;
         return now;
     }
@@ -183,8 +177,7 @@ fn end_input(rt: &impl Desk, who: &[u8], name: &[u8], manner: Manner, names: Nam
 // ---- byte by byte
 
 fn take_chunk(
-    rt: &impl Desk,
-    who: &[u8],
+    program: &Program<impl Desk>,
     chunk: &[u8],
     name: &mut [u8],
     manner: Manner,
@@ -192,14 +185,13 @@ fn take_chunk(
 ) -> Names {
     let mut now = names;
     for i in 0..chunk.len() {
-        now = take_byte(rt, who, chunk[i], name, manner, now);
+        now = take_byte(program, chunk[i], name, manner, now);
     }
     now
 }
 
 fn take_byte(
-    rt: &impl Desk,
-    who: &[u8],
+    program: &Program<impl Desk>,
     byte: u8,
     name: &mut [u8],
     manner: Manner,
@@ -209,13 +201,13 @@ fn take_byte(
         return names;
     }
     if byte == manner.end {
-        return end_name(rt, who, name, manner, names);
+        return end_name(program, name, manner, names);
     }
-    add_byte(byte, name, spilled(rt, who, name, names))
+    add_byte(byte, name, spilled(program, name, names))
 }
 
 // A full room is printed, to be filled anew: so long a name cannot be read.
-fn spilled(rt: &impl Desk, who: &[u8], name: &[u8], names: Names) -> Names {
+fn spilled(program: &Program<impl Desk>, name: &[u8], names: Names) -> Names {
     if names.count < name.len() {
         return names;
     }
@@ -225,7 +217,7 @@ fn spilled(rt: &impl Desk, who: &[u8], name: &[u8], names: Names) -> Names {
     if names.skip > 0 {
         return now;
     }
-    let totals = print_part(rt, who, name, names.totals);
+    let totals = print_part(program, name, names.totals);
     now.totals = totals;
     now.over = totals.lost;
     now
@@ -243,7 +235,7 @@ fn add_byte(byte: u8, name: &mut [u8], names: Names) -> Names {
 }
 
 // The present name is complete.
-fn end_name(rt: &impl Desk, who: &[u8], name: &[u8], manner: Manner, names: Names) -> Names {
+fn end_name(program: &Program<impl Desk>, name: &[u8], manner: Manner, names: Names) -> Names {
     let mut now = names;
     if names.over {
         return now;
@@ -256,7 +248,7 @@ fn end_name(rt: &impl Desk, who: &[u8], name: &[u8], manner: Manner, names: Name
         return now;
     }
     let word = front_of(name, trimmed(name, names.count, manner.line));
-    let totals = play_name(rt, who, word, names.long, manner, names.totals);
+    let totals = play_name(program, word, names.long, manner, names.totals);
     let left = names.left.wrapping_sub(1);
     now.left = left;
     now.totals = totals;
@@ -265,20 +257,19 @@ fn end_name(rt: &impl Desk, who: &[u8], name: &[u8], manner: Manner, names: Name
 }
 
 fn play_name(
-    rt: &impl Desk,
-    who: &[u8],
+    program: &Program<impl Desk>,
     word: &[u8],
     long: bool,
     manner: Manner,
     totals: Totals,
 ) -> Totals {
     if manner.unplayed {
-        return tell_unplayed(rt, who, word, totals);
+        return tell_unplayed(program, word, totals);
     }
     if long {
-        return long_name(rt, who, word, totals);
+        return long_name(program, word, totals);
     }
-    play_file(rt, who, word, manner.services, totals)
+    play_file(program, word, manner.services, totals)
 }
 
 // The number of bytes without the carriage return at the end of a line.

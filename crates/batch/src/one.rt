@@ -1,6 +1,6 @@
 // One file of a batch: read, played, and told in one line, which goes out by one write. The totals go in by value and
 // come back.
-use front::Desk;
+use front::{Desk, Program};
 use types::Counts;
 
 // Room for a line: a name of 4,096 bytes at its longest, and an answer.
@@ -30,56 +30,53 @@ pub fn no_files() -> Totals {
 
 // Plays the file of this name.
 pub fn play_file(
-    rt: &impl Desk,
-    who: &[u8],
+    program: &Program<impl Desk>,
     name: &[u8],
     services: bool,
     totals: Totals,
 ) -> Totals {
     let mut bytes = io::large_buffer();
-    let seen = front::read_file(rt, who, name, &mut bytes);
-    if seen.failed {
-        return tell(rt, who, name, b": cannot be read\n", totals);
-    }
-    let n = seen.count;
+    let Some(n) = program.read_file(name, &mut bytes) else {
+        return tell(program, name, b": cannot be read\n", totals);
+    };
     let mut book = [0u8; report::BOOK];
     let played = words::play(&bytes[..n], &mut book);
     let counts = played.counts;
     let shown = if services { counts.serviced } else { 0 };
-    if let Err(error) = report::print_services(rt, &book, shown) {
-        front::no_output(rt, who, error);
+    if let Err(error) = report::print_services(&program.rt, &book, shown) {
+        program.no_output(error);
         return counted(totals, played.refusal, false);
     }
-    let is_printed = print_answer(rt, who, name, played.refusal, counts);
+    let is_printed = print_answer(program, name, played.refusal, counts);
     counted(totals, played.refusal, is_printed)
 }
 
 // The last part of a name that is longer than a path can be.
-pub fn long_name(rt: &impl Desk, who: &[u8], name: &[u8], totals: Totals) -> Totals {
-    front::too_long(rt, who);
-    tell(rt, who, name, b": cannot be read\n", totals)
+pub fn long_name(program: &Program<impl Desk>, name: &[u8], totals: Totals) -> Totals {
+    program.too_long();
+    tell(program, name, b": cannot be read\n", totals)
 }
 
-pub fn tell_unplayed(rt: &impl Desk, who: &[u8], name: &[u8], totals: Totals) -> Totals {
-    tell(rt, who, name, b": not played\n", totals)
+pub fn tell_unplayed(program: &Program<impl Desk>, name: &[u8], totals: Totals) -> Totals {
+    tell(program, name, b": not played\n", totals)
 }
 
 // Prints a part of a long name.
-pub fn print_part(rt: &impl Desk, who: &[u8], name: &[u8], totals: Totals) -> Totals {
+pub fn print_part(program: &Program<impl Desk>, name: &[u8], totals: Totals) -> Totals {
     let mut line = [0u8; LINE];
     let end = report::add_name(&mut line, 0, name);
-    let is_printed = front::print(rt, who, &line[..end]);
+    let is_printed = program.print(&line[..end]);
     let mut now = totals;
     now.lost = totals.lost | !is_printed;
     now
 }
 
 // The line of a name of which nothing was played.
-fn tell(rt: &impl Desk, who: &[u8], name: &[u8], words: &[u8], totals: Totals) -> Totals {
+fn tell(program: &Program<impl Desk>, name: &[u8], words: &[u8], totals: Totals) -> Totals {
     let mut line = [0u8; LINE];
     let named = report::add_name(&mut line, 0, name);
     let end = report::add_bytes(&mut line, named, words);
-    let is_printed = front::print(rt, who, &line[..end]);
+    let is_printed = program.print(&line[..end]);
     let mut now = totals;
     now.files = totals.files.wrapping_add(1);
     now.unreadable = totals.unreadable.wrapping_add(1);
@@ -87,12 +84,12 @@ fn tell(rt: &impl Desk, who: &[u8], name: &[u8], words: &[u8], totals: Totals) -
     now
 }
 
-fn print_answer(rt: &impl Desk, who: &[u8], name: &[u8], refusal: u8, counts: Counts) -> bool {
+fn print_answer(program: &Program<impl Desk>, name: &[u8], refusal: u8, counts: Counts) -> bool {
     let mut line = [0u8; LINE];
     let named = report::add_name(&mut line, 0, name);
     let behind = report::add_bytes(&mut line, named, b": ");
     let end = report::add_answer(&mut line, behind, refusal, counts);
-    front::print(rt, who, &line[..end])
+    program.print(&line[..end])
 }
 
 fn counted(totals: Totals, refusal: u8, is_printed: bool) -> Totals {

@@ -7,109 +7,117 @@ mod heads;
 mod held;
 mod items;
 
-use front::{Desk, Words};
-use std::io::{ErrorKind, Print, Result};
+use front::{Desk, NoWork, Program, Status, Usage, Words};
+use std::io::ErrorKind;
 
 // The longest argument that Linux passes, with the 0 that ends it.
 const ARGUMENT: usize = 131072;
 // Room for a line: such an argument with every byte escaped, and the words around it.
 const LINE: usize = 4 * ARGUMENT + 1024;
-// The status of a line whose reader has gone: no more files are looked at.
-const GONE: u64 = 3;
+
+const USAGE: Usage = Usage {
+    words: "[--] FILE..",
+    meaning: "Says of each FILE whether it is an archive; if it is not, what is wrong and where.\n",
+};
+
+// The files so far: whether each was an archive whose line could be written, whether `--` has come, and whether the reader
+// of the lines has gone. Then no more files are looked at.
+#[derive(Clone, Copy)]
+struct Files {
+    status: Status,
+    is_ended: bool,
+    is_gone: bool,
+}
 
 fn main(rt: HostRuntime) {
-    let mut name = [0u8; front::WHO];
-    let called = front::begin(&rt, b"inspect", &mut name);
-    let n = called.count;
-    let status = answer(&rt, &name[..n], called.first);
-    front::tell_status(called.fronted, status);
+    front::run(rt, "inspect", |program| answer(program));
 }
 
-// What is asked from argument `first` on. Answers the status.
-fn answer(rt: &impl Desk, who: &[u8], first: usize) -> u64 {
-    let words = front::words_of(rt, who, first);
-    if words.help {
-        return front::helped(rt, who, print_usage(rt, who));
+// Does what the words ask for.
+fn answer(program: &Program<impl Desk>) -> Status {
+    match words_of(program) {
+        Ok(_) => inspect_words(program),
+        Err(why) => program.show_usage(why, USAGE),
     }
-    if is_wrong(rt, who, words) {
-        return front::misused(print_usage(&rt.messages(), who));
-    }
-    inspect_words(rt, who, first)
 }
 
-fn is_wrong(rt: &impl Desk, who: &[u8], words: Words) -> bool {
-    if words.wrong {
-        return true;
-    }
+fn words_of(program: &Program<impl Desk>) -> Result<Words, NoWork> {
+    let words = Words::of(program)?;
     if words.names == 0 {
-        front::say(rt, who, b"no FILE is named", b"");
-        return true;
+        return Err(program.misused("no FILE is named"));
     }
-    false
+    Ok(words)
 }
 
-fn print_usage(to: &impl Print, who: &[u8]) -> Result<()> {
-    front::print_usage(
-        to,
-        who,
-        b" [--] FILE..\n",
-        b"Says of each FILE whether it is an archive; if it is not, what is wrong and where.\n",
-    )
-}
-
-fn inspect_words(rt: &impl Desk, who: &[u8], first: usize) -> u64 {
+// The files that the words name.
+fn inspect_words(program: &Program<impl Desk>) -> Status {
     let mut name = [0u8; ARGUMENT];
     let mut line = [0u8; LINE];
-    inspect_all(rt, who, first, &mut name, &mut line)
+    let nothing = Files {
+        status: Status::Done,
+        is_ended: false,
+        is_gone: false,
+    };
+    let files = program.fold_words(
+        &mut name,
+        nothing,
+        |files, _, word| take_word(program, word, &mut line, files),
+    );
+    files.status
 }
 
-// The files that the words name, from argument `first` on. The only option among them is the first `--`.
-fn inspect_all(rt: &impl Desk, who: &[u8], first: usize, name: &mut [u8], line: &mut [u8]) -> u64 {
-    let mut status = front::DONE;
-    let mut ended = false;
-    for i in first..front::arg_count(rt) {
-        let n = front::word_at(rt, i, name);
-        if !ended && check::same(&name[..n], b"--") {
-            ended = true;
-            continue;
-        }
-        let told = inspect(rt, who, &name[..n], line);
-        if told == GONE {
-            return front::FAILED;
-        }
-        if told != front::DONE {
-            status = front::FAILED;
+// One more word. The only option among them is the first `--`.
+fn take_word(program: &Program<impl Desk>, word: &[u8], line: &mut [u8], files: Files) -> Files {
+    let mut now = files;
+    if files.is_gone {
+        return now;
+    }
+    if !files.is_ended && check::same(word, b"--") {
+        now.is_ended = true;
+        return now;
+    }
+    match inspect(program, word, line) {
+        Told::With(Status::Done) => {}
+        Told::With(_) => now.status = Status::Failed,
+        Told::Gone => {
+            now.status = Status::Failed;
+            now.is_gone = true;
         }
     }
-    status
+    now
+}
+
+// What came of a line: the status of its file, or that the reader of the lines has gone.
+#[derive(Clone, Copy)]
+enum Told {
+    With(Status),
+    Gone,
 }
 
 // The line of the file of this name, and its status.
-fn inspect(rt: &impl Desk, who: &[u8], name: &[u8], line: &mut [u8]) -> u64 {
+fn inspect(program: &Program<impl Desk>, name: &[u8], line: &mut [u8]) -> Told {
     let named = report::add_name(line, 0, name);
     let at = report::add_bytes(line, named, b": ");
     let mut room = io::large_buffer();
-    let seen = front::read_file(rt, who, name, &mut room);
-    if seen.failed {
+    let Some(n) = program.read_file(name, &mut room) else {
         let told = report::add_bytes(line, at, b"cannot be read");
-        return printed(rt, who, line, told, front::FAILED);
-    }
-    let n = seen.count;
-    judge(rt, who, line, at, &room[..n])
+        return printed(program, line, told, Status::Failed);
+    };
+    judge(program, line, at, &room[..n])
 }
 
 // The line of these bytes behind the file's name. Answers the status.
-fn judge(rt: &impl Desk, who: &[u8], line: &mut [u8], at: usize, b: &[u8]) -> u64 {
+fn judge(program: &Program<impl Desk>, line: &mut [u8], at: usize, b: &[u8]) -> Told {
     let fault = faults::find(b);
     let refusal = fault.refusal;
     if refusal == 0 {
         let good = heads::add_good(line, at, b);
-        return printed(rt, who, line, good, front::DONE);
+        return printed(program, line, good, Status::Done);
     }
     let numbers = [base::wide(refusal), 0, 0, 0, 0, 0];
     let number = front::fill(line, at, b"refused %: ", numbers);
     let told = add_fault(line, number, b, refusal, fault.place);
-    printed(rt, who, line, told, front::FAILED)
+    printed(program, line, told, Status::Failed)
 }
 
 // In words what is wrong with these bytes, and where.
@@ -134,14 +142,18 @@ fn add_head_fault(line: &mut [u8], at: usize, b: &[u8], refusal: u8) -> usize {
 }
 
 // Ends the line and writes it. Answers this status, or that it could not be written.
-fn printed(rt: &impl Desk, who: &[u8], line: &mut [u8], at: usize, status: u64) -> u64 {
+fn printed(program: &Program<impl Desk>, line: &mut [u8], at: usize, status: Status) -> Told {
     let end = report::add_bytes(line, at, b"\n");
-    match rt.write_all(&line[..end]) {
-        Ok(()) => status,
+    match program.rt.write_all(&line[..end]) {
+        Ok(()) => Told::With(status),
         Err(error) => {
             let is_gone = matches!(error.kind(), ErrorKind::BrokenPipe);
-            front::no_output(rt, who, error);
-            if is_gone { GONE } else { front::FAILED }
+            program.no_output(error);
+            if is_gone {
+                Told::Gone
+            } else {
+                Told::With(Status::Failed)
+            }
         }
     }
 }
