@@ -59,18 +59,22 @@ impl Numbers {
         self.add(types::terminator_number(entry.terminator));
     }
 
-    fn add_out_queue(&mut self, queue: &OutQueue) {
-        self.add(queue.count as u64);
-        for entry in &queue.entries {
-            self.add_out_entry(entry);
+    // A queue: its count, and its entries by the function that adds one.
+    fn add_queue<E, F: Fn(&mut Numbers, &E)>(&mut self, count: usize, entries: &[E], add: F)
+        requires { F.IsAlwaysCallable add }
+    {
+        self.add(count as u64);
+        for entry in entries {
+            add(self, entry);
         }
     }
 
+    fn add_out_queue(&mut self, queue: &OutQueue) {
+        self.add_queue(queue.count, &queue.entries, Numbers::add_out_entry);
+    }
+
     fn add_in_queue(&mut self, queue: &InQueue) {
-        self.add(queue.count as u64);
-        for entry in &queue.entries {
-            self.add_in_entry(entry);
-        }
+        self.add_queue(queue.count, &queue.entries, Numbers::add_in_entry);
     }
 }
 

@@ -11,6 +11,7 @@ use types::{
     Terminator,
 };
 
+// The lowest byte, and the lowest two: `%` cuts what `as`, which loses no bits here, would not pass.
 pub(crate) fn byte_of(n: u64) -> u8
     ensures { result ≡ n % 256 }
 {
@@ -129,45 +130,58 @@ impl Numbers<'_> {
         }
     }
 
-    fn out_entry(&mut self) -> OutEntry {
-        let packet = self.byte();
-        let set = self.next();
-        let started = self.mark();
+    // The count of a queue and its entries.
+    fn queue<E: Entry>(&mut self) -> (usize, [E; base::QUEUE]) {
+        let count = self.next() as usize;
+        (count, array::from_fn(|_| E::read(self)))
+    }
+
+    fn out_queue(&mut self) -> OutQueue {
+        let (count, entries) = self.queue();
+        OutQueue { entries, count }
+    }
+
+    fn in_queue(&mut self) -> InQueue {
+        let (count, entries) = self.queue();
+        InQueue { entries, count }
+    }
+}
+
+// An entry of a queue.
+trait Entry {
+    fn read(numbers: &mut Numbers<'_>) -> Self;
+}
+
+impl Entry for OutEntry {
+    fn read(numbers: &mut Numbers<'_>) -> Self {
+        let packet = numbers.byte();
+        let set = numbers.next();
+        let started = numbers.mark();
         OutEntry {
             set,
             packet,
             started,
         }
     }
+}
 
-    fn in_entry(&mut self) -> InEntry {
-        let packet = self.byte();
-        let set = self.next();
-        let terminator = terminator_of(self.next());
+impl Entry for InEntry {
+    fn read(numbers: &mut Numbers<'_>) -> Self {
+        let packet = numbers.byte();
+        let set = numbers.next();
+        let terminator = terminator_of(numbers.next());
         InEntry {
             set,
             terminator,
             packet,
         }
     }
-
-    fn out_queue(&mut self) -> OutQueue {
-        let count = self.next() as usize;
-        let entries = array::from_fn(|_| self.out_entry());
-        OutQueue { entries, count }
-    }
-
-    fn in_queue(&mut self) -> InQueue {
-        let count = self.next() as usize;
-        let entries = array::from_fn(|_| self.in_entry());
-        InQueue { entries, count }
-    }
 }
 
 pub(crate) fn site_of(numbers: &[u64]) -> Site {
     let mut numbers = Numbers(numbers);
     let mut inputs: [Input; base::INPUTS] = array::from_fn(|_| numbers.input());
-    let [a, b, c, d, e]: [Output; base::PORTS + 1] = array::from_fn(|_| numbers.output());
+    let ports: [Output; base::SPLIT_PORT] = array::from_fn(|_| numbers.output());
     let outgoing = numbers.out_queue();
     let first = numbers.in_queue();
     for input in &mut inputs {
@@ -177,7 +191,7 @@ pub(crate) fn site_of(numbers: &[u64]) -> Site {
     let second = numbers.in_queue();
     Site {
         inputs,
-        outputs: [a, b, c, d, e, split],
+        outputs: array::from_fn(|port| ports.get(port).copied().unwrap_or(split)),
         outgoing,
         incoming: [first, second],
     }
