@@ -3,6 +3,7 @@ use crate::asked::{Asked, Choice, End, Slice};
 use crate::one::{Stop, Totals, print_part};
 use front::{Desk, Line, Program, Words};
 use std::io::Read;
+use std::mem;
 
 // The longest argument that Linux passes, with the 0 that ends it.
 const ARGUMENT: usize = 131072;
@@ -14,14 +15,36 @@ const ALL: Slice = Slice {
     left: u64::MAX,
 };
 
-// Names met so far: the present one, and if it is long, more than a path can have, what came of it before is printed
-// already; what ends it; which names are left out yet and may be played; and what was played.
+// A name as it comes. Of one that is long, more than a path can have, only the last part is held: what came before is
+// printed already.
+#[derive(Clone, Copy)]
+struct Name {
+    part: Line<NAME>,
+    is_long: bool,
+}
+
+impl Name {
+    fn new() -> Self {
+        Name {
+            part: Line::new(),
+            is_long: false,
+        }
+    }
+
+    fn is_empty(&self) -> bool {
+        self.part.as_bytes().is_empty() && !self.is_long
+    }
+
+    fn is_full(&self) -> bool {
+        self.part.as_bytes().len() == NAME
+    }
+}
+
+// Names met so far: what is asked for, the present one, which are left out yet and may be played, and what was played.
 #[derive(Drop)]
 pub struct Names {
     asked: Asked,
-    end: End,
-    name: Line<NAME>,
-    is_long: bool,
+    name: Name,
     slice: Slice,
     pub totals: Totals,
 }
@@ -30,9 +53,7 @@ impl Names {
     pub fn new(asked: Asked) -> Self {
         Names {
             asked,
-            end: asked.end,
-            name: Line::new(),
-            is_long: false,
+            name: Name::new(),
             slice: asked.slice.unwrap_or(ALL),
             totals: Totals::default(),
         }
@@ -42,7 +63,7 @@ impl Names {
 
     // Plays the files that the words name, which are sorted again. An argument has no 0, and is taken as it is.
     pub fn take_arguments(&mut self, program: &Program<impl Desk>) -> Result<(), Stop> {
-        self.end = End::Zero;
+        self.asked.end = End::Zero;
         let Ok(words) = Words::none(program) else {
             return Ok(());
         };
@@ -97,10 +118,10 @@ impl Names {
     }
 
     fn end_input(&mut self, program: &Program<impl Desk>) -> Result<(), Stop> {
-        if self.is_long || !self.name.as_bytes().is_empty() {
-            self.end_name(program)?;
+        if self.name.is_empty() {
+            return Ok(());
         }
-        Ok(())
+        self.end_name(program)
     }
 
     // ---- byte by byte
@@ -116,57 +137,52 @@ impl Names {
     }
 
     fn take_byte(&mut self, program: &Program<impl Desk>, byte: u8) -> Result<(), Stop> {
-        if byte == self.end.byte() {
+        if byte == self.asked.end.byte() {
             return self.end_name(program);
         }
-        if self.name.as_bytes().len() == NAME {
+        if self.name.is_full() {
             self.spill(program)?;
         }
-        self.name.add_bytes(&[byte]);
+        self.name.part.add_bytes(&[byte]);
         Ok(())
     }
 
     // A full room is printed, to be filled anew: so long a name cannot be read.
     fn spill(&mut self, program: &Program<impl Desk>) -> Result<(), Stop> {
-        let part = self.name;
-        self.name = Line::new();
-        self.is_long = true;
+        let rest = Name {
+            part: Line::new(),
+            is_long: true,
+        };
+        let name = mem::replace(&mut self.name, rest);
         if self.slice.skip > 0 {
             return Ok(());
         }
-        print_part(program, part.as_bytes())
+        print_part(program, name.part.as_bytes())
     }
 
     // The present name is complete.
     fn end_name(&mut self, program: &Program<impl Desk>) -> Result<(), Stop> {
-        let name = self.name;
-        let is_long = self.is_long;
-        self.name = Line::new();
-        self.is_long = false;
+        let name = mem::replace(&mut self.name, Name::new());
         if self.slice.skip > 0 {
             self.slice.skip -= 1;
             return Ok(());
         }
         self.slice.left = self.slice.left.saturating_sub(1);
-        self.play(program, self.end.name_in(name.as_bytes()), is_long)?;
+        self.play(program, &name)?;
         match self.slice.left {
             0 => Err(Stop::Enough),
             _ => Ok(()),
         }
     }
 
-    fn play(
-        &mut self,
-        program: &Program<impl Desk>,
-        name: &[u8],
-        is_long: bool,
-    ) -> Result<(), Stop> {
+    fn play(&mut self, program: &Program<impl Desk>, name: &Name) -> Result<(), Stop> {
+        let bytes = self.asked.end.name_in(name.part.as_bytes());
         if self.asked.unplayed {
-            self.totals.tell(program, name, "not played")
-        } else if is_long {
-            self.totals.tell_long(program, name)
+            self.totals.tell(program, bytes, "not played")
+        } else if name.is_long {
+            self.totals.tell_long(program, bytes)
         } else {
-            self.totals.play(program, name, self.asked.services)
+            self.totals.play(program, bytes, self.asked.services)
         }
     }
 }

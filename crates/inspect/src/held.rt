@@ -12,6 +12,15 @@ pub enum Version {
     Second,
 }
 
+impl From<u8> for Version {
+    fn from(byte: u8) -> Version {
+        match byte {
+            1 => Version::First,
+            _ => Version::Second,
+        }
+    }
+}
+
 impl Held<'_> {
     pub fn byte_at(self, place: usize) -> u8 {
         self.0.get(place).copied().unwrap_or(0)
@@ -35,10 +44,7 @@ impl Held<'_> {
     }
 
     pub fn version(self) -> Version {
-        match self.version_byte() {
-            1 => Version::First,
-            _ => Version::Second,
-        }
+        Version::from(self.version_byte())
     }
 
     pub fn edition(self) -> u8 {
