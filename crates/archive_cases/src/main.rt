@@ -1,7 +1,7 @@
-// Reader and writer on the bounds of document 01, and of version 2 (wide); the moves from one version to the other (moves); the
-// editions of version 2 (editions).
-// Standard input is the largest archive of version 1, 16 sites and 255 sends, 1,864 bytes; run R stands here. `stdout` is
-// typed from the documents: a line for each case, with the refusal number, 0 for none.
+// Reader and writer on the bounds of document 01, and of version 2 (wide); the moves from one version to the other
+// (moves); the editions of version 2 (editions).
+// Standard input is the largest archive of version 1, 16 sites and 255 sends, 1,864 bytes; run R stands here. `stdout`
+// is typed from the documents: a line for each case, with the refusal number, 0 for none.
 #![tactic(auto)]
 
 ghost use Rattle.std.specs.Prelude.{◌≤◌, length};

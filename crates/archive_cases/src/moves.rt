@@ -9,8 +9,8 @@ use std::io::Print;
 // The place of a byte, and what it is made.
 type Change = (usize, u8);
 
-// Rows of changes of run R. A wrong length, versions, S, seed, N, a channel, a route and a set, each before the one that
-// comes behind it.
+// Rows of changes of run R. A wrong length, versions, S, seed, N, a channel, a route and a set, each before the one
+// that comes behind it.
 const OVER: [&[Change]; 18] = [
     &[(1, 0x19)],
     &[(1, 0x19), (2, 0x02)],

@@ -4,8 +4,9 @@ ghost use Rattle.std.specs.Prelude.{◌*◌, ◌+◌, ◌<◌, ◌≤◌};
 use crate::{NINE, lend, show_check, show_same, show_untouched, show_written};
 use std::io::Print;
 
-// A ring of so many sites in version 2, in a file of SIZE bytes: T, D and the seed are 1, draws and N 0. A channel leads
-// from port 1 of each site to port 1 of the next, and the route is 1000 between different sites; behind these zeros.
+// A ring of so many sites in version 2, in a file of SIZE bytes: T, D and the seed are 1, draws and N 0. A channel
+// leads from port 1 of each site to port 1 of the next, and the route is 1000 between different sites; behind these
+// zeros.
 fn ring<const SIZE: usize>(sites: usize) -> [u8; SIZE]
     requires { (1 ≤ sites) × (sites ≤ 17) × (14 + 8 * sites ≤ SIZE) × (SIZE < 65536) }
 {

@@ -99,8 +99,8 @@ impl Names {
 
     // ---- from standard input
 
-    // Plays the files that standard input names. The last name may lack its end. A proved loop has to end, and nothing says
-    // that the input does, so the turns are so many that no run uses them up.
+    // Plays the files that standard input names. The last name may lack its end. A proved loop has to end, and nothing
+    // says that the input does, so the turns are so many that no run uses them up.
     pub fn take_input(&mut self, program: &Program<impl Desk>) -> Result<(), Stop> {
         let mut input = program.rt.reader();
         for _ in 0..u64::MAX {

@@ -6,8 +6,8 @@ use std::fmt::Write as _;
 // Room for a line: a name of 4,096 bytes at its longest, and an answer.
 const LINE: usize = 16512;
 
-// Why no more names are played: all that are asked for are, something could not be printed, or standard input could not be
-// read.
+// Why no more names are played: all that are asked for are, something could not be printed, or standard input could not
+// be read.
 #[derive(Clone, Copy)]
 pub enum Stop {
     Enough,

@@ -55,8 +55,8 @@ fn print_line(out: &impl Print, name: &[u8], outcome: Outcome) -> Result<()> {
     println!(out; ": {outcome}")
 }
 
-// The file that argument i names, and whether its line could be written. A longer argument than a path can be leads to no
-// file; its first bytes are told.
+// The file that argument i names, and whether its line could be written. A longer argument than a path can be leads to
+// no file; its first bytes are told.
 fn rewrite_argument(rt: &impl Desk, i: usize, totals: &mut Totals) -> Result<()> {
     let mut name = io::buffer();
     let (count, outcome) = match rt.arg(i, &mut name) {

@@ -10,8 +10,8 @@ use types::Run;
 // What a room is filled with before the writer gets it.
 const FILL: u8 = 165;
 
-// The same bytes came back, so many; the reader refused them, with this number; what came back differs; the file cannot be
-// read.
+// The same bytes came back, so many; the reader refused them, with this number; what came back differs; the file cannot
+// be read.
 #[derive(Clone, Copy)]
 pub enum Outcome {
     Same(usize),
