@@ -9,122 +9,88 @@ mod names;
 mod one;
 
 use asked::Asked;
-use front::{Desk, VALUES};
-use one::{Totals, no_files};
-use std::io::{Print, Result};
+use front::{Desk, Line, Program, Status, Usage};
+use names::Names;
+use one::{Stop, Totals};
+use std::fmt;
+use std::fmt::Write as _;
+
+const USAGE: Usage = Usage {
+    words: "[--services] [-0] [--slice A B] [--unplayed] [--] [NAME..]",
+    meaning: "Plays the archives of these names, or of those on standard input, one to a line.\n  \
+        --services   prints the services of each too, before its line\n  \
+        -0           a name on standard input ends with a 0, not with its line\n  \
+        --slice A B  leaves out A names of standard input and plays the next B; no totals\n  \
+        --unplayed   opens nothing, and says `not played` of each name\n",
+};
 
 // What came of it: the status, and what was played.
 #[derive(Clone, Copy)]
 struct Outcome {
-    status: u64,
+    status: Status,
     totals: Totals,
 }
 
-fn main(rt: HostRuntime) {
-    let mut name = [0u8; front::WHO];
-    let called = front::begin(&rt, b"batch", &mut name);
-    let n = called.count;
-    let outcome = answer(&rt, &name[..n], called.first);
-    tell(called.fronted, outcome);
-}
-
-// What is asked from argument `first` on.
-fn answer(rt: &impl Desk, who: &[u8], first: usize) -> Outcome {
-    let asked = asked::asked_of(rt, who, first);
-    let words = asked.words;
-    if words.wrong {
-        return without_files(front::misused(print_usage(&rt.messages(), who)));
-    }
-    if words.help {
-        return without_files(front::helped(rt, who, print_usage(rt, who)));
-    }
-    if words.names > 0 {
-        return ended(rt, who, asked, names::from_arguments(rt, who, first, asked));
-    }
-    ended(rt, who, asked, names::from_input(rt, who, asked))
-}
-
-fn without_files(status: u64) -> Outcome {
-    Outcome {
-        status: status,
-        totals: no_files(),
-    }
-}
-
-// Prints the totals, unless this is a slice or nothing can be printed any more.
-fn ended(rt: &impl Desk, who: &[u8], asked: Asked, totals: Totals) -> Outcome {
-    if asked.slice | totals.lost {
-        return with_files(totals, totals.lost);
-    }
-    let is_printed = print_totals(rt, who, totals);
-    with_files(totals, !is_printed)
-}
-
-fn with_files(totals: Totals, lost: bool) -> Outcome {
-    let failed = lost | totals.cut | (totals.refused > 0) | (totals.unreadable > 0);
-    let status = if failed { front::FAILED } else { front::DONE };
-    Outcome {
-        status: status,
-        totals: totals,
-    }
-}
-
-fn print_usage(to: &impl Print, who: &[u8]) -> Result<()> {
-    front::print_usage(
-        to,
-        who,
-        b" [--services] [-0] [--slice A B] [--unplayed] [--] [NAME..]\n",
-        b"Plays the archives of these names, or of those on standard input, one to a line.\n",
-    )?;
-    print_options(to)
-}
-
-// Each line is tried; of those that fail the last one's error is answered.
-fn print_options(to: &impl Print) -> Result<()> {
-    let services = to.write_all(
-        b"  --services   prints the services of each too, before its line\n",
-    );
-    let zero = to.write_all(
-        b"  -0           a name on standard input ends with a 0, not with its line\n",
-    );
-    let slice = to.write_all(
-        b"  --slice A B  leaves out A names of standard input and plays the next B; no totals\n",
-    );
-    let unplayed = to.write_all(
-        b"  --unplayed   opens nothing, and says `not played` of each name\n",
-    );
-    unplayed.and(slice).and(zero).and(services)
-}
-
-fn print_totals(rt: &impl Desk, who: &[u8], totals: Totals) -> bool {
-    let mut line = [0u8; 128];
-    let n = front::fill(
-        &mut line,
-        0,
-        b"files % played % refused % unreadable %",
-        numbers_of(totals),
-    );
-    let end = report::add_bytes(&mut line, n, b"\n");
-    front::print(rt, who, &line[..end])
-}
-
-// The files, and those that were played, refused and unreadable.
-fn numbers_of(totals: Totals) -> [usize; VALUES] {
-    [
-        totals.files as usize,
-        totals.played as usize,
-        totals.refused as usize,
-        totals.unreadable as usize,
-        0,
-        0,
-    ]
-}
-
 // The line of numbers: `STATUS FILES PLAYED REFUSED UNREADABLE`.
-fn tell(fronted: bool, outcome: Outcome) {
-    let mut line = [0u8; 128];
-    let status = report::add_number(&mut line, 0, outcome.status);
-    let n = front::fill(&mut line, status, b" % % % %", numbers_of(outcome.totals));
-    let end = report::add_bytes(&mut line, n, b"\n");
-    front::tell(fronted, &line[..end]);
+impl fmt::Display for Outcome {
+    fn fmt<W: fmt::Write>(&self, f: &mut fmt::Formatter<W>) -> fmt::Result {
+        let totals = self.totals;
+        write!(
+            f,
+            "{} {} {} {} {}",
+            self.status, totals.files, totals.played, totals.refused, totals.unreadable
+        )
+    }
+}
+
+fn main(rt: HostRuntime) {
+    front::run(rt, "batch", |program| answer(program));
+}
+
+// Does what the words ask for.
+fn answer(program: &Program<impl Desk>) -> Outcome {
+    match Asked::of(program) {
+        Ok(asked) => play_names(program, asked),
+        Err(why) => Outcome {
+            status: program.show_usage(why, USAGE),
+            totals: Totals::default(),
+        },
+    }
+}
+
+fn play_names(program: &Program<impl Desk>, asked: Asked) -> Outcome {
+    let mut names = Names::new(asked);
+    let taken = if asked.words.names > 0 {
+        names.take_arguments(program)
+    } else {
+        names.take_input(program)
+    };
+    let totals = names.totals;
+    let is_whole = match taken {
+        Ok(()) | Err(Stop::Enough) => show_totals(program, asked, totals),
+        Err(Stop::Cut) => {
+            show_totals(program, asked, totals);
+            false
+        }
+        Err(Stop::Lost) => false,
+    };
+    let is_done = is_whole && totals.refused == 0 && totals.unreadable == 0;
+    Outcome {
+        status: if is_done {
+            Status::Done
+        } else {
+            Status::Failed
+        },
+        totals,
+    }
+}
+
+// Prints the totals, unless this is a slice. Answers whether nothing is lost.
+fn show_totals(program: &Program<impl Desk>, asked: Asked, totals: Totals) -> bool {
+    if asked.slice.is_some() {
+        return true;
+    }
+    let mut line = Line::<128>::new();
+    let _ = writeln!(line, "{totals}");
+    program.print(line.as_bytes())
 }

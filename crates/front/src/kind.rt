@@ -1,8 +1,6 @@
 // What a name leads to: asked before a file is opened, since opening a FIFO waits for its other end, and a device may
 // wait or never end. Between the question and the opening another process may put something else there. A path is UTF-8
 // text here, so a name that is not leads to nothing.
-ghost use Rattle.std.specs.Prelude.{◌≤◌, length};
-
 use std::os::unix::fs::MetadataExt;
 use std::rt::Files;
 use std::{fs, io};
@@ -29,24 +27,12 @@ pub enum Kind {
     Unknown,
 }
 
-// The place of the first 0, or the end.
-fn zero_of(name: &[u8]) -> usize
-    ensures { result ≤ length name.now }
-{
-    for i in 0..name.len() {
-        if name[i] == 0 {
-            return i;
-        }
-    }
-    name.len()
-}
-
 // The kind of the file of this name, links followed. A name that is too long for a path is cut short, and one with a 0
 // in it ends there: no such name can be opened.
 pub(crate) fn kind_of(rt: &impl Files, name: &[u8]) -> Kind {
     let end = name.len().min(PATH_MAX - 1);
     let path = &name[..end];
-    let n = zero_of(path);
+    let n = path.iter().position(|byte| *byte == 0).unwrap_or(end);
     match std::str::from_utf8(&path[..n]) {
         Ok(text) => kind_at(rt, text),
         Err(_) => Kind::Unknown,
@@ -75,11 +61,11 @@ pub(crate) fn path_of(name: &[u8]) -> io::Result<&str> {
     if name.len() >= PATH_MAX {
         return Err(io::Error::from_raw_os_error(TOO_LONG));
     }
-    if zero_of(name) < name.len() {
+    if name.contains(&0) {
         return Err(io::Error::from_raw_os_error(INVALID));
     }
-    match std::str::from_utf8(name) {
-        Ok(text) => Ok(text),
-        Err(_) => Err(io::Error::new(io::ErrorKind::InvalidFilename, "its name is not UTF-8")),
-    }
+    std::str::from_utf8(name).map_err(|_| io::Error::new(
+        io::ErrorKind::InvalidFilename,
+        "its name is not UTF-8",
+    ))
 }

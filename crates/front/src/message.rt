@@ -1,11 +1,14 @@
-// Messages on standard error: each begins with the program's name, `who`, and a name in it is shown as on standard
-// output, on one line. The usage.
-ghost use Rattle.std.specs.Prelude.{◌≤◌, length};
+// Messages on standard error: each begins with the name of the program, and a name in it is shown as on standard output, on
+// one line. The usage.
+ghost use Rattle.std.specs.Prelude.{◌≤◌, length, IfSome};
 
 use crate::desk::Desk;
-use crate::words::{DONE, FAILED, WRONG};
-use std::io;
-use std::io::{Error, ErrorKind, Print, Write};
+use crate::line::Line;
+use crate::program::Program;
+use crate::status::Status;
+use crate::words::NoWork;
+use std::fmt::{Display, Write as _};
+use std::io::{Error, ErrorKind, Print, Result};
 
 // Room for a message: a name of 4,096 bytes at its longest, and the words around it.
 const MESSAGE: usize = 16896;
@@ -13,178 +16,173 @@ const MESSAGE: usize = 16896;
 const WORDS: usize = 256;
 // Room for a message, and behind it a colon, a blank, those words and a newline.
 const WHOLE: usize = MESSAGE + WORDS + 3;
+// Room for the first line of a usage.
+const USAGE: usize = 256;
 // Linux's number of an error that has the same kind as a lack of permission.
 const NOT_PERMITTED: i32 = 1;
 
-// `WHO: TEXT`, and behind the text a word, if there is one.
-pub fn say(rt: &impl Desk, who: &[u8], text: &[u8], word: &[u8]) {
-    let mut line = [0u8; MESSAGE];
-    let behind = begun(&mut line, who);
-    let named = report::add_bytes(&mut line, behind, text);
-    let end = report::add_name(&mut line, named, word);
-    let whole = report::add_bytes(&mut line, end, b"\n");
-    put(rt, &line[..whole]);
+// The usage of a program: the words that it takes, and lines on what it does.
+#[derive(Clone, Copy)]
+pub struct Usage {
+    pub words: &'static str,
+    pub meaning: &'static str,
 }
 
-// Writes a message. One that cannot be written is lost.
-fn put(rt: &impl Desk, line: &[u8]) {
-    match rt.messages().write_all(line) {
-        Ok(()) | Err(_) => {}
+impl<R: Desk> Program<R> {
+    // `NAME: TEXT`.
+    pub fn say<D: Display + Drop>(&self, text: D) {
+        let mut line = self.message();
+        let _ = writeln!(line, "{text}");
+        self.put(line.as_bytes());
+    }
+
+    // The same, with a word behind the text.
+    pub fn say_word(&self, text: &str, word: &[u8]) {
+        let mut line = self.message();
+        let _ = line.write_str(text);
+        line.add_name(word);
+        let _ = line.write_str("\n");
+        self.put(line.as_bytes());
+    }
+
+    // Says what is wrong with the words.
+    pub fn misused(&self, why: &str) -> NoWork {
+        self.say(why);
+        NoWork::Misuse
+    }
+
+    // The front of a message: the name of the program.
+    fn message(&self) -> Line<MESSAGE> {
+        let mut line = Line::new();
+        line.add_bytes(self.name.as_bytes());
+        line.add_bytes(b": ");
+        line
+    }
+
+    // Writes a message. One that cannot be written is lost.
+    fn put(&self, line: &[u8]) {
+        let _ = self.rt.messages().write_all(line);
+    }
+
+    // `NAME: FILE cannot be read: why`.
+    pub(crate) fn say_why(&self, file: &[u8], error: Error) {
+        match error.kind() {
+            ErrorKind::NotFound => self.say_unread(file, "there is no such file"),
+            ErrorKind::IsADirectory => self.say_folder(file),
+            ErrorKind::PermissionDenied if error.raw_os_error() != Some(NOT_PERMITTED) => {
+                self.say_unread(file, "no permission")
+            }
+            _ => self.say_system(file, "cannot be read", error),
+        }
+    }
+
+    // The same of a name that leads to a folder.
+    pub(crate) fn say_folder(&self, file: &[u8]) {
+        self.say_unread(file, "it is a folder");
+    }
+
+    // The same of a name that leads to a FIFO, a device or a socket.
+    pub(crate) fn say_no_file(&self, file: &[u8]) {
+        self.say_unread(file, "it is not a file");
+    }
+
+    fn say_unread(&self, file: &[u8], why: &str) {
+        let mut line = self.message();
+        line.add_name(file);
+        let _ = writeln!(line, " cannot be read: {why}");
+        self.put(line.as_bytes());
+    }
+
+    // `NAME: FILE what: why` with the system's words for the error, also where the file's name fills the room of a message.
+    fn say_system(&self, file: &[u8], what: &str, error: Error) {
+        let mut told = self.message();
+        told.add_name(file);
+        let _ = write!(told, " {what}");
+        let mut line = Line::<WHOLE>::new();
+        line.add_bytes(told.as_bytes());
+        line.add_bytes(b": ");
+        add_error(&mut line, error);
+        line.add_bytes(b"\n");
+        self.put(line.as_bytes());
+    }
+
+    // Says that standard input cannot be read, and why.
+    pub fn no_input(&self, error: Error) {
+        self.say_why(b"standard input", error);
+    }
+
+    // Says that standard output cannot be written, and why. Of a pipe whose reader has gone it says nothing.
+    pub fn no_output(&self, error: Error) {
+        if !matches!(error.kind(), ErrorKind::BrokenPipe) {
+            self.say_system(b"standard output", "cannot be written", error);
+        }
+    }
+
+    // Says that a name was too long to be a path.
+    pub fn too_long(&self) {
+        self.say("a name of more than 4,095 bytes cannot be read: it is too long");
+    }
+
+    // Writes to standard output, a line or lines in one write. Answers whether that was done; if not, says why.
+    pub fn print(&self, text: &[u8]) -> bool {
+        match self.rt.write_all(text) {
+            Ok(()) => true,
+            Err(error) => {
+                self.no_output(error);
+                false
+            }
+        }
+    }
+
+    // Prints the usage: `usage: NAME`, the words that the program takes, and behind them what it does.
+    fn print_usage(&self, to: &impl Print, usage: Usage) -> Result<()> {
+        let mut line = Line::<USAGE>::new();
+        line.add_bytes(b"usage: ");
+        line.add_bytes(self.name.as_bytes());
+        let _ = writeln!(line, " {}", usage.words);
+        to.write_all(line.as_bytes())?;
+        to.write_all(usage.meaning.as_bytes())
+    }
+
+    // Prints the usage in place of work: for help on standard output; behind the message of wrong use on standard error, or
+    // not at all where it cannot be written.
+    pub fn show_usage(&self, why: NoWork, usage: Usage) -> Status {
+        match why {
+            NoWork::Help => match self.print_usage(&self.rt, usage) {
+                Ok(()) => Status::Done,
+                Err(error) => {
+                    self.no_output(error);
+                    Status::Failed
+                }
+            },
+            NoWork::Misuse => {
+                let _ = self.print_usage(&self.rt.messages(), usage);
+                Status::Wrong
+            }
+        }
     }
 }
 
-// The program's name, at the front of a message.
-fn begun(line: &mut [u8], who: &[u8]) -> usize {
-    let behind = report::add_bytes(line, 0, who);
-    report::add_bytes(line, behind, b": ")
-}
-
-// `WHO: NAME cannot be read: why`.
-pub(crate) fn say_why(rt: &impl Desk, who: &[u8], name: &[u8], error: Error) {
-    match error.kind() {
-        ErrorKind::NotFound => say_words(
-            rt,
-            who,
-            name,
-            b" cannot be read: there is no such file\n",
-        ),
-        ErrorKind::IsADirectory => say_folder(rt, who, name),
-        ErrorKind::PermissionDenied if error.raw_os_error() != Some(NOT_PERMITTED) => say_words(
-            rt,
-            who,
-            name,
-            b" cannot be read: no permission\n",
-        ),
-        _ => say_system(rt, who, name, b" cannot be read", error),
+// Adds the words for an error, without the number that Rattle writes behind the system's, as ` (os error N)`.
+fn add_error(line: &mut Line<WHOLE>, error: Error) {
+    let mut room = Line::<WORDS>::new();
+    let _ = write!(room, "{error}");
+    let words = room.as_bytes();
+    let number = if error.raw_os_error().is_some() {
+        number_of(words)
+    } else {
+        None
+    };
+    match number {
+        Some(end) => line.add_bytes(&words[..end]),
+        None => line.add_bytes(words),
     }
 }
 
-// The same of a name that leads to a folder.
-pub(crate) fn say_folder(rt: &impl Desk, who: &[u8], name: &[u8]) {
-    say_words(rt, who, name, b" cannot be read: it is a folder\n");
-}
-
-// The same of a name that leads to a FIFO, a device or a socket.
-pub(crate) fn say_no_file(rt: &impl Desk, who: &[u8], name: &[u8]) {
-    say_words(rt, who, name, b" cannot be read: it is not a file\n");
-}
-
-fn say_words(rt: &impl Desk, who: &[u8], name: &[u8], words: &[u8]) {
-    let mut line = [0u8; MESSAGE];
-    let behind = begun(&mut line, who);
-    let named = report::add_name(&mut line, behind, name);
-    let whole = report::add_bytes(&mut line, named, words);
-    put(rt, &line[..whole]);
-}
-
-// The same with the system's words for the error behind, also where the name fills the room of a message.
-fn say_system(rt: &impl Desk, who: &[u8], name: &[u8], words: &[u8], error: Error) {
-    let mut line = [0u8; MESSAGE];
-    let behind = begun(&mut line, who);
-    let named = report::add_name(&mut line, behind, name);
-    let told = report::add_bytes(&mut line, named, words);
-    put_system(rt, &line[..told], error);
-}
-
-// Writes what is told, a colon and the system's words for the error.
-fn put_system(rt: &impl Desk, told: &[u8], error: Error) {
-    let mut line = [0u8; WHOLE];
-    let text = report::add_bytes(&mut line, 0, told);
-    let colon = report::add_bytes(&mut line, text, b": ");
-    let end = add_error(&mut line, colon, error);
-    let whole = report::add_bytes(&mut line, end, b"\n");
-    put(rt, &line[..whole]);
-}
-
-// Adds the words for an error, without the number that Rattle writes behind the system's.
-fn add_error(line: &mut [u8], at: usize, error: Error) -> usize {
-    let mut words = [0u8; WORDS];
-    let n = put_words(&mut words, error);
-    let mut end = n;
-    if error.raw_os_error().is_some() {
-        end = number_of(&words[..n]);
-    }
-    report::add_bytes(line, at, &words[..end])
-}
-
-// Puts the words for an error at the front of the room. Answers how many bytes they are.
-fn put_words(room: &mut [u8], error: Error) -> usize
-    ensures { result ≤ length room.new }
+// Where the blank before the last `(` stands.
+fn number_of(words: &[u8]) -> Option<usize>
+    ensures { IfSome result (λ end. end ≤ length words.now) }
 {
-    let size = room.len();
-    let mut rest = &mut room[..];
-    match write!(rest, "{error}") {
-        Ok(()) | Err(_) => {}
-    }
-    size.saturating_sub(rest.len())
-}
-
-// Where the number ` (os error N)` begins behind the system's words, or their end.
-fn number_of(words: &[u8]) -> usize
-    ensures { result ≤ length words.now }
-{
-    let mut end = words.len();
-    for i in 0..words.len() {
-        if words[i] == b'(' {
-            end = base::one_less(i);
-        }
-    }
-    end
-}
-
-// Writes to standard output, a line or lines in one write. Answers whether that was done; if not, says why.
-pub fn print(rt: &impl Desk, who: &[u8], text: &[u8]) -> bool {
-    match rt.write_all(text) {
-        Ok(()) => true,
-        Err(error) => {
-            no_output(rt, who, error);
-            false
-        }
-    }
-}
-
-// Says that standard output cannot be written, and why. Of a pipe whose reader has gone it says nothing.
-pub fn no_output(rt: &impl Desk, who: &[u8], error: Error) {
-    if matches!(error.kind(), ErrorKind::BrokenPipe) {
-        return;
-    }
-    say_system(rt, who, b"standard output", b" cannot be written", error);
-}
-
-// Says that a name was too long to be a path.
-pub fn too_long(rt: &impl Desk, who: &[u8]) {
-    say(
-        rt,
-        who,
-        b"a name of more than 4,095 bytes cannot be read: it is too long",
-        b"",
-    );
-}
-
-// `usage: WHO`, the words that WHO takes, and behind them what it does, on standard output or standard error.
-pub fn print_usage(to: &impl Print, who: &[u8], words: &[u8], meaning: &[u8]) -> io::Result<()> {
-    let mut line = [0u8; 256];
-    let usage = report::add_bytes(&mut line, 0, b"usage: ");
-    let named = report::add_bytes(&mut line, usage, who);
-    let end = report::add_bytes(&mut line, named, words);
-    to.write_all(&line[..end])?;
-    to.write_all(meaning)
-}
-
-// The status of wrong use, whose usage was printed behind a message, or is lost.
-pub fn misused(printed: io::Result<()>) -> u64 {
-    match printed {
-        Ok(()) | Err(_) => WRONG,
-    }
-}
-
-// The status of a call for help, whose usage could be printed or not.
-pub fn helped(rt: &impl Desk, who: &[u8], printed: io::Result<()>) -> u64 {
-    match printed {
-        Ok(()) => DONE,
-        Err(error) => {
-            no_output(rt, who, error);
-            FAILED
-        }
-    }
+    let bracket = words.iter().rposition(|byte| *byte == b'(')?;
+    Some(bracket.saturating_sub(1))
 }

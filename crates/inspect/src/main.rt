@@ -6,142 +6,108 @@
 mod heads;
 mod held;
 mod items;
+mod verdict;
 
-use front::{Desk, Words};
-use std::io::{ErrorKind, Print, Result};
+use front::{Desk, Line, NoWork, Program, Status, Usage, Words};
+use std::fmt::Write as _;
+use std::io::ErrorKind;
+use verdict::Verdict;
 
 // The longest argument that Linux passes, with the 0 that ends it.
 const ARGUMENT: usize = 131072;
 // Room for a line: such an argument with every byte escaped, and the words around it.
 const LINE: usize = 4 * ARGUMENT + 1024;
-// The status of a line whose reader has gone: no more files are looked at.
-const GONE: u64 = 3;
+
+const USAGE: Usage = Usage {
+    words: "[--] FILE..",
+    meaning: "Says of each FILE whether it is an archive; if it is not, what is wrong and where.\n",
+};
+
+// The files so far: whether each was an archive whose line could be written, and whether `--` has come.
+#[derive(Clone, Copy)]
+struct Files {
+    status: Status,
+    is_ended: bool,
+}
+
+// The reader of the lines has gone: no more files are looked at.
+#[derive(Clone, Copy)]
+struct Gone;
 
 fn main(rt: HostRuntime) {
-    let mut name = [0u8; front::WHO];
-    let called = front::begin(&rt, b"inspect", &mut name);
-    let n = called.count;
-    let status = answer(&rt, &name[..n], called.first);
-    front::tell_status(called.fronted, status);
+    front::run(rt, "inspect", |program| answer(program));
 }
 
-// What is asked from argument `first` on. Answers the status.
-fn answer(rt: &impl Desk, who: &[u8], first: usize) -> u64 {
-    let words = front::words_of(rt, who, first);
-    if words.help {
-        return front::helped(rt, who, print_usage(rt, who));
+// Does what the words ask for.
+fn answer(program: &Program<impl Desk>) -> Status {
+    match words_of(program) {
+        Ok(_) => inspect_words(program),
+        Err(why) => program.show_usage(why, USAGE),
     }
-    if is_wrong(rt, who, words) {
-        return front::misused(print_usage(&rt.messages(), who));
-    }
-    inspect_words(rt, who, first)
 }
 
-fn is_wrong(rt: &impl Desk, who: &[u8], words: Words) -> bool {
-    if words.wrong {
-        return true;
-    }
+fn words_of(program: &Program<impl Desk>) -> Result<Words, NoWork> {
+    let words = Words::of(program)?;
     if words.names == 0 {
-        front::say(rt, who, b"no FILE is named", b"");
-        return true;
+        return Err(program.misused("no FILE is named"));
     }
-    false
+    Ok(words)
 }
 
-fn print_usage(to: &impl Print, who: &[u8]) -> Result<()> {
-    front::print_usage(
-        to,
-        who,
-        b" [--] FILE..\n",
-        b"Says of each FILE whether it is an archive; if it is not, what is wrong and where.\n",
-    )
-}
-
-fn inspect_words(rt: &impl Desk, who: &[u8], first: usize) -> u64 {
-    let mut name = [0u8; ARGUMENT];
-    let mut line = [0u8; LINE];
-    inspect_all(rt, who, first, &mut name, &mut line)
-}
-
-// The files that the words name, from argument `first` on. The only option among them is the first `--`.
-fn inspect_all(rt: &impl Desk, who: &[u8], first: usize, name: &mut [u8], line: &mut [u8]) -> u64 {
-    let mut status = front::DONE;
-    let mut ended = false;
-    for i in first..front::arg_count(rt) {
-        let n = front::word_at(rt, i, name);
-        if !ended && check::same(&name[..n], b"--") {
-            ended = true;
-            continue;
-        }
-        let told = inspect(rt, who, &name[..n], line);
-        if told == GONE {
-            return front::FAILED;
-        }
-        if told != front::DONE {
-            status = front::FAILED;
-        }
+// The files that the words name.
+fn inspect_words(program: &Program<impl Desk>) -> Status {
+    let mut room = [0u8; ARGUMENT];
+    let nothing = Files {
+        status: Status::Done,
+        is_ended: false,
+    };
+    let files = program.fold_words(
+        &mut room,
+        Ok(nothing),
+        |files, _, word| take_word(program, word, files?),
+    );
+    match files {
+        Ok(files) => files.status,
+        Err(Gone) => Status::Failed,
     }
-    status
 }
 
-// The line of the file of this name, and its status.
-fn inspect(rt: &impl Desk, who: &[u8], name: &[u8], line: &mut [u8]) -> u64 {
-    let named = report::add_name(line, 0, name);
-    let at = report::add_bytes(line, named, b": ");
+// One more word. The only option among them is the first `--`.
+fn take_word(program: &Program<impl Desk>, word: &[u8], files: Files) -> Result<Files, Gone> {
+    if !files.is_ended && matches!(word, b"--") {
+        return Ok(Files {
+            is_ended: true,
+            ..files
+        });
+    }
+    match inspect(program, word)? {
+        Status::Done => Ok(files),
+        status => Ok(Files { status, ..files }),
+    }
+}
+
+// Prints the line of the file of this name, and answers its status.
+fn inspect(program: &Program<impl Desk>, name: &[u8]) -> Result<Status, Gone> {
+    let mut line = Line::<LINE>::new();
+    line.add_name(name);
     let mut room = io::large_buffer();
-    let seen = front::read_file(rt, who, name, &mut room);
-    if seen.failed {
-        let told = report::add_bytes(line, at, b"cannot be read");
-        return printed(rt, who, line, told, front::FAILED);
-    }
-    let n = seen.count;
-    judge(rt, who, line, at, &room[..n])
+    let Some(count) = program.read_file(name, &mut room) else {
+        let _ = writeln!(line, ": cannot be read");
+        return printed(program, line.as_bytes(), Status::Failed);
+    };
+    let verdict = Verdict::of(&room[..count]);
+    let _ = writeln!(line, ": {verdict}");
+    printed(program, line.as_bytes(), verdict.status())
 }
 
-// The line of these bytes behind the file's name. Answers the status.
-fn judge(rt: &impl Desk, who: &[u8], line: &mut [u8], at: usize, b: &[u8]) -> u64 {
-    let fault = faults::find(b);
-    let refusal = fault.refusal;
-    if refusal == 0 {
-        let good = heads::add_good(line, at, b);
-        return printed(rt, who, line, good, front::DONE);
-    }
-    let numbers = [base::wide(refusal), 0, 0, 0, 0, 0];
-    let number = front::fill(line, at, b"refused %: ", numbers);
-    let told = add_fault(line, number, b, refusal, fault.place);
-    printed(rt, who, line, told, front::FAILED)
-}
-
-// In words what is wrong with these bytes, and where.
-fn add_fault(line: &mut [u8], at: usize, b: &[u8], refusal: u8, place: usize) -> usize {
-    match refusal {
-        6 => items::add_channel(line, at, b, place),
-        7 => items::add_route(line, at, b, place),
-        8 => items::add_send(line, at, b, place),
-        _ => add_head_fault(line, at, b, refusal),
-    }
-}
-
-fn add_head_fault(line: &mut [u8], at: usize, b: &[u8], refusal: u8) -> usize {
-    match refusal {
-        1 => heads::add_short(line, at, b),
-        2 => heads::add_version(line, at, b),
-        3 => heads::add_limit(line, at, b),
-        4 => heads::add_seed(line, at, b),
-        17 => heads::add_edition(line, at, b),
-        _ => heads::add_size(line, at, b),
-    }
-}
-
-// Ends the line and writes it. Answers this status, or that it could not be written.
-fn printed(rt: &impl Desk, who: &[u8], line: &mut [u8], at: usize, status: u64) -> u64 {
-    let end = report::add_bytes(line, at, b"\n");
-    match rt.write_all(&line[..end]) {
-        Ok(()) => status,
+// Writes a line. Answers this status, unless it could not be written.
+fn printed(program: &Program<impl Desk>, line: &[u8], status: Status) -> Result<Status, Gone> {
+    match program.rt.write_all(line) {
+        Ok(()) => Ok(status),
+        Err(error) if matches!(error.kind(), ErrorKind::BrokenPipe) => Err(Gone),
         Err(error) => {
-            let is_gone = matches!(error.kind(), ErrorKind::BrokenPipe);
-            front::no_output(rt, who, error);
-            if is_gone { GONE } else { front::FAILED }
+            program.no_output(error);
+            Ok(Status::Failed)
         }
     }
 }

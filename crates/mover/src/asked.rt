@@ -1,77 +1,72 @@
 // The words that `mover` is called with: the first name among them is the way, the second the file.
-use front::{Desk, Words};
+use front::{Desk, NoWork, Program, Words};
 
-// The ways; NOWHERE stands for every other word, and for none.
-pub const NOWHERE: u8 = 0;
+// To version 2, or to version 1.
+#[derive(Clone, Copy, PartialEq, Eq)]
+pub enum Way {
+    Over,
+    Back,
+}
 
-pub const OVER: u8 = 1;
-
-pub const BACK: u8 = 2;
-
-// What the arguments ask for.
+// What the words ask for: the way, and the argument that names the file, if there is one.
 #[derive(Clone, Copy)]
 pub struct Asked {
-    pub way: u8,
-    pub words: Words,
+    pub way: Way,
+    pub file: Option<usize>,
 }
 
-// The arguments from number `first` on.
-pub fn asked_from(rt: &impl Desk, who: &[u8], first: usize) -> Asked {
-    let mut asked = Asked {
-        way: NOWHERE,
-        words: front::no_words(rt, who, first),
-    };
-    for i in first..front::arg_count(rt) {
-        asked = take_argument(rt, who, i, asked);
-    }
-    asked
-}
-
-fn take_argument(rt: &impl Desk, who: &[u8], i: usize, asked: Asked) -> Asked {
-    let mut room = io::buffer();
-    let n = front::word_at(rt, i, &mut room);
-    take_word(rt, who, i, &room[..n], asked)
-}
-
-// One more word: the first name is the way, and one that is neither is said.
-fn take_word(rt: &impl Desk, who: &[u8], i: usize, word: &[u8], asked: Asked) -> Asked {
-    let words = asked.words;
-    let more = front::take_word(rt, who, i, word, words);
-    if words.names == 0 && more.names == 1 {
-        return Asked {
-            way: way_of(word),
-            words: more,
+impl Asked {
+    pub fn of(program: &Program<impl Desk>) -> Result<Asked, NoWork> {
+        let nothing = Sorted {
+            way: None,
+            words: Words::none(program)?,
         };
-    }
-    Asked {
-        way: asked.way,
-        words: more,
+        let mut room = io::buffer();
+        let sorted = program.fold_words(
+            &mut room,
+            Ok(nothing),
+            |sorted, i, word| sorted?.with(program, i, word),
+        )?;
+        let Some(way) = sorted.way else {
+            return Err(program.misused("the first word is over or back"));
+        };
+        if sorted.words.names > 2 {
+            return Err(program.misused("mover takes one file"));
+        }
+        Ok(Asked {
+            way,
+            file: if sorted.words.names == 2 {
+                sorted.words.last
+            } else {
+                None
+            },
+        })
     }
 }
 
-fn way_of(word: &[u8]) -> u8 {
-    if check::same(word, b"over") {
-        return OVER;
-    }
-    if check::same(word, b"back") {
-        return BACK;
-    }
-    NOWHERE
+// The words so far; the way is none where the first name says none, or there is no name.
+#[derive(Clone, Copy)]
+struct Sorted {
+    way: Option<Way>,
+    words: Words,
 }
 
-// Whether the use is wrong, which is said.
-pub fn is_wrong(rt: &impl Desk, who: &[u8], asked: Asked) -> bool {
-    let words = asked.words;
-    if words.wrong {
-        return true;
+impl Sorted {
+    // With one more word, argument i.
+    fn with(self, program: &Program<impl Desk>, i: usize, word: &[u8]) -> Result<Sorted, NoWork> {
+        let words = self.words.with(program, i, word)?;
+        let is_first = self.words.names == 0 && words.names == 1;
+        Ok(Sorted {
+            way: if is_first { way_of(word) } else { self.way },
+            words,
+        })
     }
-    if asked.way == NOWHERE {
-        front::say(rt, who, b"the first word is over or back", b"");
-        return true;
+}
+
+fn way_of(word: &[u8]) -> Option<Way> {
+    match word {
+        b"over" => Some(Way::Over),
+        b"back" => Some(Way::Back),
+        _ => None,
     }
-    if words.names > 2 {
-        front::say(rt, who, b"mover takes one file", b"");
-        return true;
-    }
-    false
 }

@@ -6,123 +6,77 @@
 
 mod asked;
 
-ghost use Rattle.io.specs.Counts.{IsPrefixLen as Front};
-
 use archive::Written;
-use asked::Asked;
-use front::{Desk, Words};
-use report::Seen;
-use std::io::{Print, Result};
+use asked::{Asked, Way};
+use front::{Desk, Program, Status, Usage};
+use std::fmt;
 
-// How a move ended: the status, and the number of a refusal or 0.
+const USAGE: Usage = Usage {
+    words: "[--] over|back [FILE]",
+    meaning: "Moves the archive in FILE, or on standard input, over to version 2 or back to version 1,\n\
+        and writes the moved bytes to standard output.\n",
+};
+
+// How a move ended: the status, or the number of a refusal.
 #[derive(Clone, Copy)]
-struct Ended {
-    status: u64,
-    refusal: u8,
+enum Ended {
+    With(Status),
+    Refused(u8),
+}
+
+// The line `STATUS REFUSAL` for the front, without its newline; 0 is no refusal.
+impl fmt::Display for Ended {
+    fn fmt<W: fmt::Write>(&self, f: &mut fmt::Formatter<W>) -> fmt::Result {
+        match self {
+            Ended::With(status) => write!(f, "{status} 0"),
+            Ended::Refused(number) => write!(f, "{} {number}", Status::Failed),
+        }
+    }
 }
 
 fn main(rt: HostRuntime) {
-    let mut name = [0u8; front::WHO];
-    let called = front::begin(&rt, b"mover", &mut name);
-    let n = called.count;
-    let ended = answer(&rt, &name[..n], called.first);
-    if called.fronted {
-        tell(ended);
-    } else {
-        say_refusal(&rt, &name[..n], ended.refusal);
-    }
+    front::run(rt, "mover", |program| answer(program));
 }
 
-// The line `STATUS REFUSAL` for the front.
-fn tell(ended: Ended) {
-    let mut line = [0u8; 32];
-    let status = report::add_number(&mut line, 0, ended.status);
-    let space = report::add_bytes(&mut line, status, b" ");
-    let refusal = report::add_number(&mut line, space, ended.refusal as u64);
-    let end = report::add_bytes(&mut line, refusal, b"\n");
-    front::tell(true, &line[..end]);
-}
-
-// Says a refusal, if there is one.
-fn say_refusal(rt: &impl Desk, who: &[u8], refusal: u8) {
-    if refusal == 0 {
-        return;
+// Does what the words ask for. A refusal is said, unless the front is told it.
+fn answer(program: &Program<impl Desk>) -> Ended {
+    let ended = match Asked::of(program) {
+        Ok(asked) => move_archive(program, asked),
+        Err(why) => Ended::With(program.show_usage(why, USAGE)),
+    };
+    if let Ended::Refused(number) = ended {
+        if !program.is_fronted() {
+            program.say(format_args!("refused {number}"));
+        }
     }
-    let mut number = [0u8; 8];
-    let end = report::add_number(&mut number, 0, refusal as u64);
-    front::say(rt, who, b"refused ", &number[..end]);
-}
-
-// What is asked from argument `first` on.
-fn answer(rt: &impl Desk, who: &[u8], first: usize) -> Ended {
-    let asked = asked::asked_from(rt, who, first);
-    let words = asked.words;
-    if words.help {
-        return without_refusal(front::helped(rt, who, print_usage(rt, who)));
-    }
-    if asked::is_wrong(rt, who, asked) {
-        return without_refusal(front::misused(print_usage(&rt.messages(), who)));
-    }
-    move_archive(rt, who, asked.way, words)
-}
-
-fn without_refusal(status: u64) -> Ended {
-    Ended {
-        status: status,
-        refusal: 0,
-    }
-}
-
-fn print_usage(to: &impl Print, who: &[u8]) -> Result<()> {
-    front::print_usage(
-        to,
-        who,
-        b" [--] over|back [FILE]\n",
-        b"Moves the archive in FILE, or on standard input, over to version 2 or back to version 1,\n",
-    )?;
-    to.write_all(b"and writes the moved bytes to standard output.\n")
+    ended
 }
 
 // Reads the archive, moves it and writes what came of it.
-fn move_archive(rt: &impl Desk, who: &[u8], way: u8, words: Words) -> Ended {
+fn move_archive(program: &Program<impl Desk>, asked: Asked) -> Ended {
     let mut bytes = io::large_buffer();
-    let seen = read_archive(rt, who, words, &mut bytes);
-    if seen.failed {
-        return without_refusal(front::FAILED);
-    }
-    let n = seen.count;
+    let Some(n) = program.read(asked.file, &mut bytes) else {
+        return Ended::With(Status::Failed);
+    };
     let mut room = [0u8; format::LONGEST];
-    let written = moved(way, &bytes[..n], &mut room);
+    let written = moved(asked.way, &bytes[..n], &mut room);
     if written.refusal != 0 {
-        return Ended {
-            status: front::FAILED,
-            refusal: written.refusal,
-        };
+        return Ended::Refused(written.refusal);
     }
-    without_refusal(put_out(rt, who, &room, written.length))
+    Ended::With(put_out(program, &room, written.length))
 }
 
-// Reads the file that is named behind the way, or standard input.
-fn read_archive(rt: &impl Desk, who: &[u8], words: Words, bytes: &mut [u8]) -> Seen
-    ensures { Front result.count bytes.new }
-{
-    if words.names == 1 {
-        return front::read_input(rt, who, bytes);
+fn moved(way: Way, bytes: &[u8], room: &mut [u8]) -> Written {
+    match way {
+        Way::Over => archive::move_over(bytes, room),
+        Way::Back => archive::move_back(bytes, room),
     }
-    front::read_argument(rt, who, words.last, bytes)
 }
 
-fn moved(way: u8, bytes: &[u8], room: &mut [u8]) -> Written {
-    if way == asked::OVER {
-        return archive::move_over(bytes, room);
+// Writes the first `count` bytes of the room, which has them.
+fn put_out(program: &Program<impl Desk>, room: &[u8], count: usize) -> Status {
+    match room.get(..count) {
+        Some(bytes) if program.print(bytes) => Status::Done,
+        Some(_) | None => Status::Failed,
     }
-    archive::move_back(bytes, room)
-}
-
-// Writes the first `count` bytes of the room, which has them. Answers the status.
-fn put_out(rt: &impl Desk, who: &[u8], room: &[u8], count: usize) -> u64 {
-    if count <= room.len() && front::print(rt, who, &room[..count]) {
-        return front::DONE;
-    }
-    front::FAILED
 }

@@ -3,86 +3,58 @@
 // cannot be read or written is told on standard error. Assumes nothing of the file.
 #![tactic(auto)]
 
-ghost use Rattle.io.specs.Counts.{IsPrefixLen as Front};
-
-use front::{Desk, Words};
-use report::Seen;
-use std::io::{Print, Result};
+use front::{Desk, NoWork, Program, Status, Usage, Words};
+use std::io::Print;
 use types::Counts;
 
+const USAGE: Usage = Usage {
+    words: "[--] [FILE]",
+    meaning: "Plays the archive in FILE, or on standard input: a line `draw packet site` for each\n\
+        service, then `accepted A pairs P serviced V owed O`; or only `refused N`.\n",
+};
+
 fn main(rt: HostRuntime) {
-    let mut name = [0u8; front::WHO];
-    let called = front::begin(&rt, b"play", &mut name);
-    let n = called.count;
-    let status = answer(&rt, &name[..n], called.first);
-    front::tell_status(called.fronted, status);
+    front::run(rt, "play", |program| answer(program));
 }
 
-// What is asked from argument `first` on. Answers the status.
-fn answer(rt: &impl Desk, who: &[u8], first: usize) -> u64 {
-    let words = front::words_of(rt, who, first);
-    if words.help {
-        return front::helped(rt, who, print_usage(rt, who));
+// Does what the words ask for.
+fn answer(program: &Program<impl Desk>) -> Status {
+    match file_of(program) {
+        Ok(file) => play(program, file),
+        Err(why) => program.show_usage(why, USAGE),
     }
-    if is_wrong(rt, who, words) {
-        return front::misused(print_usage(&rt.messages(), who));
-    }
-    play(rt, who, words)
 }
 
-fn is_wrong(rt: &impl Desk, who: &[u8], words: Words) -> bool {
-    if words.wrong {
-        return true;
-    }
+// The argument that names the file, if there is one.
+fn file_of(program: &Program<impl Desk>) -> Result<Option<usize>, NoWork> {
+    let words = Words::of(program)?;
     if words.names > 1 {
-        front::say(rt, who, b"play takes one file", b"");
-        return true;
+        return Err(program.misused("play takes one file"));
     }
-    false
+    Ok(words.last)
 }
 
-fn print_usage(to: &impl Print, who: &[u8]) -> Result<()> {
-    front::print_usage(
-        to,
-        who,
-        b" [--] [FILE]\n",
-        b"Plays the archive in FILE, or on standard input: a line `draw packet site` for each\n",
-    )?;
-    to.write_all(b"service, then `accepted A pairs P serviced V owed O`; or only `refused N`.\n")
-}
-
-fn play(rt: &impl Desk, who: &[u8], words: Words) -> u64 {
+// Plays the archive in the file that argument `file` names, or on standard input.
+fn play(program: &Program<impl Desk>, file: Option<usize>) -> Status {
     let mut bytes = io::large_buffer();
-    let seen = read_archive(rt, who, words, &mut bytes);
-    if seen.failed {
-        return front::FAILED;
-    }
-    let n = seen.count;
+    let Some(n) = program.read(file, &mut bytes) else {
+        return Status::Failed;
+    };
     let mut book = [0u8; report::BOOK];
     let played = machine::play(&bytes[..n], &mut book);
-    if let Err(error) = print_played(rt, &book, played.refusal, played.counts) {
-        front::no_output(rt, who, error);
-        return front::FAILED;
+    if let Err(error) = print_played(&program.rt, &book, played.refusal, played.counts) {
+        program.no_output(error);
+        return Status::Failed;
     }
     if played.refusal == 0 {
-        front::DONE
+        Status::Done
     } else {
-        front::FAILED
+        Status::Failed
     }
 }
 
 // The services of the book, then the line of the answer.
-fn print_played(out: &impl Print, book: &[u8], refusal: u8, counts: Counts) -> Result<()> {
+fn print_played(out: &impl Print, book: &[u8], refusal: u8, counts: Counts) -> std::io::Result<()> {
     report::print_services(out, book, counts.serviced)?;
     report::print_line(out, refusal, counts)
-}
-
-// Reads the file that is named, or standard input.
-fn read_archive(rt: &impl Desk, who: &[u8], words: Words, bytes: &mut [u8]) -> Seen
-    ensures { Front result.count bytes.new }
-{
-    if words.names == 0 {
-        return front::read_input(rt, who, bytes);
-    }
-    front::read_argument(rt, who, words.last, bytes)
 }

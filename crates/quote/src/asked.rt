@@ -1,85 +1,56 @@
 // The words that `quote` is called with: options, and the numbers t, L, D, n and W in this order. A word is an option
 // if it begins with two dashes; every other, `-3` too, is taken for a number, and so is every word behind `--`.
 use crate::number::{NUMBERS, with_number};
-use front::{Desk, Words};
+use front::{Desk, NoWork, Program, Words};
 
 // The longest argument that Linux passes where pages have 4,096 bytes, with the 0 that ends it.
 const ARGUMENT: usize = 131072;
 
-// What the arguments ask for. Of more than five numbers the first five are kept.
+// What the words ask for. Of more than five numbers the first five are kept.
 #[derive(Clone, Copy)]
 pub struct Asked {
     pub doubled: bool,
     pub numbers: [u64; NUMBERS],
-    pub words: Words,
+    words: Words,
 }
 
-// The arguments from number `first` on.
-pub fn asked_from(rt: &impl Desk, who: &[u8], first: usize) -> Asked {
-    let mut asked = Asked {
-        doubled: false,
-        numbers: [0; NUMBERS],
-        words: front::no_words(rt, who, first),
-    };
-    let mut room = [0u8; ARGUMENT];
-    for i in first..front::arg_count(rt) {
-        asked = take_argument(rt, who, i, &mut room, asked);
+impl Asked {
+    pub fn of(program: &Program<impl Desk>) -> Result<Asked, NoWork> {
+        let nothing = Asked {
+            doubled: false,
+            numbers: [0; NUMBERS],
+            words: Words::none(program)?,
+        };
+        let mut room = [0u8; ARGUMENT];
+        let asked = program.fold_words(
+            &mut room,
+            Ok(nothing),
+            |asked, i, word| asked?.with(program, i, whole(word)),
+        )?;
+        if asked.words.names != NUMBERS {
+            return Err(program.misused("latency takes five numbers: t L D n W"));
+        }
+        Ok(asked)
     }
-    asked
+
+    // With one more word, argument i: `--doubled`, what the programs share, or a number. To `Words` one that does not begin
+    // with two dashes is as good as the empty word, a name.
+    fn with(self, program: &Program<impl Desk>, i: usize, word: &[u8]) -> Result<Asked, NoWork> {
+        let mut asked = self;
+        if !self.words.is_ended && word == b"--doubled".as_slice() {
+            asked.doubled = true;
+            return Ok(asked);
+        }
+        let sorted: &[u8] = if word.starts_with(b"--") { word } else { b"" };
+        asked.words = self.words.with(program, i, sorted)?;
+        if asked.words.names != self.words.names {
+            asked.numbers = with_number(self.numbers, self.words.names, word);
+        }
+        Ok(asked)
+    }
 }
 
 // A word that fills the room may have been cut, and is taken for the empty one, which is no number.
-fn take_argument(rt: &impl Desk, who: &[u8], i: usize, room: &mut [u8], asked: Asked) -> Asked {
-    let n = front::word_at(rt, i, room);
-    if n < room.len() {
-        return take_word(rt, who, i, &room[..n], asked);
-    }
-    take_word(rt, who, i, b"", asked)
-}
-
-// One more word: `--doubled`, what the programs share, or a number.
-fn take_word(rt: &impl Desk, who: &[u8], i: usize, word: &[u8], asked: Asked) -> Asked {
-    let words = asked.words;
-    let mut now = asked;
-    if !words.ended && check::same(word, b"--doubled") {
-        now.doubled = true;
-        return now;
-    }
-    let more = sorted(rt, who, i, word, words);
-    now.words = more;
-    if more.names == words.names {
-        return now;
-    }
-    let before = asked.numbers;
-    let numbers = with_number(before, words.names, word);
-    now.numbers = numbers;
-    now
-}
-
-// The words with one more. To `front` one that does not begin with two dashes is as good as the empty word, a name.
-fn sorted(rt: &impl Desk, who: &[u8], i: usize, word: &[u8], words: Words) -> Words {
-    if is_dashed(word) {
-        return front::take_word(rt, who, i, word, words);
-    }
-    front::take_word(rt, who, i, b"", words)
-}
-
-// Whether a word begins with two dashes.
-fn is_dashed(word: &[u8]) -> bool {
-    if word.len() < 2 {
-        return false;
-    }
-    (word[0] == b'-') & (word[1] == b'-')
-}
-
-// Whether the use is wrong, which is said.
-pub fn is_wrong(rt: &impl Desk, who: &[u8], words: Words) -> bool {
-    if words.wrong {
-        return true;
-    }
-    if words.names != NUMBERS {
-        front::say(rt, who, b"latency takes five numbers: t L D n W", b"");
-        return true;
-    }
-    false
+fn whole(word: &[u8]) -> &[u8] {
+    if word.len() < ARGUMENT { word } else { b"" }
 }

@@ -9,61 +9,35 @@ mod asked;
 mod number;
 mod text;
 
-use front::Desk;
-use number::NUMBERS;
-use std::io::{Print, Result};
+use asked::Asked;
+use front::{Desk, Program, Status, Usage};
+
+const USAGE: Usage = Usage {
+    words: "[--doubled] [--] t L D n W",
+    meaning: "Prints the latency of a packet that meets no other, in cycles, four lines: unicast, and the averages\n\
+        of multi-unicast, resumable and restricted branch multicast; with --doubled twice each. t: bits of\n\
+        a target; L: bits of the data; D: channels to go; n: targets; W: bits of a channel; 1 to 65535 each.\n",
+};
 
 fn main(rt: HostRuntime) {
-    let mut name = [0u8; front::WHO];
-    let called = front::begin(&rt, b"quote", &mut name);
-    let n = called.count;
-    let status = answer(&rt, &name[..n], called.first);
-    front::tell_status(called.fronted, status);
+    front::run(rt, "quote", |program| answer(program));
 }
 
-// What is asked from argument `first` on. Answers the status.
-fn answer(rt: &impl Desk, who: &[u8], first: usize) -> u64 {
-    let asked = asked::asked_from(rt, who, first);
-    let words = asked.words;
-    if words.help {
-        return front::helped(rt, who, print_usage(rt, who));
+// Does what the words ask for.
+fn answer(program: &Program<impl Desk>) -> Status {
+    match Asked::of(program) {
+        Ok(asked) => print_quote(program, asked),
+        Err(why) => program.show_usage(why, USAGE),
     }
-    if asked::is_wrong(rt, who, words) {
-        return front::misused(print_usage(&rt.messages(), who));
-    }
-    let numbers = asked.numbers;
-    print_quote(rt, who, numbers, asked.doubled)
 }
 
-fn print_usage(to: &impl Print, who: &[u8]) -> Result<()> {
-    front::print_usage(
-        to,
-        who,
-        b" [--doubled] [--] t L D n W\n",
-        b"Prints the latency of a packet that meets no other, in cycles, four lines: unicast, and the averages\n",
-    )?;
-    print_meaning(to)
-}
-
-// Both lines are tried; of two errors the later is answered.
-fn print_meaning(to: &impl Print) -> Result<()> {
-    let order = to.write_all(
-        b"of multi-unicast, resumable and restricted branch multicast; with --doubled twice each. t: bits of\n",
-    );
-    let letters = to.write_all(
-        b"a target; L: bits of the data; D: channels to go; n: targets; W: bits of a channel; 1 to 65535 each.\n",
-    );
-    letters.and(order)
-}
-
-// Prints the four lines, or the refusal. Answers the status.
-fn print_quote(rt: &impl Desk, who: &[u8], numbers: [u64; NUMBERS], doubled: bool) -> u64 {
+// Prints the four lines, or the refusal.
+fn print_quote(program: &Program<impl Desk>, asked: Asked) -> Status {
     let mut room = [0u8; text::TEXT];
-    let quoted = text::quote(numbers, doubled, &mut room);
-    let n = quoted.count;
-    let is_printed = front::print(rt, who, &room[..n]);
-    if is_printed & (quoted.refusal == 0) {
-        return front::DONE;
+    let quoted = text::quote(asked.numbers, asked.doubled, &mut room);
+    if program.print(&room[..quoted.count]) && quoted.refusal == 0 {
+        Status::Done
+    } else {
+        Status::Failed
     }
-    front::FAILED
 }

@@ -1,5 +1,6 @@
 // The text of the four latencies, composed in lent bytes, so that it goes out by one write. specs/Text.antt has it.
 ghost use Rattle.std.specs.Prelude.{◌≡◌, ◌++◌, length};
+ghost use Rattle.io.specs.Counts.{IsPrefixLen as Front};
 ghost use Rattle.base.specs.Answers.{at_front};
 ghost use Rattle.lines.specs.Add.{Added};
 ghost use Rattle.lines.specs.Text.{decimal};
@@ -21,8 +22,9 @@ pub struct Quoted {
 
 // Puts what is to be printed for t, L, D, n and W, in this order, at the front of the lent bytes.
 pub fn quote(numbers: [u64; NUMBERS], doubled: bool, text: &mut [u8; TEXT]) -> Quoted
-    ensures { (result ≡ quote_of doubled numbers)
+    ensures quoted { (result ≡ quote_of doubled numbers)
         × (text.new ≡ at_front (quote_text doubled numbers) text.old) }
+    ensures front { Front result.count text.new }
 {
     let t = numbers[0];
     let l = numbers[1];

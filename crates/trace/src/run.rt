@@ -11,12 +11,13 @@ use std::io::{Print, Result};
 use std::num::wrapping_add_usize;
 use types::{Counts, Network, Ran, Run, Sent, StoredSend};
 
-// What is told: the sends and the draws that changed something; every draw too; or the failed asks alone.
-pub const CHANGES: u8 = 0;
-
-pub const EVERY: u8 = 1;
-
-pub const WHY: u8 = 2;
+// What is told of a run: the sends and the draws that changed something; every draw too; or the failed asks alone.
+#[derive(Clone, Copy, PartialEq, Eq)]
+pub enum Mode {
+    Changes,
+    Every,
+    Why,
+}
 
 // Why a trace goes no further: it does not stop; RUN refused, which no valid run comes to. Where a line cannot be
 // written, it ends with that error.
@@ -49,7 +50,7 @@ fn counted_send(counts: Counts, order: StoredSend, answer: Sent) -> Counts {
 fn send_turn(
     out: &impl Print,
     network: Network,
-    mode: u8,
+    mode: Mode,
     draws: u16,
     order: StoredSend,
     state: &mut [u64],
@@ -58,7 +59,7 @@ fn send_turn(
 ) -> Result<Traced> {
     let answer = words::send(network, state, base::wide(order.site), order.set);
     copy(state, before);
-    if mode != WHY {
+    if mode != Mode::Why {
         print_send(out, t.next, draws, order, answer)?;
     }
     let clock = t.clock;
@@ -91,7 +92,7 @@ fn channel_of(channels: [u16; base::PORTS * base::SITES], s: usize, code: usize)
 fn tell_draw(
     out: &impl Print,
     network: Network,
-    mode: u8,
+    mode: Mode,
     d: u16,
     site: usize,
     code: usize,
@@ -100,7 +101,7 @@ fn tell_draw(
     before: &mut [u64],
 ) -> Result<()> {
     if let Ran::Nothing = answer {
-        if mode == EVERY {
+        if mode == Mode::Every {
             print_idle(out, d, site, code)?;
         }
         return Ok(());
@@ -116,7 +117,7 @@ fn tell_draw(
 fn tell(
     out: &impl Print,
     network: Network,
-    mode: u8,
+    mode: Mode,
     d: u16,
     site: usize,
     code: usize,
@@ -129,7 +130,7 @@ fn tell(
     if let Ran::Refused(_) = answer {
         return Ok(REFUSED);
     }
-    if mode == WHY {
+    if mode == Mode::Why {
         why::tell(out, d, site, code, outputs, state, times)?;
     } else {
         tell_draw(out, network, mode, d, site, code, answer, state, before)?;
@@ -150,7 +151,7 @@ fn counted_run(counts: Counts, answer: Ran) -> Counts {
 fn draw_turn(
     out: &impl Print,
     network: Network,
-    mode: u8,
+    mode: Mode,
     state: &mut [u64],
     before: &mut [u64],
     times: &mut [usize],
@@ -194,7 +195,7 @@ fn copy(from: &[u64], to: &mut [u64]) {
 fn turn(
     out: &impl Print,
     network: Network,
-    mode: u8,
+    mode: Mode,
     draws: u16,
     count: usize,
     order: StoredSend,
@@ -224,7 +225,7 @@ fn place_of(next: usize) -> usize
 fn turns(
     out: &impl Print,
     run: Run,
-    mode: u8,
+    mode: Mode,
     state: &mut [u64],
     before: &mut [u64],
     times: &mut [usize],
@@ -265,7 +266,7 @@ fn turns(
 
 // Traces a run from the empty state, the pairs that are owed at its end counted. Behind failed asks it prints how often
 // each output stood in the way.
-pub fn trace(out: &impl Print, run: Run, mode: u8) -> Result<Traced> {
+pub fn trace(out: &impl Print, run: Run, mode: Mode) -> Result<Traced> {
     let mut state = [0u64; WORDS];
     words::write_empty(&mut state);
     let mut before = state;
@@ -278,7 +279,7 @@ pub fn trace(out: &impl Print, run: Run, mode: u8) -> Result<Traced> {
     let mut counts = t.counts;
     counts.owed = left.pairs;
     t.counts = counts;
-    if (mode == WHY) & (t.stop == GOES_ON) {
+    if (mode == Mode::Why) & (t.stop == GOES_ON) {
         why::print_times(out, &mut times)?;
     }
     Ok(t)
