@@ -11,10 +11,10 @@ mod moves;
 mod rings;
 mod wide;
 
-use archive::Written;
+use base::Refusal;
 use std::fmt::Display;
 use std::io::{Print, Read};
-use types::Run;
+use types::{Network, Run, StoredSend};
 
 // "Run R", byte by byte.
 pub(crate) const R: [u8; 24] = [
@@ -37,28 +37,68 @@ pub(crate) fn show_same(out: &impl Print, label: &str, is_same: bool) {
     print_line(out, format_args!("{label} {answer}"));
 }
 
+// The number of a refusal, 0 for none.
+pub(crate) fn number<T: Copy>(answer: Result<T, Refusal>) -> u8 {
+    match answer {
+        Ok(_) => 0,
+        Err(refusal) => u8::from(refusal),
+    }
+}
+
 // How the reader judges a file.
 pub(crate) fn show_check(out: &impl Print, label: &str, file: &[u8]) {
-    let refusal = archive::check(file);
-    print_line(out, format_args!("{label} {refusal}"));
+    print_line(
+        out,
+        format_args!("{label} {}", number(archive::check(file))),
+    );
+}
+
+// What stands for the run of a file that is refused.
+const NO_RUN: Run = Run {
+    network: Network {
+        sites: 0,
+        depth: 0,
+        tries: 0,
+        version: 0,
+        edition: 0,
+        channels: [0; base::PORTS * base::SITES],
+        routes: [0; base::SITES * base::SITES],
+    },
+    seed: 0,
+    draws: 0,
+    count: 0,
+    sends: [StoredSend {
+        set: 0,
+        draw: 0,
+        site: 0,
+    }; base::SENDS],
+};
+
+pub(crate) fn run_of(file: &[u8]) -> Run {
+    archive::read(file).unwrap_or(NO_RUN)
 }
 
 // Reads a file, and answers the run.
 pub(crate) fn show_read(out: &impl Print, label: &str, file: &[u8]) -> Run {
-    let decoded = archive::read(file);
-    let refusal = decoded.refusal;
-    print_line(out, format_args!("{label} {refusal}"));
-    decoded.run
+    show_check(out, label, file);
+    run_of(file)
 }
 
 // What the writer or a move answered.
-pub(crate) fn show_written(out: &impl Print, label: impl Display + Drop, written: Written) {
-    let Written { refusal, length } = written;
-    print_line(out, format_args!("{label} {refusal} length {length}"));
+pub(crate) fn show_written(
+    out: &impl Print,
+    label: impl Display + Drop,
+    written: Result<usize, Refusal>,
+) {
+    let length = written.unwrap_or(0);
+    print_line(
+        out,
+        format_args!("{label} {} length {length}", number(written)),
+    );
 }
 
 // Lends a room of N nines and shows what is answered. Gives the room back as it was left.
-pub(crate) fn lend<const N: usize, F: FnOnce(&mut [u8]) -> Written>(
+pub(crate) fn lend<const N: usize, F: FnOnce(&mut [u8]) -> Result<usize, Refusal>>(
     out: &impl Print,
     label: impl Display + Drop,
     write: F,
@@ -155,7 +195,7 @@ fn rooms(out: &impl Print) {
 
 // Runs that are not archives: more than 255 sends, seed 0, 17 sites, and which comes first.
 fn writers(out: &impl Print) {
-    let mut run = archive::read(&R).run;
+    let mut run = run_of(&R);
     let mut room = [NINE; 26];
     run.count = 256;
     show_written(out, "256 sends", archive::write(run, &mut room));
@@ -174,7 +214,7 @@ fn writers(out: &impl Print) {
 
 // The writer's own limits, each alone: run R with a depth and a number of sites.
 fn limits(out: &impl Print) {
-    let mut run = archive::read(&R).run;
+    let mut run = run_of(&R);
     for (label, depth, sites) in [("D 8", 8, 1), ("D 9", 9, 1), ("S 17", 1, 17)] {
         run.network.depth = depth;
         run.network.sites = sites;

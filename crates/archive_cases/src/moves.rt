@@ -2,7 +2,7 @@
 // of two neighbours comes first; then rings (rings).
 use crate::wide::WIDE;
 use crate::{NINE, R, is_at_front, lend, show_same, show_untouched, show_written};
-use archive::Written;
+use base::Refusal;
 use std::fmt;
 use std::io::Print;
 
@@ -71,7 +71,7 @@ impl fmt::Display for Row<'_> {
 }
 
 // The file with each row's changes, moved into a room of 36 nines.
-fn show_rows<const N: usize, F: Fn(&[u8], &mut [u8]) -> Written>(
+fn show_rows<const N: usize, F: Fn(&[u8], &mut [u8]) -> Result<usize, Refusal>>(
     out: &impl Print,
     way: &str,
     file: [u8; N],

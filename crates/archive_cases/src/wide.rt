@@ -1,5 +1,8 @@
 // Reader and writer on the bounds of version 2, and version and edition in memory. Run R in version 2 stands here.
-use crate::{R, lend, print_line, show_changes, show_check, show_read, show_same, show_untouched};
+use crate::{
+    R, lend, number, print_line, run_of, show_changes, show_check, show_read, show_same,
+    show_untouched,
+};
 use std::io::Print;
 
 // Run R: after the version byte an edition byte, four channels of two bytes, a set of eight.
@@ -50,8 +53,10 @@ fn bodies(out: &impl Print) {
     for channel in [3u16, 4, 255, 256, 65535] {
         let mut file = WIDE;
         file[14..16].copy_from_slice(&channel.to_be_bytes());
-        let refusal = archive::check(&file);
-        print_line(out, format_args!("channel {channel} {refusal}"));
+        print_line(
+            out,
+            format_args!("channel {channel} {}", number(archive::check(&file))),
+        );
     }
     let changes = [
         ("route 1000", 22, 0x10),
@@ -81,7 +86,7 @@ pub(crate) const NONE: u16 = base::NO_CHANNEL;
 // How the writer judges it. Answers the room that it was lent.
 pub(crate) fn show_memory(out: &impl Print, memory: Memory) -> [u8; 35] {
     let (label, version, edition, sites, channel) = memory;
-    let mut run = archive::read(&R).run;
+    let mut run = run_of(&R);
     run.network.version = version;
     run.network.edition = edition;
     run.network.sites = sites;

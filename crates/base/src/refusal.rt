@@ -2,6 +2,8 @@
 ghost use Rattle.std.specs.Prelude.{◌≡◌};
 ghost use Rattle.base.specs.Refusals.{number};
 
+use std::fmt;
+
 #[derive(Clone, Copy)]
 pub enum Refusal {
     // Reading: too few bytes, or another length than the file says.
@@ -56,5 +58,12 @@ impl From<Refusal> for u8 {
             Refusal::Back => 15,
             Refusal::Argument => 20,
         }
+    }
+}
+
+// The number.
+impl fmt::Display for Refusal {
+    fn fmt<W: fmt::Write>(&self, f: &mut fmt::Formatter<W>) -> fmt::Result {
+        u8::from(*self).fmt(f)
     }
 }

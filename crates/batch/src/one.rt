@@ -1,7 +1,9 @@
 // One file of a batch: read, played, counted, and told in one line, which goes out by one write.
+use base::Refusal;
 use front::{Desk, Line, Program};
 use std::fmt;
 use std::fmt::Write as _;
+use types::Counts;
 
 // Room for a line: a name of 4,096 bytes at its longest, and an answer.
 const LINE: usize = 16512;
@@ -53,8 +55,11 @@ impl Totals {
         };
         let mut book = [0u8; report::BOOK];
         let played = words::play(&bytes[..count], &mut book);
-        self.count(played.refusal);
-        let shown = if services { played.counts.serviced } else { 0 };
+        self.count(played);
+        let shown = match played {
+            Ok(counts) if services => counts.serviced,
+            _ => 0,
+        };
         if let Err(error) = report::print_services(&program.rt, &book, shown) {
             program.no_output(error);
             return Err(Stop::Lost);
@@ -62,7 +67,7 @@ impl Totals {
         let mut line = Line::<LINE>::new();
         line.add_name(name);
         line.add_bytes(b": ");
-        line.add_answer(played.refusal, played.counts);
+        line.add_answer(played);
         print(program, line.as_bytes())
     }
 
@@ -88,11 +93,11 @@ impl Totals {
     }
 
     // One file more that was played or refused.
-    fn count(&mut self, refusal: u8) {
+    fn count(&mut self, played: Result<Counts, Refusal>) {
         self.files = self.files.saturating_add(1);
-        match refusal {
-            0 => self.played = self.played.saturating_add(1),
-            _ => self.refused = self.refused.saturating_add(1),
+        match played {
+            Ok(_) => self.played = self.played.saturating_add(1),
+            Err(_) => self.refused = self.refused.saturating_add(1),
         }
     }
 }

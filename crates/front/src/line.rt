@@ -3,8 +3,17 @@
 // bytes may be no text.
 ghost use Rattle.std.specs.Prelude.{◌≤◌};
 
+use base::Refusal;
 use std::fmt;
 use types::Counts;
+
+// The line of a refusal shows no counts.
+const NO_COUNTS: Counts = Counts {
+    accepted: 0,
+    pairs: 0,
+    serviced: 0,
+    owed: 0,
+};
 
 // The first `length` bytes of the room.
 #[derive(Clone, Copy)]
@@ -39,7 +48,11 @@ impl<const N: usize> Line<N> {
     }
 
     // Adds the line of an answer, with its newline.
-    pub fn add_answer(&mut self, refusal: u8, counts: Counts) {
+    pub fn add_answer(&mut self, played: Result<Counts, Refusal>) {
+        let (refusal, counts) = match played {
+            Ok(counts) => (0, counts),
+            Err(refusal) => (u8::from(refusal), NO_COUNTS),
+        };
         self.length = report::add_answer(&mut self.room, self.length, refusal, counts);
     }
 }

@@ -1,6 +1,7 @@
 // Whether the bytes of a file are an archive, in words.
 use crate::held::Held;
 use crate::{heads, items};
+use base::Refusal;
 use faults::Fault;
 use front::Status;
 use std::fmt::{Display, Formatter, Result, Write};
@@ -9,7 +10,7 @@ use std::fmt::{Display, Formatter, Result, Write};
 #[derive(Clone, Copy)]
 pub struct Verdict<'a> {
     held: Held<'a>,
-    fault: Fault,
+    fault: Option<Fault>,
 }
 
 impl<'a> Verdict<'a> {
@@ -21,9 +22,9 @@ impl<'a> Verdict<'a> {
     }
 
     pub fn status(&self) -> Status {
-        match self.fault.refusal {
-            0 => Status::Done,
-            _ => Status::Failed,
+        match self.fault {
+            None => Status::Done,
+            Some(_) => Status::Failed,
         }
     }
 }
@@ -32,20 +33,19 @@ impl<'a> Verdict<'a> {
 impl Display for Verdict<'_> {
     fn fmt<W: Write>(&self, f: &mut Formatter<W>) -> Result {
         let held = self.held;
-        let Fault { refusal, place } = self.fault;
-        if refusal != 0 {
-            write!(f, "refused {refusal}: ")?;
-        }
+        let Some(Fault { refusal, place }) = self.fault else {
+            return heads::write_good(f, held);
+        };
+        write!(f, "refused {refusal}: ")?;
         match refusal {
-            0 => heads::write_good(f, held),
-            1 => heads::write_short(f, held),
-            2 => heads::write_version(f, held),
-            3 => heads::write_limit(f, held),
-            4 => heads::write_seed(f, held),
-            17 => heads::write_edition(f, held),
-            6 => items::write_channel(f, held, place),
-            7 => items::write_route(f, held, place),
-            8 => items::write_send(f, held, place),
+            Refusal::Length => heads::write_short(f, held),
+            Refusal::Version => heads::write_version(f, held),
+            Refusal::Edition => heads::write_edition(f, held),
+            Refusal::Sizes => heads::write_limit(f, held),
+            Refusal::Seed => heads::write_seed(f, held),
+            Refusal::Channels => items::write_channel(f, held, place),
+            Refusal::Routes => items::write_route(f, held, place),
+            Refusal::Sends => items::write_send(f, held, place),
             _ => heads::write_size(f, held),
         }
     }

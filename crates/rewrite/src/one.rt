@@ -2,6 +2,7 @@
 ghost use Rattle.std.specs.Prelude.{IfSome};
 ghost use Rattle.io.specs.Counts.{IsPrefixLen as Front};
 
+use base::Refusal;
 use std::fmt;
 use std::fs::File;
 use std::rt::Files;
@@ -15,7 +16,7 @@ const FILL: u8 = 165;
 #[derive(Clone, Copy)]
 pub enum Outcome {
     Same(usize),
-    Refused(u8),
+    Refused(Refusal),
     Differs,
     Unreadable,
 }
@@ -50,12 +51,12 @@ fn read_named(rt: &impl Files, name: &[u8], room: &mut [u8]) -> Option<usize>
 }
 
 fn judge(bytes: &[u8]) -> Outcome {
-    let decoded = archive::read(bytes);
-    match decoded.refusal {
-        0 if needs_room(decoded.run, bytes.len()) && comes_back(decoded.run, bytes) =>
-            Outcome::Same(bytes.len()),
-        0 => Outcome::Differs,
-        refusal => Outcome::Refused(refusal),
+    match archive::read(bytes) {
+        Ok(run) if needs_room(run, bytes.len()) && comes_back(run, bytes) => Outcome::Same(
+            bytes.len(),
+        ),
+        Ok(_) => Outcome::Differs,
+        Err(refusal) => Outcome::Refused(refusal),
     }
 }
 
@@ -63,8 +64,7 @@ fn judge(bytes: &[u8]) -> Outcome {
 fn comes_back(run: Run, bytes: &[u8]) -> bool {
     let mut room = [FILL; format::LONGEST];
     let written = archive::write(run, &mut room);
-    written.refusal == 0
-        && written.length == bytes.len()
+    written.ok() == Some(bytes.len())
         && room.strip_prefix(bytes).is_some_and(|rest| is_filled(rest))
 }
 
@@ -75,7 +75,7 @@ fn needs_room(run: Run, length: usize) -> bool {
         return false;
     }
     let written = archive::write(run, &mut room[..length - 1]);
-    written.refusal == 14 && written.length == 0 && is_filled(&room)
+    matches!(written, Err(Refusal::Room)) && is_filled(&room)
 }
 
 fn is_filled(room: &[u8]) -> bool {

@@ -22,15 +22,11 @@ fn told(run: types::Run, k: usize) -> usize
     base::wider(channel) + 65536 * routed
 }
 
-// Reads the archive: its refusal, 1 to 17, or 32 and what k picks of its run. It picks before it looks at the refusal:
-// behind a test the compiler copies the arrays once more to pick from them, and these copies would be counted too.
+// Reads the archive: its refusal, 1 to 17, or 32 and what k picks of its run.
 #[unsafe(no_mangle)]
 pub extern "C" fn stack_read(bytes: &[u8], k: usize) -> usize {
-    let decoded = archive::read(bytes);
-    let refusal = decoded.refusal;
-    let picked = told(decoded.run, k);
-    if refusal != 0 {
-        return base::wide(refusal);
+    match archive::read(bytes) {
+        Ok(run) => 32 + told(run, k),
+        Err(refusal) => base::wide(u8::from(refusal)),
     }
-    32 + picked
 }

@@ -24,7 +24,7 @@ pub extern "C" fn timing_read(bytes: &mut [u8], times: usize) -> usize {
     let mut last = 0;
     for k in 1..=times {
         reseed(bytes, k);
-        last = picked(&archive::read(bytes).run);
+        last = archive::read(bytes).map_or(0, |run| picked(&run));
     }
     last
 }
@@ -36,7 +36,10 @@ pub extern "C" fn timing_check(bytes: &mut [u8], times: usize) -> usize {
     let mut sum = 0;
     for k in 1..=times {
         reseed(bytes, k);
-        sum = sum % 65536 + usize::from(archive::check(bytes));
+        sum = sum % 65536
+            + archive::check(bytes)
+                .err()
+                .map_or(0, |refusal| usize::from(u8::from(refusal)));
     }
     sum
 }
@@ -44,11 +47,13 @@ pub extern "C" fn timing_check(bytes: &mut [u8], times: usize) -> usize {
 // Reads the archive and writes it so many times, each time with another seed; answers the length, 0 if it was refused.
 #[unsafe(no_mangle)]
 pub extern "C" fn timing_write(bytes: &[u8], room: &mut [u8], times: usize) -> usize {
-    let mut run = archive::read(bytes).run;
+    let Ok(mut run) = archive::read(bytes) else {
+        return 0;
+    };
     let mut size = 0;
     for k in 1..=times {
         run.seed = (k % 65535 + 1) as u32;
-        size = archive::write(run, room).length;
+        size = archive::write(run, room).unwrap_or(0);
     }
     size
 }

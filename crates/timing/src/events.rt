@@ -17,8 +17,10 @@ fn drawn(network: &Network, start: State, seed: u32, draws: usize) -> State {
     let mut state = start;
     for _ in 0..draws {
         value = draws::draw(value);
-        let named = draws::event_of(value, network.sites, network.edition);
-        state = machine::run(*network, state, named.site, named.code).state;
+        let Ok(event) = draws::event_of(value, network.sites, network.edition) else {
+            break;
+        };
+        state = machine::run(*network, state, event.site, event.code).state;
     }
     state
 }
@@ -47,7 +49,9 @@ pub extern "C" fn timing_runs(
     code: usize,
     times: usize,
 ) -> usize {
-    let run = archive::read(bytes).run;
+    let Ok(run) = archive::read(bytes) else {
+        return 0;
+    };
     let first = sent(&run);
     let second = drawn(&run.network, first, run.seed, draws);
     let last = repeated(&run.network, second, site, code, times);
@@ -58,7 +62,9 @@ pub extern "C" fn timing_runs(
 // behind the last.
 #[unsafe(no_mangle)]
 pub extern "C" fn timing_sends(bytes: &[u8], times: usize) -> usize {
-    let network = archive::read(bytes).run.network;
+    let Ok(Run { network, .. }) = archive::read(bytes) else {
+        return 0;
+    };
     let mut state = machine::empty_state();
     for k in 0..times {
         let site = k.checked_rem(network.sites).unwrap_or(0);

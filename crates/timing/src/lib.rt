@@ -7,14 +7,15 @@ mod archives;
 mod events;
 
 pub use archives::{timing_check, timing_read, timing_write};
+use base::Refusal;
 pub use events::{timing_runs, timing_sends};
-use machine::PlayAnswer;
+use types::Counts;
 
 // What a player answered: its services, or 65,536 and the refusal.
-fn told(played: PlayAnswer) -> usize {
-    match played.refusal {
-        0 => played.counts.serviced,
-        refusal => 65536 + usize::from(refusal),
+fn told(played: Result<Counts, Refusal>) -> usize {
+    match played {
+        Ok(counts) => counts.serviced,
+        Err(refusal) => 65536 + usize::from(u8::from(refusal)),
     }
 }
 
