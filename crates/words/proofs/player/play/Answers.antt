@@ -8,9 +8,6 @@ returns-then-refusal-ne0 c =
     let w = play_refused a.bytes.now a.book.now c.start-started.ensures.0 c.if-refusal-ne0.true in
     (c.refused.ensures ∙ w.0, w.1)
 
-pub play_run-counts-requires : goal.play_run-counts-requires
-play_run-counts-requires c = c.start-started.ensures.1 c.if-refusal-ne0.false
-
 pub returns : goal.returns
 returns c =
     let a = c.args in

@@ -1,7 +1,6 @@
 use Rattle.machine.proofs.ProgressLaws.{stored_sends}
-use Rattle.machine.proofs.PlayerTurns.{known}
 use native.Mathlib.Omega.{arith}
-use Rattle.words.proofs.PlayLaws.{going, turnable, goes_on, gone}
+use Rattle.words.proofs.PlayLaws.{going, turnable, goes_on}
 use mathlib.Core.Path.{refl}
 use borrow.Author.Rules.{rules}
 use Rattle.words.proofs.player.play_turns.Goals as goal
@@ -17,9 +16,3 @@ take_turn-t-requires c = turnable c.loop-turn.invariant
 
 pub loop-turn-preserved : goal.loop-turn-preserved
 loop-turn-preserved c = goes_on c.loop-turn.invariant c.loop-turn-test.true c.capped.ensures refl c.take_turn-t.ensures
-
-pub shape_of-book : goal.shape_of-book
-shape_of-book c = (known c.loop-turn.invariant.playing).kept
-
-pub returns : goal.returns
-returns c = gone c.loop-turn.invariant c.loop-turn-test.false
