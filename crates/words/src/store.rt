@@ -56,6 +56,8 @@ pub(crate) fn store_in_entry(words: &mut [u64; WORDS], s: usize, q: usize, m: us
     store_place(words, s, k, entry.set, in_entry_word(entry));
 }
 
+// The out-queue and the in-queues have functions of their own: one over both would take an entry's type, packing and place as
+// parameters, and that is longer than two loops of one line.
 // The entries of site s's out-queue, the count as it was.
 fn store_out_entries(words: &mut [u64; WORDS], s: usize, entries: [OutEntry; base::QUEUE])
     requires { s < sites_most }

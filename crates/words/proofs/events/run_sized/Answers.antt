@@ -12,10 +12,12 @@ returns-then-refusal-ne0 c =
     (run_shared a.network.now a.words.now a.site a.code _ c.shared_refusal-refusal.ensures c.if-refusal-ne0.true)
 
 pub blocking_in_place-blocking-requires : goal.blocking_in_place-blocking-requires
-blocking_in_place-blocking-requires c = runnable _ _ _ (sym c.shared_refusal-refusal.ensures ∙ c.if-refusal-ne0.false) (ltb-true _ _ (both _ _ c.if-site-network.true).0)
+blocking_in_place-blocking-requires c =
+    runnable _ _ _ (sym c.shared_refusal-refusal.ensures ∙ c.if-refusal-ne0.false) (ltb-true _ _ (both _ _ c.if-site-network.true).0)
 
 pub run_in_place-answer-requires : goal.run_in_place-answer-requires
-run_in_place-answer-requires c = runnable _ _ _ (sym c.shared_refusal-refusal.ensures ∙ c.if-refusal-ne0.false) (ltb-true _ _ (both _ _ c.if-site-network.true).0)
+run_in_place-answer-requires c =
+    runnable _ _ _ (sym c.shared_refusal-refusal.ensures ∙ c.if-refusal-ne0.false) (ltb-true _ _ (both _ _ c.if-site-network.true).0)
 
 pub returns-then-site-network : goal.returns-then-site-network
 returns-then-site-network c =

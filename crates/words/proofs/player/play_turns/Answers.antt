@@ -1,6 +1,6 @@
 use Rattle.machine.proofs.ProgressLaws.{stored_sends}
 use native.Mathlib.Omega.{arith}
-use Rattle.words.proofs.PlayLaws.{going, turnable, goes_on}
+use Rattle.words.proofs.PlayLaws.{going, turnable, goes_on, gone}
 use mathlib.Core.Path.{refl}
 use borrow.Author.Rules.{rules}
 use Rattle.words.proofs.player.play_turns.Goals as goal
@@ -16,3 +16,6 @@ take_turn-t-requires c = turnable c.loop-turn.invariant
 
 pub loop-turn-preserved : goal.loop-turn-preserved
 loop-turn-preserved c = goes_on c.loop-turn.invariant c.loop-turn-test.true c.capped.ensures refl c.take_turn-t.ensures
+
+pub returns : goal.returns
+returns c = gone c.loop-turn.invariant c.loop-turn-test.false

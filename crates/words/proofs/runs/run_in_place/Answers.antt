@@ -1,12 +1,8 @@
-use Prim.Native.Nat.{ℕ, ◌-◌, ◌<◌}
+use Prim.Native.Nat.{◌<◌}
 use native.Mathlib.Omega.{arith}
-use Rattle.base.specs.Sizes.{port_count}
 use Rattle.words.proofs.Codes.{by_input, by_local, by_channel_lem, by_queue, by_operator, by_timeout, by_none}
 use borrow.Author.Rules.{rules}
 use Rattle.words.proofs.runs.run_in_place.Goals as goal
-
-port_below : (code : ℕ) → code < 10 → code - 6 < port_count
-port_below code h = omega arith
 
 pub returns-in-5 : goal.returns-in-5
 returns-in-5 c = by_local _ _ _ _ _ _ c.in-5.is (c.local_in_place.ensures _)
