@@ -67,7 +67,8 @@ fn is_heard(
     is_taken(outputs[j + 1]) & (there[j] & is_listening(far[j].phase))
 }
 
-// Which outputs are ready, output 0 and the split output if they are taken; there tells which of 1 to 4 have a channel, far has the inputs at their ends.
+// Which outputs are ready, output 0 and the split output if they are taken; there tells which of 1 to 4 have a channel,
+// far has the inputs at their ends.
 pub(crate) fn ready_outputs(
     there: [bool; base::PORTS],
     far: [Input; base::PORTS],
