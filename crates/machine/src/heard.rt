@@ -46,12 +46,7 @@ pub(crate) fn ends_there(network: Network, s: usize) -> [bool; base::PORTS]
     requires { s < sites_most }
     ensures { result ≡ four_flags (λ j. net.joined network s (suc j)) }
 {
-    [
-        is_joined(network, s, 0),
-        is_joined(network, s, 1),
-        is_joined(network, s, 2),
-        is_joined(network, s, 3),
-    ]
+    std::array::from_fn(|j| is_joined(network, s, j))
 }
 
 // Whether output j + 1 is ready: it has a channel, and the input at its end is open or abort.
