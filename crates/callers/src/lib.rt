@@ -31,14 +31,12 @@ pub fn send(network: Network, state: State, site: usize, set: u64) -> AfterSend
     ensures { result ≡ events.sent network state site set }
 {
     let after = machine::send(network, state, site, set);
-    let sent = after.answer;
-    let more = after.state;
-    let Sent::Accepted(packet) = sent else {
+    let Sent::Accepted(packet) = after.answer else {
         return after;
     };
     AfterSend {
         answer: Sent::Accepted(packet),
-        state: more,
+        state: after.state,
     }
 }
 
@@ -68,14 +66,11 @@ pub fn play_beside(bytes: &[u8], book: &mut [u8], beside: &mut [u8]) -> PlayAnsw
 pub fn two_draws(network: Network, state: State, seed: u32) -> AfterRun
     ensures { result ≡ two_draws network state seed }
 {
-    let sites = network.sites;
-    let edition = network.edition;
     let value = draws::draw(seed);
-    let named = draws::event_of(value, sites, edition);
+    let named = draws::event_of(value, network.sites, network.edition);
     let first = machine::run(network, state, named.site, named.code);
-    let between = first.state;
     let value_2 = draws::draw(value);
-    let named_2 = draws::event_of(value_2, sites, edition);
-    let second = machine::run(network, between, named_2.site, named_2.code);
+    let named_2 = draws::event_of(value_2, network.sites, network.edition);
+    let second = machine::run(network, first.state, named_2.site, named_2.code);
     second
 }
