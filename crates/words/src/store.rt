@@ -1,4 +1,5 @@
-// Places written into the words of a state. Each store leaves the words of the state with that place changed (specs/Stored.antt).
+// Places written into the words of a state. Each store leaves the words of the state with that place changed (layout's
+// specs/Stored.antt).
 ghost use Rattle.std.specs.Prelude.{◌≡◌, ◌<◌};
 ghost use Rattle.base.specs.Sizes.{sites_most, input_count, output_count, in_queue_count, queue_room};
 ghost use Rattle.model.specs.Types.{site_at, set_site, set_in, set_out, set_queue, with_out_queue};
