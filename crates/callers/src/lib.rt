@@ -32,14 +32,12 @@ pub fn send(network: Network, state: State, site: usize, set: u64) -> AfterSend
     ensures { result ≡ events.sent network state site set }
 {
     let after = machine::send(network, state, site, set);
-    let sent = after.answer;
-    let more = after.state;
-    let Sent::Accepted(packet) = sent else {
+    let Sent::Accepted(packet) = after.answer else {
         return after;
     };
     AfterSend {
         answer: Sent::Accepted(packet),
-        state: more,
+        state: after.state,
     }
 }
 
@@ -71,9 +69,8 @@ pub fn two_draws(network: Network, state: State, seed: u32) -> AfterRun
     let value = draws::draw(seed);
     let event = draws::event_of(value, network.sites, network.edition).unwrap_or(none);
     let first = machine::run(network, state, event.site, event.code);
-    let between = first.state;
     let value_2 = draws::draw(value);
     let event_2 = draws::event_of(value_2, network.sites, network.edition).unwrap_or(none);
-    let second = machine::run(network, between, event_2.site, event_2.code);
+    let second = machine::run(network, first.state, event_2.site, event_2.code);
     second
 }

@@ -46,12 +46,7 @@ pub(crate) fn ends_there(network: Network, s: usize) -> [bool; base::PORTS]
     requires { s < sites_most }
     ensures { result ≡ four_flags (λ j. net.joined network s (suc j)) }
 {
-    [
-        is_joined(network, s, 0),
-        is_joined(network, s, 1),
-        is_joined(network, s, 2),
-        is_joined(network, s, 3),
-    ]
+    std::array::from_fn(|j| is_joined(network, s, j))
 }
 
 // Whether output j + 1 is ready: it has a channel, and the input at its end is open or abort.
@@ -67,7 +62,8 @@ fn is_heard(
     is_taken(outputs[j + 1]) & (there[j] & is_listening(far[j].phase))
 }
 
-// Which outputs are ready, output 0 and the split output if they are taken; there tells which of 1 to 4 have a channel, far has the inputs at their ends.
+// Which outputs are ready, output 0 and the split output if they are taken; there tells which of 1 to 4 have a channel,
+// far has the inputs at their ends.
 pub(crate) fn ready_outputs(
     there: [bool; base::PORTS],
     far: [Input; base::PORTS],

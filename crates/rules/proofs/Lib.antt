@@ -6,4 +6,3 @@ pub mod Cut
 pub mod Filled
 pub mod Found
 pub mod Gather
-pub mod Ready

@@ -136,7 +136,8 @@ fn finish(
     input: Input,
     outputs: [Output; base::OUTPUTS],
 ) -> InputTurn
-    ensures { Some result ≡ of_input_turn (To spec.no_input (rule.give (rule.table received connection) input.outputs outputs)) }
+    ensures { Some result ≡
+        of_input_turn (To spec.no_input (rule.give (rule.table received connection) input.outputs outputs)) }
 {
     InputTurn {
         outputs: give_terminators(outputs, input.outputs, terminators(received, connection)),
@@ -146,7 +147,8 @@ fn finish(
 
 // A net-input in fin-abort gives output 0 the terminator that it received and goes free.
 fn finish_abort(received: Received, outputs: [Output; base::OUTPUTS]) -> InputTurn
-    ensures { Some result ≡ of_input_turn (To spec.no_input (set outputs 0 (spec.out_term (spec.out_of outputs 0) (as_terminator received)))) }
+    ensures { Some result ≡
+        of_input_turn (To spec.no_input (set outputs 0 (spec.out_term (spec.out_of outputs 0) (as_terminator received)))) }
 {
     let mut next = outputs;
     next[0] = with_terminator(outputs[0], as_terminator(received));

@@ -1,5 +1,5 @@
-// The queues of a site, the out-queue and the in-queues: an entry more at the back, the front away, the last entry's terminator. Any count is taken:
-// beyond a queue's room a write does nothing and a read gives the zero entry.
+// The queues of a site, the out-queue and the in-queues: an entry more at the back, the front away, the last entry's
+// terminator. Any count is taken: beyond a queue's room a write does nothing and a read gives the zero entry.
 ghost use Rattle.std.specs.Prelude.{◌≡◌, cond, ltb, set};
 ghost use Rattle.model.specs.Types as spec;
 ghost use Rattle.model.specs.Places.{last_of, last_lacks, end_last, start_front};

@@ -31,7 +31,7 @@ fn count_chosen(sets: [u64; base::OUTPUTS]) -> usize
 fn first_chosen(sets: [u64; base::OUTPUTS]) -> usize
     ensures { result ≡ first_chosen sets }
 {
-    (1..base::OUTPUTS - 1).find(|p| sets[*p] != 0).unwrap_or(0)
+    (1..base::SPLIT_PORT).find(|p| sets[*p] != 0).unwrap_or(0)
 }
 
 // The whole set goes to output p.

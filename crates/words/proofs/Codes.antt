@@ -3,12 +3,12 @@ use mathlib.Core.Path.{◌≡◌, refl}
 use mathlib.Core.Logic.{◌⊎◌, inl, inr}
 use mathlib.Core.List.{List}
 use mathlib.Core.Bool.{false}
-use Prim.Native.Nat.{ℕ, suc, ◌-◌, ◌*◌, ◌/◌, ◌<◌}
+use Prim.Native.Nat.{ℕ, suc, ◌-◌, ◌/◌, ◌<◌}
 use native.Mathlib.Omega.{arith}
 use borrow.Author.Tests.{lt-ltb, le-ltb, le-leb, ne_eqb}
 use lib.Dec.{eqb}
 use lib.ListN.{length}
-use Rattle.base.specs.Sizes.{in_queue_count, code_count}
+use Rattle.base.specs.Sizes.{code_count}
 use Rattle.types.specs.declared.Input.{Input}
 use Rattle.types.specs.declared.Network.{Network}
 use Rattle.types.specs.declared.Site.{Site}
@@ -22,12 +22,6 @@ use Rattle.layout.specs.Words.{sites_of}
 use Rattle.words.specs.Events.{Did, DidPass, site_in, end_of}
 use Rattle.rules.specs.Acts.{input_act, local_act, queue_act, operator_act, timeout_act}
 use Rattle.words.proofs.Acts.{did_nothing}
-
--- an arm of two codes serves both in-queues, that of the split output by the code beyond thirteen
-pub which_queue : {j k : ℕ} (code : ℕ) → (code ≡ j) ⊎ (code ≡ k) → j < 2 * code_count → k < 2 * code_count
-    → code / code_count < in_queue_count
-which_queue code (inl e) hj hk = omega (arith, e, hj)
-which_queue code (inr e) hj hk = omega (arith, e, hk)
 
 -- ---- an arm by its code
 

@@ -22,15 +22,14 @@ use Rattle.types.specs.declared.Network.{Network}
 use Rattle.types.specs.declared.Ran.TheVariants.{the_data as Ran, Nothing}
 use Rattle.model.specs.Types.{site_at, in_at, mark}
 use Rattle.model.specs.Network.{joined}
-use Rattle.model.specs.Router.{Choice as ModelChoice, route}
+use Rattle.model.specs.Router.{route}
 use Rattle.model.specs.NetInput.{Turn, hears, ready, all_ready, in_state, net_input, seek}
 use Rattle.model.specs.Steps.{own_turn, set_both, ends}
-use Rattle.rules.specs.declared.router.Choice.{Choice}
 use Rattle.rules.specs.declared.inputs.InputTurn.{InputTurn}
-use Rattle.rules.specs.Router.{of_choice, routes_only, asked_by}
-use Rattle.rules.specs.Turns.{of_input_turn, other_turn, seek_turn, to_choice}
+use Rattle.rules.specs.Router.{routes_only, asked_by}
+use Rattle.rules.specs.Turns.{of_input_turn, other_turn}
 use Rattle.rules.proofs.Asked.{route_same}
-use Rattle.rules.proofs.ByState.{other_is, seek_is, choice_back}
+use Rattle.rules.proofs.ByState.{other_is, seek_is}
 use Rattle.layout.specs.Layout.{word_count}
 use Rattle.layout.specs.Words.{sites_of}
 use Rattle.words.specs.Events.{Did, DidOwn, DidReady, DidInput, RunAsks, site_in}
@@ -173,12 +172,3 @@ module _ (c : List ℕ) (s i : ℕ) where
         ∙ ap (seek n.tries i y os)
         (asked_seen n.edition n.routes n.sites s os y.set ∙ asked_is n s os y.set ok.site ok.few full (ok.sought i h e))
         ∙ sym (seek_is y os (ready_in n (sites_of c) s) n s i e)) p n
-
--- what the loads and the router gave
-pub sought_by : (n : Network) (s i : ℕ) (z y : Input) (os ws : List Output) (ch : Option Choice) (w : Option InputTurn) → y ≡ z → os ≡ ws
-    → ch ≡ of_choice (asked_by n.edition n.routes n.sites s os y.set) → w ≡ seek_turn n.tries i y os ch → w ≡ of_input_turn (sought n z ws s i)
-sought_by n s i z y os ws ch w ey eo ec ew =
-    ew
-    ∙ ap (λ (h : Option Choice). of_input_turn (seek n.tries i y os (to_choice h))) ec
-    ∙ ap (λ (h : ModelChoice). of_input_turn (seek n.tries i y os h)) (choice_back (asked_by n.edition n.routes n.sites s os y.set))
-    ∙ rw (ey, eo) refl

@@ -140,7 +140,8 @@ fn other_in_place(network: &Network, words: &mut [u64; WORDS], s: usize, i: usiz
 // What the router's answer makes of net-input i in seek, from the outputs as the router sees them.
 fn seeking(network: &Network, words: &[u64; WORDS], s: usize, i: usize) -> Option<InputTurn>
     requires { (s < sites_most) × (i < input_count) }
-    ensures turn { result ≡ of_input_turn (spec.sought network.now (in_at (site_in words.now s) i) (seen network.now.edition (site_in words.now s).outputs) s i) }
+    ensures turn { result ≡ of_input_turn (spec.sought network.now (in_at (site_in words.now s) i)
+        (seen network.now.edition (site_in words.now s).outputs) s i) }
     ensures routes { length network.now.routes ≡ sites_most * sites_most }
 {
     let input = load_input(words, s, i);
@@ -168,7 +169,7 @@ fn seek_in_place(network: &Network, words: &mut [u64; WORDS], s: usize, i: usize
     put_input(words, s, i, marks, turn)
 }
 
-// Codes 0 to 4: net-input i, by its state number in a local, as the specification asks of RUN (docs/DECISIONS.md, its forms).
+// Codes 0 to 4: net-input i, by its state number in a local: a form that the specification names (docs/DECISIONS.md, "The forms").
 pub(crate) fn input_in_place(network: &Network, words: &mut [u64; WORDS], s: usize, i: usize) -> Ran
     requires place { i < input_count }
     requires asks { RunAsks network.now words.old s }

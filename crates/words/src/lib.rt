@@ -3,7 +3,7 @@
 // inputs, runs), each with what its rule says (turns) and what is stored of it (puts, pairs); the outputs in the way of a
 // packet (blocking); SEND in place (sends); both on any lent words, with their refusals (events, refusals); the owed pairs
 // (owing); the player over words (player).
-// specs/Words.antt says which state words stand for.
+// layout's specs/Words.antt says which state words stand for.
 #![tactic(auto)]
 
 mod arms;

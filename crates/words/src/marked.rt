@@ -13,7 +13,7 @@ use crate::store::store_output;
 use layout::WORDS;
 use rules::{InputTurn, empty_output};
 use std::array;
-use types::{Output, Phase, Terminator};
+use types::{Output, Phase};
 
 // Output j of site s if it is marked.
 fn load_if(words: &[u64; WORDS], s: usize, j: usize, marked: bool) -> Output
@@ -109,13 +109,8 @@ fn glimpse(used: bool) -> Output
     ensures { result ≡ spec.glimpse used }
 {
     Output {
-        set: 0,
-        terminator: Terminator::None,
-        packet: 0,
-        input: 0,
         used,
-        head: false,
-        closing: false,
+        ..empty_output()
     }
 }
 
@@ -127,7 +122,7 @@ fn is_split_used(edition: u8, words: &[u64; WORDS], s: usize) -> bool
     draws::is_restricted(edition) && is_used(words, s, base::SPLIT_PORT)
 }
 
-// The outputs as the router sees them.
+// The outputs as the router sees them. They are written out, since the last is asked otherwise than the others.
 pub(crate) fn load_seen(edition: u8, words: &[u64; WORDS], s: usize) -> [Output; base::OUTPUTS]
     requires { s < sites_most }
     ensures { result ≡ spec.seen edition (site_in words.now s).outputs }

@@ -1,4 +1,5 @@
-// Places written into the words of a state. Each store leaves the words of the state with that place changed (specs/Stored.antt).
+// Places written into the words of a state. Each store leaves the words of the state with that place changed (layout's
+// specs/Stored.antt).
 ghost use Rattle.std.specs.Prelude.{◌≡◌, ◌<◌};
 ghost use Rattle.base.specs.Sizes.{sites_most, input_count, output_count, in_queue_count, queue_room};
 ghost use Rattle.model.specs.Types.{site_at, set_site, set_in, set_out, set_queue, with_out_queue};
@@ -56,6 +57,8 @@ pub(crate) fn store_in_entry(words: &mut [u64; WORDS], s: usize, q: usize, m: us
     store_place(words, s, k, entry.set, in_entry_word(entry));
 }
 
+// The out-queue and the in-queues have functions of their own: one over both would take an entry's type, packing and place as
+// parameters, and that is longer than two loops of one line.
 // The entries of site s's out-queue, the count as it was.
 fn store_out_entries(words: &mut [u64; WORDS], s: usize, entries: [OutEntry; base::QUEUE])
     requires { s < sites_most }

@@ -70,7 +70,8 @@ pub(crate) fn operator_turn(
     q: usize,
 ) -> Option<OperatorTurn>
     requires { (s < sites_most) × (q < in_queue_count) }
-    ensures { result ≡ of_work (places.operator depth s (queue_at (site_in words.now s) q) (site_in words.now s).outgoing) }
+    ensures { result ≡ of_work (places.operator depth s (queue_at (site_in words.now s) q)
+        (site_in words.now s).outgoing) }
 {
     let incoming = load_in_queue(words, s, q);
     let outgoing = load_out_queue(words, s);

@@ -1,19 +1,12 @@
 use mathlib.Core.Path.{◌≡◌, refl, ◌∙◌}
 use Prim.Native.Nat.{◌*◌}
 use lib.ListN.{length}
-use native.Mathlib.Omega.{arith}
 use borrow.Author.Tests.{le-ltb}
 use Rattle.base.specs.Sizes.{sites_most}
 use Rattle.model.specs.Steps.{blocking_at}
 use Rattle.words.proofs.Blocked.{blocking_asked}
 use borrow.Author.Rules.{rules}
 use Rattle.words.proofs.blocking.blocking_in_place.Goals as goal
-
-pub load_input-input-requires : goal.load_input-input-requires
-load_input-input-requires c = (omega (arith, c.requires.site, c.requires.few), c.if-code-lt-INPUTS.true)
-
-pub load_outputs-outputs-requires : goal.load_outputs-outputs-requires
-load_outputs-outputs-requires c = omega (arith, c.requires.site, c.requires.few)
 
 pub returns-then-code-lt-INPUTS : goal.returns-then-code-lt-INPUTS
 returns-then-code-lt-INPUTS c =

@@ -12,9 +12,6 @@ pub loop-s-init : goal.loop-s-init
 unfolding isum
 loop-s-init c = (omega arith, omega arith, refl)
 
-pub overflow_add-n : goal.overflow_add-n
-overflow_add-n c = omega (arith, c.site_pairs-n.ensures.1)
-
 pub loop-s-preserved : goal.loop-s-preserved
 loop-s-preserved c =
     let loop = c.loop-s in

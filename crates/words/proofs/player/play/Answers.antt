@@ -13,9 +13,6 @@ returns-in-Some c =
     (λ y. number_nonzero e (sym z ∙ y)) in
     (ap refused_by (sym z) ∙ w.0, w.1)
 
-pub play_run-requires : goal.play_run-requires
-play_run-requires c = c.start-started.ensures.1 c.in_default.is
-
 pub returns : goal.returns
 returns c =
     let a = c.args in

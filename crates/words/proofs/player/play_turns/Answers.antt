@@ -1,5 +1,4 @@
 use Rattle.machine.proofs.ProgressLaws.{stored_sends}
-use Rattle.machine.proofs.PlayerTurns.{known}
 use native.Mathlib.Omega.{arith}
 use Rattle.words.proofs.PlayLaws.{going, turnable, goes_on, gone}
 use mathlib.Core.Path.{refl}
@@ -17,9 +16,6 @@ take_turn-t-requires c = turnable c.loop-turn.invariant
 
 pub loop-turn-preserved : goal.loop-turn-preserved
 loop-turn-preserved c = goes_on c.loop-turn.invariant c.loop-turn-test.true c.capped.ensures refl c.take_turn-t.ensures
-
-pub shape_of-book : goal.shape_of-book
-shape_of-book c = (known c.loop-turn.invariant.playing).kept
 
 pub returns : goal.returns
 returns c = gone c.loop-turn.invariant c.loop-turn-test.false

@@ -1,37 +1,8 @@
-use Prim.Native.Nat.{ℕ, ◌-◌, ◌<◌}
+use Prim.Native.Nat.{◌<◌}
 use native.Mathlib.Omega.{arith}
-use Rattle.base.specs.Sizes.{port_count}
 use Rattle.words.proofs.Codes.{by_input, by_local, by_channel_lem, by_queue, by_operator, by_timeout, by_none}
-use Rattle.words.proofs.Codes.{which_queue}
 use borrow.Author.Rules.{rules}
 use Rattle.words.proofs.runs.run_in_place.Goals as goal
-
-port_below : (code : ℕ) → code < 10 → code - 6 < port_count
-port_below code h = omega arith
-
-pub local_in_place-requires : goal.local_in_place-requires
-local_in_place-requires c =
-    let p = c.requires in (
-      omega (arith, p.site, p.few),
-      which_queue c.args.code c.in-5.is (omega arith) (omega arith),
-    )
-
-pub operator_in_place-requires : goal.operator_in_place-requires
-operator_in_place-requires c =
-    let p = c.requires in (
-      omega (arith, p.site, p.few),
-      which_queue c.args.code c.in-11.is (omega arith) (omega arith),
-    )
-
-pub input_in_place-requires : goal.input_in_place-requires
-input_in_place-requires c = record { place = omega arith; asks = c.requires }
-
-pub channel_in_place-requires : goal.channel_in_place-requires
-channel_in_place-requires c =
-    let a = c.args in
-    let p = c.requires in
-    let j = port_below a.code (omega arith) in
-    (omega (arith, p.site, p.few), j, λ e. p.ends (a.code - 6) j e)
 
 pub returns-in-5 : goal.returns-in-5
 returns-in-5 c = by_local _ _ _ _ _ _ c.in-5.is (c.local_in_place.ensures _)
