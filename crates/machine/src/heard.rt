@@ -71,6 +71,7 @@ pub(crate) fn ready_outputs(
 ) -> [bool; base::OUTPUTS]
     ensures { result ≡ flags (rule.ready (there_at there) (far_at far) outputs) }
 {
+    // Written out, a row for each output: the first and the last ask another test than those between them.
     [
         is_taken(outputs[0]),
         is_heard(there, far, outputs, 0),

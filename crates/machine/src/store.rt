@@ -42,6 +42,7 @@ pub(crate) fn seen_at(network: Network, state: State, s: usize) -> Seen
     requires ends { EndsWithin network s }
     ensures { result ≡ seen_at network state.sites s }
 {
+    // Written out for the four channels: of `array::from_fn` over a closure that reads the state the check finds no proof.
     let first = channel_at(network, s, 0);
     let second = channel_at(network, s, 1);
     let third = channel_at(network, s, 2);
