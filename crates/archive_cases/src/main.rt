@@ -1,17 +1,20 @@
-// Reader and writer on the bounds of document 01, and of version 2 (wide); the moves from one version to the other (moves); the
-// editions of version 2 (editions).
-// Standard input is the largest archive of version 1, 16 sites and 255 sends, 1,864 bytes; run R stands here. `stdout` is
-// typed from the documents: a line for each case, with the refusal number, 0 for none.
+// Reader and writer on the bounds of document 01, and of version 2 (wide); the moves from one version to the other
+// (moves); the editions of version 2 (editions).
+// Standard input is the largest archive of version 1, 16 sites and 255 sends, 1,864 bytes; run R stands here. `stdout`
+// is typed from the documents: a line for each case, with the refusal number, 0 for none.
 #![tactic(auto)]
+
+ghost use Rattle.std.specs.Prelude.{◌≤◌, length};
 
 mod editions;
 mod moves;
 mod rings;
 mod wide;
 
-ghost use Rattle.std.specs.Prelude.{◌≤◌, length};
-
+use archive::Written;
+use std::fmt::Display;
 use std::io::{Print, Read};
+use types::Run;
 
 // "Run R", byte by byte.
 pub(crate) const R: [u8; 24] = [
@@ -19,198 +22,193 @@ pub(crate) const R: [u8; 24] = [
     0xFF, 0x00, 0x00, 0x00, 0x00, 0x00, 0x00, 0x01,
 ];
 
-// Run R at the front of 26 nines.
-const R_AND_NINES: [u8; 26] = [
-    0x00, 0x18, 0x01, 0x01, 0x03, 0x01, 0x00, 0x00, 0x00, 0x01, 0x00, 0x02, 0x01, 0xFF, 0xFF, 0xFF,
-    0xFF, 0x00, 0x00, 0x00, 0x00, 0x00, 0x00, 0x01, 9, 9,
-];
+// What a room is full of before it is lent.
+const NINE: u8 = 9;
 
-// Writes all of the bytes. What cannot be written is lost.
-pub(crate) fn put(out: &impl Print, bytes: &[u8]) {
-    match out.write_all(bytes) {
-        Ok(()) | Err(_) => {}
+// ---- what is shown, a line each
+
+// What cannot be printed is lost.
+pub(crate) fn print_line(out: &impl Print, line: impl Display + Drop) {
+    let _ = out.println(line);
+}
+
+pub(crate) fn show_same(out: &impl Print, label: &str, is_same: bool) {
+    let answer = if is_same { "yes" } else { "no" };
+    print_line(out, format_args!("{label} {answer}"));
+}
+
+// How the reader judges a file.
+pub(crate) fn show_check(out: &impl Print, label: &str, file: &[u8]) {
+    let refusal = archive::check(file);
+    print_line(out, format_args!("{label} {refusal}"));
+}
+
+// Reads a file, and answers the run.
+pub(crate) fn show_read(out: &impl Print, label: &str, file: &[u8]) -> Run {
+    let decoded = archive::read(file);
+    let refusal = decoded.refusal;
+    print_line(out, format_args!("{label} {refusal}"));
+    decoded.run
+}
+
+// What the writer or a move answered.
+pub(crate) fn show_written(out: &impl Print, label: impl Display + Drop, written: Written) {
+    let Written { refusal, length } = written;
+    print_line(out, format_args!("{label} {refusal} length {length}"));
+}
+
+// Lends a room of N nines and shows what is answered. Gives the room back as it was left.
+pub(crate) fn lend<const N: usize, F: FnOnce(&mut [u8]) -> Written>(
+    out: &impl Print,
+    label: impl Display + Drop,
+    write: F,
+) -> [u8; N]
+    requires { F.IsAlwaysCallable write }
+{
+    let mut room = [NINE; N];
+    show_written(out, label, write(&mut room));
+    room
+}
+
+// Whether a file stands at the front of a room, and behind it nines.
+pub(crate) fn is_at_front(file: &[u8], room: &[u8]) -> bool {
+    room.strip_prefix(file)
+        .is_some_and(|rest| rest.iter().all(|byte| *byte == NINE))
+}
+
+pub(crate) fn show_untouched(out: &impl Print, room: &[u8]) {
+    show_same(out, "room as it was", is_at_front(&[], room));
+}
+
+// Changes of one byte, each alone: what it is called, the place of the byte and what it is made. How the reader judges
+// the file with it.
+pub(crate) fn show_changes<const N: usize>(
+    out: &impl Print,
+    file: [u8; N],
+    changes: &[(&str, usize, u8)],
+) {
+    for (label, place, byte) in changes {
+        let mut changed = file;
+        if let Some(old) = changed.get_mut(*place) {
+            *old = *byte;
+        }
+        show_check(out, label, &changed);
     }
 }
 
-// Writes a number in decimal.
-pub(crate) fn put_number(out: &impl Print, n: u64) {
-    let mut digits = [0u8; 20];
-    let k = io::decimal(n, &mut digits);
-    put(out, &digits[..k]);
-}
-
-pub(crate) fn show(out: &impl Print, label: &[u8], n: u64) {
-    put(out, label);
-    put(out, b" ");
-    put_number(out, n);
-    put(out, b"\n");
-}
-
-pub(crate) fn show_same(out: &impl Print, label: &[u8], same: bool) {
-    put(out, label);
-    if same {
-        put(out, b" yes\n");
-    } else {
-        put(out, b" no\n");
-    }
-}
-
-pub(crate) fn show_written(out: &impl Print, label: &[u8], w: archive::Written) {
-    put(out, label);
-    put(out, b" ");
-    put_number(out, w.refusal as u64);
-    put(out, b" length ");
-    put_number(out, w.length as u64);
-    put(out, b"\n");
-}
-
-// The bytes with one of them changed, as the reader judges them; then as they were.
-pub(crate) fn show_changed(out: &impl Print, label: &[u8], b: &mut [u8], i: usize, v: u8) {
-    if i < b.len() {
-        let was = b[i];
-        b[i] = v;
-        show(out, label, archive::check(b) as u64);
-        b[i] = was;
-    }
-}
+// ---- version 1
 
 fn lengths(out: &impl Print) {
-    let mut b = R;
-    show(out, b"24 bytes", archive::check(&b) as u64);
-    show(out, b"23 bytes", archive::check(&b[..23]) as u64);
-    show(out, b"12 bytes", archive::check(&b[..12]) as u64);
-    show(out, b"no bytes", archive::check(&b[..0]) as u64);
-    let long = io::large_buffer();
-    show(out, b"65536 bytes", archive::check(&long) as u64);
-    show_changed(out, b"length 25", &mut b, 1, 25);
+    show_check(out, "24 bytes", &R);
+    show_check(out, "23 bytes", &R[..23]);
+    show_check(out, "12 bytes", &R[..12]);
+    show_check(out, "no bytes", &[]);
+    show_check(out, "65536 bytes", &io::large_buffer());
+    show_changes(out, R, &[("length 25", 1, 25)]);
 }
 
 fn heads(out: &impl Print) {
-    let mut b = R;
-    show_changed(out, b"version 2", &mut b, 2, 2);
-    show_changed(out, b"S 0", &mut b, 3, 0);
-    show_changed(out, b"S 16, 24 bytes", &mut b, 3, 16);
-    show_changed(out, b"S 17", &mut b, 3, 17);
-    show_changed(out, b"T 0", &mut b, 4, 0);
-    show_changed(out, b"T 255", &mut b, 4, 255);
-    show_changed(out, b"D 0", &mut b, 5, 0);
-    show_changed(out, b"D 8", &mut b, 5, 8);
-    show_changed(out, b"D 9", &mut b, 5, 9);
-    show_changed(out, b"seed 0", &mut b, 9, 0);
-    show_changed(out, b"N 2", &mut b, 12, 2);
+    let changes = [
+        ("version 2", 2, 2),
+        ("S 0", 3, 0),
+        ("S 16, 24 bytes", 3, 16),
+        ("S 17", 3, 17),
+        ("T 0", 4, 0),
+        ("T 255", 4, 255),
+        ("D 0", 5, 0),
+        ("D 8", 5, 8),
+        ("D 9", 5, 9),
+        ("seed 0", 9, 0),
+        ("N 2", 12, 2),
+    ];
+    show_changes(out, R, &changes);
 }
 
 fn bodies(out: &impl Print) {
-    let mut b = R;
-    show_changed(out, b"channel 3", &mut b, 13, 3);
-    show_changed(out, b"channel 4", &mut b, 13, 4);
-    show_changed(out, b"route 1000", &mut b, 17, 0x10);
-    show_changed(out, b"send at site 1", &mut b, 21, 1);
-    show_changed(out, b"send to {}", &mut b, 23, 0);
-    show_changed(out, b"send to {0,1}", &mut b, 23, 3);
-    show_changed(out, b"send before draw 2", &mut b, 20, 2);
-    show_changed(out, b"send before draw 3", &mut b, 20, 3);
+    let changes = [
+        ("channel 3", 13, 3),
+        ("channel 4", 13, 4),
+        ("route 1000", 17, 0x10),
+        ("send at site 1", 21, 1),
+        ("send to {}", 23, 0),
+        ("send to {0,1}", 23, 3),
+        ("send before draw 2", 20, 2),
+        ("send before draw 3", 20, 3),
+    ];
+    show_changes(out, R, &changes);
 }
 
 // Run R written into rooms of 23, 24 and 26 nines.
 fn rooms(out: &impl Print) {
-    let b = R;
-    let d = archive::read(&b);
-    show(out, b"read R", d.refusal as u64);
-    let run = d.run;
-    let mut short = [9u8; 23];
-    let nines = [9u8; 23];
-    show_written(out, b"room 23", archive::write(run, &mut short));
-    show_same(out, b"room as it was", check::same(&short, &nines));
-    let mut enough = [9u8; 24];
-    show_written(out, b"room 24", archive::write(run, &mut enough));
-    show_same(out, b"the bytes of R", check::same(&enough, &b));
-    let mut more = [9u8; 26];
-    let framed = R_AND_NINES;
-    show_written(out, b"room 26", archive::write(run, &mut more));
+    let run = show_read(out, "read R", &R);
+    let short: [u8; 23] = lend(out, "room 23", |room| archive::write(run, room));
+    show_untouched(out, &short);
+    let enough: [u8; 24] = lend(out, "room 24", |room| archive::write(run, room));
+    show_same(out, "the bytes of R", enough == R);
+    let more: [u8; 26] = lend(out, "room 26", |room| archive::write(run, room));
     show_same(
         out,
-        b"the bytes of R, the rest as it was",
-        check::same(&more, &framed),
+        "the bytes of R, the rest as it was",
+        is_at_front(&R, &more),
     );
 }
 
 // Runs that are not archives: more than 255 sends, seed 0, 17 sites, and which comes first.
 fn writers(out: &impl Print) {
-    let b = R;
-    let d = archive::read(&b);
-    let mut room = [9u8; 26];
-    let nines = [9u8; 26];
-    let mut many = d.run;
-    many.count = 256;
-    show_written(out, b"256 sends", archive::write(many, &mut room));
-    many.count = 18446744073709551615;
+    let mut run = archive::read(&R).run;
+    let mut room = [NINE; 26];
+    run.count = 256;
+    show_written(out, "256 sends", archive::write(run, &mut room));
+    run.count = usize::MAX;
     show_written(
         out,
-        b"18446744073709551615 sends",
-        archive::write(many, &mut room),
+        "18446744073709551615 sends",
+        archive::write(run, &mut room),
     );
-    many.seed = 0;
-    show_written(out, b"and seed 0", archive::write(many, &mut room));
-    let mut network = many.network;
-    network.sites = 17;
-    many.network = network;
-    show_written(out, b"and 17 sites", archive::write(many, &mut room));
-    show_same(out, b"room as it was", check::same(&room, &nines));
+    run.seed = 0;
+    show_written(out, "and seed 0", archive::write(run, &mut room));
+    run.network.sites = 17;
+    show_written(out, "and 17 sites", archive::write(run, &mut room));
+    show_untouched(out, &room);
 }
 
-// Run R with a depth and a number of sites, as the writer judges it.
-fn show_limits(out: &impl Print, label: &[u8], depth: usize, sites: usize) {
-    let b = R;
-    let d = archive::read(&b);
-    let mut run = d.run;
-    let mut network = run.network;
-    network.depth = depth;
-    network.sites = sites;
-    run.network = network;
-    let mut room = [9u8; 24];
-    show_written(out, label, archive::write(run, &mut room));
-}
-
-// The writer's own limits, each alone.
+// The writer's own limits, each alone: run R with a depth and a number of sites.
 fn limits(out: &impl Print) {
-    show_limits(out, b"written with D 8", 8, 1);
-    show_limits(out, b"written with D 9", 9, 1);
-    show_limits(out, b"written with S 17", 1, 17);
+    let mut run = archive::read(&R).run;
+    for (label, depth, sites) in [("D 8", 8, 1), ("D 9", 9, 1), ("S 17", 1, 17)] {
+        run.network.depth = depth;
+        run.network.sites = sites;
+        let mut room = [NINE; 24];
+        show_written(
+            out,
+            format_args!("written with {label}"),
+            archive::write(run, &mut room),
+        );
+    }
 }
 
 // The largest archive, read, written again, and one byte short of room; and with 17 for its 16 sites.
-fn largest(out: &impl Print, b: &[u8]) {
-    show(out, b"bytes", b.len() as u64);
-    let d = archive::read(b);
-    show(out, b"16 sites, 255 sends", d.refusal as u64);
-    let run = d.run;
-    let network = run.network;
-    show(out, b"sites", network.sites as u64);
-    show(out, b"sends", run.count as u64);
-    let mut short = [9u8; 1863];
-    let nines = [9u8; 1863];
-    show_written(out, b"room 1863", archive::write(run, &mut short));
-    show_same(out, b"room as it was", check::same(&short, &nines));
-    let mut room = [9u8; 1864];
-    show_written(out, b"room 1864", archive::write(run, &mut room));
-    show_same(out, b"the same bytes", check::same(&room, b));
+fn largest(out: &impl Print, file: &[u8]) {
+    print_line(out, format_args!("bytes {}", file.len()));
+    let run = show_read(out, "16 sites, 255 sends", file);
+    print_line(out, format_args!("sites {}", run.network.sites));
+    print_line(out, format_args!("sends {}", run.count));
+    let short: [u8; 1863] = lend(out, "room 1863", |room| archive::write(run, room));
+    show_untouched(out, &short);
+    let mut room: [u8; 1864] = lend(out, "room 1864", |room| archive::write(run, room));
+    show_same(out, "the same bytes", &room[..] == file);
     room[3] = 17;
-    show(out, b"17 sites", archive::check(&room) as u64);
+    show_check(out, "17 sites", &room);
 }
 
 // Reads until the room is full, the input ends or a read fails. Answers how many bytes stand at its front.
 fn read_full(input: &mut impl Read, room: &mut [u8]) -> usize
     ensures { result ≤ length room.new }
 {
-    let mut done = 0usize;
-    while done < room.len() {
-        match input.read(&mut room[done..]) {
-            Ok(0) | Err(_) => break,
-            Ok(more) => done += more,
-        }
-    }
-    done
+    let size = room.len();
+    let mut rest = &mut room[..];
+    let _ = std::io::copy(input, &mut rest);
+    size.saturating_sub(rest.len())
 }
 
 fn main(rt: HostRuntime) {
@@ -222,8 +220,8 @@ fn main(rt: HostRuntime) {
     writers(out);
     limits(out);
     let mut buffer = io::large_buffer();
-    let n = read_full(&mut rt.reader(), &mut buffer);
-    largest(out, &buffer[..n]);
+    let count = read_full(&mut rt.reader(), &mut buffer);
+    largest(out, &buffer[..count]);
     wide::cases(out);
     moves::cases(out);
     editions::cases(out);

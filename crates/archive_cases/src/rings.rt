@@ -1,115 +1,89 @@
 // Rings of 16 and of 17 sites in version 2, moved back.
-ghost use Rattle.std.specs.Prelude.{◌≤◌};
+ghost use Rattle.std.specs.Prelude.{◌*◌, ◌+◌, ◌<◌, ◌≤◌};
 
-use crate::{show, show_same, show_written};
+use crate::{NINE, lend, show_check, show_same, show_untouched, show_written};
 use std::io::Print;
 
-// Byte p of the head of a ring of so many sites, a file of so many bytes: T, D and the seed are 1, draws and N 0.
-fn ring_head(sites: usize, size: usize, p: usize) -> u8
-    requires { sites ≤ 17 }
+// A ring of so many sites in version 2, in a file of SIZE bytes: T, D and the seed are 1, draws and N 0. A channel
+// leads from port 1 of each site to port 1 of the next, and the route is 1000 between different sites; behind these
+// zeros.
+fn ring<const SIZE: usize>(sites: usize) -> [u8; SIZE]
+    requires { (1 ≤ sites) × (sites ≤ 17) × (14 + 8 * sites ≤ SIZE) × (SIZE < 65536) }
 {
-    match p {
-        0 => (size / 256 % 256) as u8,
-        1 => (size % 256) as u8,
-        2 => 2,
-        3 => 1,
-        4 => sites as u8,
-        5 => 1,
-        6 => 1,
-        10 => 1,
-        _ => 0,
+    let mut file = [0; SIZE];
+    let [high, low] = (SIZE as u16).to_be_bytes();
+    let (head, body) = file.split_at_mut(14);
+    head.copy_from_slice(&[high, low, 2, 1, sites as u8, 1, 1, 0, 0, 0, 1, 0, 0, 0]);
+    let (channels, routes) = body.split_at_mut(8 * sites);
+    let (ports, _) = channels.as_chunks_mut::<8>();
+    for (site, channel) in ports.iter_mut().enumerate() {
+        *channel = [
+            0,
+            (4 * ((site + 1) % sites)) as u8,
+            255,
+            255,
+            255,
+            255,
+            255,
+            255,
+        ];
     }
-}
-
-// Byte q behind it: a channel from port 1 of each site to port 1 of the next, the route 1000 between different sites.
-fn ring_body(sites: usize, q: usize) -> u8
-    requires { (1 ≤ sites) × (sites ≤ 17) }
-{
-    if q < 8 * sites {
-        if 1 < q % 8 {
-            return 255;
+    let (pairs, _) = routes.as_chunks_mut::<2>();
+    for (pair, route) in pairs.iter_mut().take(sites * sites).enumerate() {
+        if pair / sites != pair % sites {
+            *route = [0x10, 0];
         }
-        if (q % 8 == 1) & (q / 8 + 1 < sites) {
-            return (4 * (q / 8) + 4) as u8;
-        }
-        return 0;
     }
-    let k = (q - 8 * sites) / 2;
-    if (q % 2 == 0) & (k / sites < sites) & (k / sites != k % sites) {
-        return 0x10;
-    }
-    0
+    file
 }
 
-fn ring_byte(sites: usize, size: usize, p: usize) -> u8
-    requires { (1 ≤ sites) × (sites ≤ 17) }
-{
-    if p < 14 {
-        return ring_head(sites, size, p);
-    }
-    ring_body(sites, p - 14)
-}
-
-// A ring of so many sites in version 2; behind its routes zeros.
-fn ring(b: &mut [u8], sites: usize)
-    requires { (1 ≤ sites) × (sites ≤ 17) }
-{
-    let size = b.len();
-    let mut p: usize = 0;
-    while p < size {
-        b[p] = ring_byte(sites, size, p);
-        p += 1;
-    }
-}
-
-fn back_and_over(out: &impl Print, b: &[u8]) {
-    let mut short = [9u8; 588];
-    show_written(out, b"back, room 588", archive::move_back(b, &mut short));
-    let mut enough = [9u8; 589];
-    show_written(out, b"room 589", archive::move_back(b, &mut enough));
-    let mut again = [9u8; 654];
-    show_written(
+fn back_and_over(out: &impl Print, file: [u8; 654]) {
+    let _: [u8; 588] = lend(
         out,
-        b"over again, room 654",
-        archive::move_over(&enough, &mut again),
+        "back, room 588",
+        |room| archive::move_back(&file, room),
     );
-    show_same(out, b"the same bytes", check::same(&again, b));
+    let enough: [u8; 589] = lend(out, "room 589", |room| archive::move_back(&file, room));
+    let again: [u8; 654] = lend(
+        out,
+        "over again, room 654",
+        |room| archive::move_over(&enough, room),
+    );
+    show_same(out, "the same bytes", again == file);
 }
 
 // 14 + 128 + 512 bytes, back 13 + 64 + 512.
 fn ring_of_16(out: &impl Print) {
-    let mut b = [0u8; 654];
-    ring(&mut b, 16);
-    show(out, b"16 sites, 654 bytes", archive::check(&b) as u64);
-    back_and_over(out, &b);
+    let file: [u8; 654] = ring(16);
+    show_check(out, "16 sites, 654 bytes", &file);
+    back_and_over(out, file);
 }
 
 // 14 + 136 + 578 bytes.
 fn ring_of_17(out: &impl Print) {
-    let mut b = [0u8; 728];
-    ring(&mut b, 17);
-    show(out, b"17 sites, 728 bytes", archive::check(&b) as u64);
-    let mut room = [9u8; 728];
-    let nines = [9u8; 728];
-    show_written(out, b"back, room 728", archive::move_back(&b, &mut room));
-    show_same(out, b"room as it was", check::same(&room, &nines));
-    let mut none = [9u8; 0];
-    show_written(out, b"no room", archive::move_back(&b, &mut none));
+    let file: [u8; 728] = ring(17);
+    show_check(out, "17 sites, 728 bytes", &file);
+    let room: [u8; 728] = lend(
+        out,
+        "back, room 728",
+        |room| archive::move_back(&file, room),
+    );
+    show_untouched(out, &room);
+    let _: [u8; 0] = lend(out, "no room", |room| archive::move_back(&file, room));
 }
 
 // 11 bytes more: a send before draw 0, at site 0.
 fn ring_with_send(out: &impl Print) {
-    let mut b = [0u8; 739];
-    ring(&mut b, 17);
-    b[13] = 1;
-    let mut room = [9u8; 739];
+    let mut file: [u8; 739] = ring(17);
+    file[13] = 1;
+    let mut room = [NINE; 739];
     show_written(
         out,
-        b"17 sites, send to {}",
-        archive::move_back(&b, &mut room),
+        "17 sites, send to {}",
+        archive::move_back(&file, &mut room),
     );
-    b[738] = 1;
-    show_written(out, b"send to {0}", archive::move_back(&b, &mut room));
+    file[738] = 1;
+    show_written(out, "send to {0}", archive::move_back(&file, &mut room));
 }
 
 pub(crate) fn cases(out: &impl Print) {

@@ -1,178 +1,164 @@
 // What a batch is asked for: its options, in any order, and how many names its words have.
 use front::{Desk, NoWork, Program, Words};
 
+// The largest number that `--slice` takes: 19 digits.
+const MOST: u64 = 9_999_999_999_999_999_999;
+
 // The options of batch's own.
-pub const NO_OPTION: u8 = 0;
+#[derive(Clone, Copy)]
+pub enum Choice {
+    Services,
+    Zero,
+    Unplayed,
+    Slice,
+}
 
-const SERVICES: u8 = 1;
+impl Choice {
+    // The option that a word is, if it is one; there is none behind `--`.
+    pub fn of(words: &Words, word: &[u8]) -> Option<Choice> {
+        if words.is_ended {
+            return None;
+        }
+        match word {
+            b"--services" => Some(Choice::Services),
+            b"-0" => Some(Choice::Zero),
+            b"--unplayed" => Some(Choice::Unplayed),
+            b"--slice" => Some(Choice::Slice),
+            _ => None,
+        }
+    }
+}
 
-const ZERO: u8 = 2;
+// What ends a name: its line, of which a carriage return at the end is dropped, or a 0.
+#[derive(Clone, Copy)]
+pub enum End {
+    Line,
+    Zero,
+}
 
-const UNPLAYED: u8 = 3;
+impl End {
+    pub fn byte(self) -> u8 {
+        match self {
+            End::Line => b'\n',
+            End::Zero => 0,
+        }
+    }
 
-const SLICE: u8 = 4;
+    // The name that stands before the end.
+    pub fn name_in(self, bytes: &[u8]) -> &[u8] {
+        match self {
+            End::Line => bytes.strip_suffix(b"\r").unwrap_or(bytes),
+            End::Zero => bytes,
+        }
+    }
+}
 
-// The number that comes next of `--slice A B`.
-const NONE: u8 = 0;
+// The names of standard input of which so many are left out, and then so many played.
+#[derive(Clone, Copy)]
+pub struct Slice {
+    pub skip: u64,
+    pub left: u64,
+}
 
-const SKIPPED: u8 = 1;
+// What the next word is: any, or the first or second number of `--slice A B`.
+#[derive(Clone, Copy)]
+enum Next {
+    Word,
+    Skip,
+    Left(u64),
+}
 
-const PLAYED: u8 = 2;
-
-// `zero`: names on standard input end with a 0. Of a slice `skip` names are left out and `left` played. `wants` is the
-// number that the last `--slice` still lacks.
 #[derive(Clone, Copy)]
 pub struct Asked {
     pub services: bool,
-    pub zero: bool,
     pub unplayed: bool,
-    pub slice: bool,
-    pub skip: u64,
-    pub left: u64,
-    wants: u8,
+    pub end: End,
+    pub slice: Option<Slice>,
     pub words: Words,
+    next: Next,
 }
 
-// Nothing asked yet.
-fn nothing_asked(words: Words) -> Asked {
-    Asked {
-        services: false,
-        zero: false,
-        unplayed: false,
-        slice: false,
-        skip: 0,
-        left: u64::MAX,
-        wants: NONE,
-        words: words,
+impl Asked {
+    // What the words ask for.
+    pub fn of(program: &Program<impl Desk>) -> Result<Asked, NoWork> {
+        let nothing = Asked {
+            services: false,
+            unplayed: false,
+            end: End::Line,
+            slice: None,
+            words: Words::none(program)?,
+            next: Next::Word,
+        };
+        let mut room = io::buffer();
+        let asked = program.fold_words(
+            &mut room,
+            Ok(nothing),
+            |asked, i, word| asked?.with(program, i, word),
+        )?;
+        asked.whole(program)
     }
-}
 
-// What the words ask for.
-pub fn asked_of(program: &Program<impl Desk>) -> Result<Asked, NoWork> {
-    let nothing = nothing_asked(Words::none(program)?);
-    let mut room = io::buffer();
-    let asked = program.fold_words(
-        &mut room,
-        Ok(nothing),
-        |asked, i, word| take_word(program, i, word, asked?),
-    )?;
-    whole(program, asked)
-}
+    // One word more, argument i.
+    fn with(self, program: &Program<impl Desk>, i: usize, word: &[u8]) -> Result<Asked, NoWork> {
+        match self.next {
+            Next::Word => self.with_word(program, i, word),
+            Next::Skip => Ok(Asked {
+                next: Next::Left(number_of(program, word)?),
+                ..self
+            }),
+            Next::Left(skip) => Ok(Asked {
+                slice: Some(Slice {
+                    skip,
+                    left: number_of(program, word)?,
+                }),
+                next: Next::Word,
+                ..self
+            }),
+        }
+    }
 
-// The number of an option of batch's own, or NO_OPTION; there is none behind `--`.
-pub fn option_of(ended: bool, word: &[u8]) -> u8 {
-    if ended {
-        return NO_OPTION;
+    fn with_word(
+        self,
+        program: &Program<impl Desk>,
+        i: usize,
+        word: &[u8],
+    ) -> Result<Asked, NoWork> {
+        let mut asked = self;
+        match Choice::of(&self.words, word) {
+            Some(Choice::Services) => asked.services = true,
+            Some(Choice::Zero) => asked.end = End::Zero,
+            Some(Choice::Unplayed) => asked.unplayed = true,
+            Some(Choice::Slice) => asked.next = Next::Skip,
+            None => asked.words = self.words.with(program, i, word)?,
+        }
+        Ok(asked)
     }
-    if check::same(word, b"--services") {
-        return SERVICES;
-    }
-    if check::same(word, b"-0") {
-        return ZERO;
-    }
-    if check::same(word, b"--unplayed") {
-        return UNPLAYED;
-    }
-    if check::same(word, b"--slice") {
-        return SLICE;
-    }
-    NO_OPTION
-}
 
-// One word more.
-fn take_word(
-    program: &Program<impl Desk>,
-    i: usize,
-    word: &[u8],
-    asked: Asked,
-) -> Result<Asked, NoWork> {
-    let words = asked.words;
-    let mut now = asked;
-    if asked.wants != NONE {
-        return take_number(program, word, asked);
-    }
-    let option = option_of(words.is_ended, word);
-    if option == NO_OPTION {
-        now.words = words.with(program, i, word)?;
-        return Ok(now);
-    }
-    now.services = asked.services | (option == SERVICES);
-    now.zero = asked.zero | (option == ZERO);
-    now.unplayed = asked.unplayed | (option == UNPLAYED);
-    if option == SLICE {
-        now.slice = true;
-        now.wants = SKIPPED;
-    }
-    Ok(now)
-}
-
-// A number of `--slice A B`.
-fn take_number(program: &Program<impl Desk>, word: &[u8], asked: Asked) -> Result<Asked, NoWork> {
-    let mut now = asked;
-    let number = number_of(word);
-    if !number.good {
-        return Err(program.misused("--slice wants two numbers"));
-    }
-    if asked.wants == SKIPPED {
-        now.skip = number.value;
-        now.wants = PLAYED;
-        return Ok(now);
-    }
-    now.left = number.value;
-    now.wants = NONE;
-    Ok(now)
-}
-
-// Behind the last word: whether the words fit together.
-fn whole(program: &Program<impl Desk>, asked: Asked) -> Result<Asked, NoWork> {
-    if asked.wants != NONE {
-        return Err(program.misused("--slice wants two numbers"));
-    }
-    if asked.slice && asked.words.names > 0 {
-        return Err(program.misused("--slice takes its names from standard input"));
-    }
-    Ok(asked)
-}
-
-// A number in decimal, if it is `good`.
-#[derive(Clone, Copy)]
-struct Number {
-    good: bool,
-    value: u64,
-}
-
-fn number_of(word: &[u8]) -> Number {
-    let mut number = Number {
-        good: word.len() > 0,
-        value: 0,
-    };
-    for i in 0..word.len() {
-        number = with_digit(number, word[i]);
-    }
-    number
-}
-
-// One digit more, while there is room for any.
-fn with_digit(number: Number, byte: u8) -> Number {
-    let value = number.value;
-    if byte < b'0' {
-        return no_number();
-    }
-    if byte > b'9' {
-        return no_number();
-    }
-    if value > 999999999999999999 {
-        return no_number();
-    }
-    Number {
-        good: number.good,
-        value: 10 * value + (byte - b'0') as u64,
+    // Behind the last word: whether the words fit together.
+    fn whole(self, program: &Program<impl Desk>) -> Result<Asked, NoWork> {
+        if !matches!(self.next, Next::Word) {
+            return Err(program.misused("--slice wants two numbers"));
+        }
+        if self.slice.is_some() && self.words.names > 0 {
+            return Err(program.misused("--slice takes its names from standard input"));
+        }
+        Ok(self)
     }
 }
 
-fn no_number() -> Number {
-    Number {
-        good: false,
-        value: 0,
+// A number of `--slice`.
+fn number_of(program: &Program<impl Desk>, word: &[u8]) -> Result<u64, NoWork> {
+    match parsed(word) {
+        Some(number) => Ok(number),
+        None => Err(program.misused("--slice wants two numbers")),
     }
+}
+
+// The number of a word of digits alone.
+fn parsed(word: &[u8]) -> Option<u64> {
+    if !word.iter().all(|byte| byte.is_ascii_digit()) {
+        return None;
+    }
+    let number = std::str::from_utf8(word).ok()?.parse::<u64>().ok()?;
+    (number <= MOST).then_some(number)
 }

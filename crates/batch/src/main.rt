@@ -9,8 +9,9 @@ mod names;
 mod one;
 
 use asked::Asked;
-use front::{Desk, Line, NoWork, Program, Status, Usage};
-use one::{Totals, no_files};
+use front::{Desk, Line, Program, Status, Usage};
+use names::Names;
+use one::{Stop, Totals};
 use std::fmt;
 use std::fmt::Write as _;
 
@@ -48,47 +49,48 @@ fn main(rt: HostRuntime) {
 
 // Does what the words ask for.
 fn answer(program: &Program<impl Desk>) -> Outcome {
-    match asked::asked_of(program) {
-        Ok(asked) if asked.words.names > 0 => ended(
-            program,
-            asked,
-            names::from_arguments(program, asked),
-        ),
-        Ok(asked) => ended(program, asked, names::from_input(program, asked)),
-        Err(why) => without_files(program, why),
+    match Asked::of(program) {
+        Ok(asked) => play_names(program, asked),
+        Err(why) => Outcome {
+            status: program.show_usage(why, USAGE),
+            totals: Totals::default(),
+        },
     }
 }
 
-fn without_files(program: &Program<impl Desk>, why: NoWork) -> Outcome {
+fn play_names(program: &Program<impl Desk>, asked: Asked) -> Outcome {
+    let mut names = Names::new(asked);
+    let taken = if asked.words.names > 0 {
+        names.take_arguments(program)
+    } else {
+        names.take_input(program)
+    };
+    let totals = names.totals;
+    let is_whole = match taken {
+        Ok(()) | Err(Stop::Enough) => show_totals(program, asked, totals),
+        Err(Stop::Cut) => {
+            show_totals(program, asked, totals);
+            false
+        }
+        Err(Stop::Lost) => false,
+    };
+    let is_done = is_whole && totals.refused == 0 && totals.unreadable == 0;
     Outcome {
-        status: program.show_usage(why, USAGE),
-        totals: no_files(),
-    }
-}
-
-// Prints the totals, unless this is a slice or nothing can be printed any more.
-fn ended(program: &Program<impl Desk>, asked: Asked, totals: Totals) -> Outcome {
-    if asked.slice | totals.lost {
-        return with_files(totals, totals.lost);
-    }
-    let is_printed = print_totals(program, totals);
-    with_files(totals, !is_printed)
-}
-
-fn with_files(totals: Totals, lost: bool) -> Outcome {
-    let failed = lost | totals.cut | (totals.refused > 0) | (totals.unreadable > 0);
-    Outcome {
-        status: if failed { Status::Failed } else { Status::Done },
+        status: if is_done {
+            Status::Done
+        } else {
+            Status::Failed
+        },
         totals,
     }
 }
 
-fn print_totals(program: &Program<impl Desk>, totals: Totals) -> bool {
+// Prints the totals, unless this is a slice. Answers whether nothing is lost.
+fn show_totals(program: &Program<impl Desk>, asked: Asked, totals: Totals) -> bool {
+    if asked.slice.is_some() {
+        return true;
+    }
     let mut line = Line::<128>::new();
-    let _ = writeln!(
-        line,
-        "files {} played {} refused {} unreadable {}",
-        totals.files, totals.played, totals.refused, totals.unreadable
-    );
+    let _ = writeln!(line, "{totals}");
     program.print(line.as_bytes())
 }

@@ -1,105 +1,113 @@
-// One file of a batch: read, played, and told in one line, which goes out by one write. The totals go in by value and
-// come back.
-use front::{Desk, Program};
-use types::Counts;
+// One file of a batch: read, played, counted, and told in one line, which goes out by one write.
+use front::{Desk, Line, Program};
+use std::fmt;
+use std::fmt::Write as _;
 
 // Room for a line: a name of 4,096 bytes at its longest, and an answer.
 const LINE: usize = 16512;
 
-// Files so far; `lost` if something could not be printed, `cut` if standard input could not be read.
+// Why no more names are played: all that are asked for are, something could not be printed, or standard input could not
+// be read.
 #[derive(Clone, Copy)]
+pub enum Stop {
+    Enough,
+    Lost,
+    Cut,
+}
+
+// Files so far.
+#[derive(Clone, Copy, Default)]
 pub struct Totals {
     pub files: u64,
     pub played: u64,
     pub refused: u64,
     pub unreadable: u64,
-    pub lost: bool,
-    pub cut: bool,
 }
 
-pub fn no_files() -> Totals {
-    Totals {
-        files: 0,
-        played: 0,
-        refused: 0,
-        unreadable: 0,
-        lost: false,
-        cut: false,
+impl fmt::Display for Totals {
+    fn fmt<W: fmt::Write>(&self, f: &mut fmt::Formatter<W>) -> fmt::Result {
+        let Totals {
+            files,
+            played,
+            refused,
+            unreadable,
+        } = *self;
+        write!(
+            f,
+            "files {files} played {played} refused {refused} unreadable {unreadable}"
+        )
     }
 }
 
-// Plays the file of this name.
-pub fn play_file(
-    program: &Program<impl Desk>,
-    name: &[u8],
-    services: bool,
-    totals: Totals,
-) -> Totals {
-    let mut bytes = io::large_buffer();
-    let Some(n) = program.read_file(name, &mut bytes) else {
-        return tell(program, name, b": cannot be read\n", totals);
-    };
-    let mut book = [0u8; report::BOOK];
-    let played = words::play(&bytes[..n], &mut book);
-    let counts = played.counts;
-    let shown = if services { counts.serviced } else { 0 };
-    if let Err(error) = report::print_services(&program.rt, &book, shown) {
-        program.no_output(error);
-        return counted(totals, played.refusal, false);
+impl Totals {
+    // Plays the file of this name.
+    pub fn play(
+        &mut self,
+        program: &Program<impl Desk>,
+        name: &[u8],
+        services: bool,
+    ) -> Result<(), Stop> {
+        let mut bytes = io::large_buffer();
+        let Some(count) = program.read_file(name, &mut bytes) else {
+            return self.tell(program, name, "cannot be read");
+        };
+        let mut book = [0u8; report::BOOK];
+        let played = words::play(&bytes[..count], &mut book);
+        self.count(played.refusal);
+        let shown = if services { played.counts.serviced } else { 0 };
+        if let Err(error) = report::print_services(&program.rt, &book, shown) {
+            program.no_output(error);
+            return Err(Stop::Lost);
+        }
+        let mut line = Line::<LINE>::new();
+        line.add_name(name);
+        line.add_bytes(b": ");
+        line.add_answer(played.refusal, played.counts);
+        print(program, line.as_bytes())
     }
-    let is_printed = print_answer(program, name, played.refusal, counts);
-    counted(totals, played.refusal, is_printed)
-}
 
-// The last part of a name that is longer than a path can be.
-pub fn long_name(program: &Program<impl Desk>, name: &[u8], totals: Totals) -> Totals {
-    program.too_long();
-    tell(program, name, b": cannot be read\n", totals)
-}
+    // The last part of a name that is longer than a path can be.
+    pub fn tell_long(&mut self, program: &Program<impl Desk>, name: &[u8]) -> Result<(), Stop> {
+        program.too_long();
+        self.tell(program, name, "cannot be read")
+    }
 
-pub fn tell_unplayed(program: &Program<impl Desk>, name: &[u8], totals: Totals) -> Totals {
-    tell(program, name, b": not played\n", totals)
+    // The line of a name of which nothing was played.
+    pub fn tell(
+        &mut self,
+        program: &Program<impl Desk>,
+        name: &[u8],
+        words: &str,
+    ) -> Result<(), Stop> {
+        self.files = self.files.saturating_add(1);
+        self.unreadable = self.unreadable.saturating_add(1);
+        let mut line = Line::<LINE>::new();
+        line.add_name(name);
+        let _ = writeln!(line, ": {words}");
+        print(program, line.as_bytes())
+    }
+
+    // One file more that was played or refused.
+    fn count(&mut self, refusal: u8) {
+        self.files = self.files.saturating_add(1);
+        match refusal {
+            0 => self.played = self.played.saturating_add(1),
+            _ => self.refused = self.refused.saturating_add(1),
+        }
+    }
 }
 
 // Prints a part of a long name.
-pub fn print_part(program: &Program<impl Desk>, name: &[u8], totals: Totals) -> Totals {
-    let mut line = [0u8; LINE];
-    let end = report::add_name(&mut line, 0, name);
-    let is_printed = program.print(&line[..end]);
-    let mut now = totals;
-    now.lost = totals.lost | !is_printed;
-    now
+pub fn print_part(program: &Program<impl Desk>, name: &[u8]) -> Result<(), Stop> {
+    let mut line = Line::<LINE>::new();
+    line.add_name(name);
+    print(program, line.as_bytes())
 }
 
-// The line of a name of which nothing was played.
-fn tell(program: &Program<impl Desk>, name: &[u8], words: &[u8], totals: Totals) -> Totals {
-    let mut line = [0u8; LINE];
-    let named = report::add_name(&mut line, 0, name);
-    let end = report::add_bytes(&mut line, named, words);
-    let is_printed = program.print(&line[..end]);
-    let mut now = totals;
-    now.files = totals.files.wrapping_add(1);
-    now.unreadable = totals.unreadable.wrapping_add(1);
-    now.lost = totals.lost | !is_printed;
-    now
-}
-
-fn print_answer(program: &Program<impl Desk>, name: &[u8], refusal: u8, counts: Counts) -> bool {
-    let mut line = [0u8; LINE];
-    let named = report::add_name(&mut line, 0, name);
-    let behind = report::add_bytes(&mut line, named, b": ");
-    let end = report::add_answer(&mut line, behind, refusal, counts);
-    program.print(&line[..end])
-}
-
-fn counted(totals: Totals, refusal: u8, is_printed: bool) -> Totals {
-    let mut now = totals;
-    now.files = totals.files.wrapping_add(1);
-    now.lost = totals.lost | !is_printed;
-    if refusal == 0 {
-        now.played = totals.played.wrapping_add(1);
-        return now;
+fn print(program: &Program<impl Desk>, line: &[u8]) -> Result<(), Stop> {
+    if program.print(line) {
+        Ok(())
+    } else {
+        Err(Stop::Lost)
     }
-    now.refused = totals.refused.wrapping_add(1);
-    now
 }

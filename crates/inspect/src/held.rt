@@ -1,105 +1,115 @@
 // What stands in an archive of either version, read from any bytes: 0 where they end before.
 ghost use Rattle.std.specs.Prelude.{◌<◌};
 
-pub fn byte_at(b: &[u8], i: usize) -> usize
-    ensures { result < 256 }
-{
-    if i < b.len() {
-        return base::wide(b[i]);
+// The bytes of a file.
+#[derive(Clone, Copy)]
+pub struct Held<'a>(pub &'a [u8]);
+
+// Version 1, or version 2, as which the bytes of every other version are read.
+#[derive(Clone, Copy)]
+pub enum Version {
+    First,
+    Second,
+}
+
+impl From<u8> for Version {
+    fn from(byte: u8) -> Version {
+        match byte {
+            1 => Version::First,
+            _ => Version::Second,
+        }
     }
-    0
 }
 
-// Two bytes, the higher first.
-pub fn word_at(b: &[u8], i: usize) -> usize
-    ensures { result < 65536 }
-{
-    if i < b.len() {
-        return 256 * byte_at(b, i) + byte_at(b, i + 1);
+impl Held<'_> {
+    pub fn byte_at(self, place: usize) -> u8 {
+        self.0.get(place).copied().unwrap_or(0)
     }
-    0
-}
 
-// The version and the edition.
-pub fn version(b: &[u8]) -> u8 {
-    if 2 < b.len() {
-        return b[2];
+    fn bytes_at<const N: usize>(self, place: usize) -> [u8; N] {
+        let mut bytes = [0; N];
+        for (byte, held) in bytes.iter_mut().zip(self.0.iter().skip(place)) {
+            *byte = *held;
+        }
+        bytes
     }
-    0
-}
 
-pub fn edition(b: &[u8]) -> usize {
-    base::wide(faults::edition_of(version(b), byte_at(b, 3) as u8))
-}
-
-// Where the fields begin: S, T, D, the seed, the draws, N.
-pub fn fields_place(b: &[u8]) -> usize
-    ensures { result < 256 }
-{
-    faults::fields_place(version(b)) % 256
-}
-
-pub fn sites(b: &[u8]) -> usize
-    ensures { result < 256 }
-{
-    byte_at(b, fields_place(b))
-}
-
-pub fn tries(b: &[u8]) -> usize {
-    byte_at(b, fields_place(b) + 1)
-}
-
-pub fn depth(b: &[u8]) -> usize {
-    byte_at(b, fields_place(b) + 2)
-}
-
-pub fn draws(b: &[u8]) -> usize {
-    word_at(b, fields_place(b) + 7)
-}
-
-pub fn sends(b: &[u8]) -> usize
-    ensures { result < 256 }
-{
-    byte_at(b, fields_place(b) + 9)
-}
-
-// Where channel m, of 256 at most, begins; the channel.
-pub fn channel_place(b: &[u8], m: usize) -> usize
-    ensures { result < 65536 }
-{
-    faults::channel_place(version(b), (m % 256) as u8) % 65536
-}
-
-pub fn channel(b: &[u8], m: usize) -> u16 {
-    let place = channel_place(b, m);
-    faults::channel_of(
-        version(b),
-        byte_at(b, place) as u8,
-        byte_at(b, place + 1) as u8,
-    )
-}
-
-// Where route k, of 4,096 at most, begins.
-pub fn route_place(b: &[u8], k: usize) -> usize
-    ensures { result < 131072 }
-{
-    faults::routes_place(version(b), sites(b) as u8) % 65536 + 2 * (k % 4096)
-}
-
-// Where send m, of 256 at most, begins.
-pub fn send_place(b: &[u8], m: usize) -> usize
-    ensures { result < 1048576 }
-{
-    faults::send_place(version(b), sites(b) as u8, (m % 256) as u8) % 1048576
-}
-
-// The set of send m: two bytes in version 1, eight in version 2.
-pub fn set_of(b: &[u8], m: usize) -> usize {
-    let p = send_place(b, m) + 3;
-    let high = word_at(b, p);
-    if version(b) == 1 {
-        return high;
+    pub fn word_at(self, place: usize) -> u16 {
+        u16::from_be_bytes(self.bytes_at(place))
     }
-    let rest = 4294967296 * word_at(b, p + 2) + 65536 * word_at(b, p + 4) + word_at(b, p + 6);
-    281474976710656 * high + rest
+
+    // The version that stands there.
+    pub fn version_byte(self) -> u8 {
+        self.byte_at(2)
+    }
+
+    pub fn version(self) -> Version {
+        Version::from(self.version_byte())
+    }
+
+    pub fn edition(self) -> u8 {
+        faults::edition_of(self.version_byte(), self.byte_at(3))
+    }
+
+    // Where the fields begin: S, T, D, the seed, the draws, N.
+    pub fn fields_place(self) -> usize
+        ensures { result < 5 }
+    {
+        faults::fields_place(self.version_byte())
+    }
+
+    pub fn sites(self) -> u8 {
+        self.byte_at(self.fields_place())
+    }
+
+    pub fn tries(self) -> u8 {
+        self.byte_at(self.fields_place() + 1)
+    }
+
+    pub fn depth(self) -> u8 {
+        self.byte_at(self.fields_place() + 2)
+    }
+
+    pub fn draws(self) -> u16 {
+        self.word_at(self.fields_place() + 7)
+    }
+
+    pub fn sends(self) -> u8 {
+        self.byte_at(self.fields_place() + 9)
+    }
+
+    // Where channel m, of 256 at most, begins; the channel.
+    pub fn channel_place(self, m: usize) -> usize
+        ensures { result < 1024 }
+    {
+        faults::channel_place(self.version_byte(), (m % 256) as u8)
+    }
+
+    pub fn channel(self, m: usize) -> u16 {
+        let [first, second] = self.bytes_at::<2>(self.channel_place(m));
+        faults::channel_of(self.version_byte(), first, second)
+    }
+
+    // Where route k, of 4,096 at most, begins.
+    pub fn route_place(self, k: usize) -> usize
+        ensures { result < 16384 }
+    {
+        faults::routes_place(self.version_byte(), self.sites()) + 2 * (k % 4096)
+    }
+
+    // Where send m, of 256 at most, begins.
+    pub fn send_place(self, m: usize) -> usize
+        ensures { result < 1048576 }
+    {
+        faults::send_place(self.version_byte(), self.sites(), (m % 256) as u8)
+    }
+
+    // The set of send m: two bytes in version 1, eight in version 2.
+    pub fn set_of(self, m: usize) -> u64 {
+        let place = self.send_place(m) + 3;
+        match self.version() {
+            Version::First => u64::from(self.word_at(place)),
+            Version::Second => u64::from_be_bytes(self.bytes_at(place)),
+        }
+    }
 }

@@ -6,9 +6,12 @@
 mod heads;
 mod held;
 mod items;
+mod verdict;
 
-use front::{Desk, NoWork, Program, Status, Usage, Words};
+use front::{Desk, Line, NoWork, Program, Status, Usage, Words};
+use std::fmt::Write as _;
 use std::io::ErrorKind;
+use verdict::Verdict;
 
 // The longest argument that Linux passes, with the 0 that ends it.
 const ARGUMENT: usize = 131072;
@@ -20,14 +23,16 @@ const USAGE: Usage = Usage {
     meaning: "Says of each FILE whether it is an archive; if it is not, what is wrong and where.\n",
 };
 
-// The files so far: whether each was an archive whose line could be written, whether `--` has come, and whether the reader
-// of the lines has gone. Then no more files are looked at.
+// The files so far: whether each was an archive whose line could be written, and whether `--` has come.
 #[derive(Clone, Copy)]
 struct Files {
     status: Status,
     is_ended: bool,
-    is_gone: bool,
 }
+
+// The reader of the lines has gone: no more files are looked at.
+#[derive(Clone, Copy)]
+struct Gone;
 
 fn main(rt: HostRuntime) {
     front::run(rt, "inspect", |program| answer(program));
@@ -51,109 +56,58 @@ fn words_of(program: &Program<impl Desk>) -> Result<Words, NoWork> {
 
 // The files that the words name.
 fn inspect_words(program: &Program<impl Desk>) -> Status {
-    let mut name = [0u8; ARGUMENT];
-    let mut line = [0u8; LINE];
+    let mut room = [0u8; ARGUMENT];
     let nothing = Files {
         status: Status::Done,
         is_ended: false,
-        is_gone: false,
     };
     let files = program.fold_words(
-        &mut name,
-        nothing,
-        |files, _, word| take_word(program, word, &mut line, files),
+        &mut room,
+        Ok(nothing),
+        |files, _, word| take_word(program, word, files?),
     );
-    files.status
+    match files {
+        Ok(files) => files.status,
+        Err(Gone) => Status::Failed,
+    }
 }
 
 // One more word. The only option among them is the first `--`.
-fn take_word(program: &Program<impl Desk>, word: &[u8], line: &mut [u8], files: Files) -> Files {
-    let mut now = files;
-    if files.is_gone {
-        return now;
+fn take_word(program: &Program<impl Desk>, word: &[u8], files: Files) -> Result<Files, Gone> {
+    if !files.is_ended && matches!(word, b"--") {
+        return Ok(Files {
+            is_ended: true,
+            ..files
+        });
     }
-    if !files.is_ended && check::same(word, b"--") {
-        now.is_ended = true;
-        return now;
+    match inspect(program, word)? {
+        Status::Done => Ok(files),
+        status => Ok(Files { status, ..files }),
     }
-    match inspect(program, word, line) {
-        Told::With(Status::Done) => {}
-        Told::With(_) => now.status = Status::Failed,
-        Told::Gone => {
-            now.status = Status::Failed;
-            now.is_gone = true;
-        }
-    }
-    now
 }
 
-// What came of a line: the status of its file, or that the reader of the lines has gone.
-#[derive(Clone, Copy)]
-enum Told {
-    With(Status),
-    Gone,
-}
-
-// The line of the file of this name, and its status.
-fn inspect(program: &Program<impl Desk>, name: &[u8], line: &mut [u8]) -> Told {
-    let named = report::add_name(line, 0, name);
-    let at = report::add_bytes(line, named, b": ");
+// Prints the line of the file of this name, and answers its status.
+fn inspect(program: &Program<impl Desk>, name: &[u8]) -> Result<Status, Gone> {
+    let mut line = Line::<LINE>::new();
+    line.add_name(name);
     let mut room = io::large_buffer();
-    let Some(n) = program.read_file(name, &mut room) else {
-        let told = report::add_bytes(line, at, b"cannot be read");
-        return printed(program, line, told, Status::Failed);
+    let Some(count) = program.read_file(name, &mut room) else {
+        let _ = writeln!(line, ": cannot be read");
+        return printed(program, line.as_bytes(), Status::Failed);
     };
-    judge(program, line, at, &room[..n])
+    let verdict = Verdict::of(&room[..count]);
+    let _ = writeln!(line, ": {verdict}");
+    printed(program, line.as_bytes(), verdict.status())
 }
 
-// The line of these bytes behind the file's name. Answers the status.
-fn judge(program: &Program<impl Desk>, line: &mut [u8], at: usize, b: &[u8]) -> Told {
-    let fault = faults::find(b);
-    let refusal = fault.refusal;
-    if refusal == 0 {
-        let good = heads::add_good(line, at, b);
-        return printed(program, line, good, Status::Done);
-    }
-    let numbers = [base::wide(refusal), 0, 0, 0, 0, 0];
-    let number = front::fill(line, at, b"refused %: ", numbers);
-    let told = add_fault(line, number, b, refusal, fault.place);
-    printed(program, line, told, Status::Failed)
-}
-
-// In words what is wrong with these bytes, and where.
-fn add_fault(line: &mut [u8], at: usize, b: &[u8], refusal: u8, place: usize) -> usize {
-    match refusal {
-        6 => items::add_channel(line, at, b, place),
-        7 => items::add_route(line, at, b, place),
-        8 => items::add_send(line, at, b, place),
-        _ => add_head_fault(line, at, b, refusal),
-    }
-}
-
-fn add_head_fault(line: &mut [u8], at: usize, b: &[u8], refusal: u8) -> usize {
-    match refusal {
-        1 => heads::add_short(line, at, b),
-        2 => heads::add_version(line, at, b),
-        3 => heads::add_limit(line, at, b),
-        4 => heads::add_seed(line, at, b),
-        17 => heads::add_edition(line, at, b),
-        _ => heads::add_size(line, at, b),
-    }
-}
-
-// Ends the line and writes it. Answers this status, or that it could not be written.
-fn printed(program: &Program<impl Desk>, line: &mut [u8], at: usize, status: Status) -> Told {
-    let end = report::add_bytes(line, at, b"\n");
-    match program.rt.write_all(&line[..end]) {
-        Ok(()) => Told::With(status),
+// Writes a line. Answers this status, unless it could not be written.
+fn printed(program: &Program<impl Desk>, line: &[u8], status: Status) -> Result<Status, Gone> {
+    match program.rt.write_all(line) {
+        Ok(()) => Ok(status),
+        Err(error) if matches!(error.kind(), ErrorKind::BrokenPipe) => Err(Gone),
         Err(error) => {
-            let is_gone = matches!(error.kind(), ErrorKind::BrokenPipe);
             program.no_output(error);
-            if is_gone {
-                Told::Gone
-            } else {
-                Told::With(Status::Failed)
-            }
+            Ok(Status::Failed)
         }
     }
 }

@@ -6,43 +6,77 @@
 mod one;
 
 use front::Desk;
-use one::{Totals, put, put_number};
-use std::io::Print;
+use one::Outcome;
+use std::fmt;
+use std::io::{Print, Result};
 
-fn print_total(out: &impl Print, label: &[u8], n: u64) -> bool {
-    let is_label = put(out, label);
-    put_number(out, n) && is_label
+// Files so far.
+#[derive(Clone, Copy, Default)]
+struct Totals {
+    files: u64,
+    same: u64,
+    refused: u64,
+    differ: u64,
+    unreadable: u64,
 }
 
-fn print_totals(out: &impl Print, totals: Totals) -> bool {
-    let files = print_total(out, b"files ", totals.files);
-    let same = print_total(out, b" same ", totals.same);
-    let refused = print_total(out, b" refused ", totals.refused);
-    let differ = print_total(out, b" differ ", totals.differ);
-    let unreadable = print_total(out, b" unreadable ", totals.unreadable);
-    let end = put(out, b"\n");
-    files && same && refused && differ && unreadable && end
-}
-
-// The file that argument i names. A longer argument than a path can be leads to no file.
-fn rewrite_argument(rt: &impl Desk, i: usize, totals: Totals) -> Totals {
-    let mut name = io::buffer();
-    match rt.arg(i, &mut name) {
-        Ok(n) => one::rewrite_file(rt, &name[..n], totals),
-        Err(_) => one::cannot_be_read(rt, &name, totals),
+impl Totals {
+    // One file more.
+    fn count(&mut self, outcome: Outcome) {
+        let kind = match outcome {
+            Outcome::Same(_) => &mut self.same,
+            Outcome::Refused(_) => &mut self.refused,
+            Outcome::Differs => &mut self.differ,
+            Outcome::Unreadable => &mut self.unreadable,
+        };
+        *kind = kind.saturating_add(1);
+        self.files = self.files.saturating_add(1);
     }
+}
+
+impl fmt::Display for Totals {
+    fn fmt<W: fmt::Write>(&self, f: &mut fmt::Formatter<W>) -> fmt::Result {
+        let Totals {
+            files,
+            same,
+            refused,
+            differ,
+            unreadable,
+        } = *self;
+        write!(
+            f,
+            "files {files} same {same} refused {refused} differ {differ} unreadable {unreadable}"
+        )
+    }
+}
+
+fn print_line(out: &impl Print, name: &[u8], outcome: Outcome) -> Result<()> {
+    out.write_all(name)?;
+    println!(out; ": {outcome}")
+}
+
+// The file that argument i names, and whether its line could be written. A longer argument than a path can be leads to
+// no file; its first bytes are told.
+fn rewrite_argument(rt: &impl Desk, i: usize, totals: &mut Totals) -> Result<()> {
+    let mut name = io::buffer();
+    let (count, outcome) = match rt.arg(i, &mut name) {
+        Ok(count) => (count, one::outcome_of(rt, &name[..count])),
+        Err(_) => (name.len(), Outcome::Unreadable),
+    };
+    totals.count(outcome);
+    print_line(rt, &name[..count], outcome)
 }
 
 fn main(rt: HostRuntime) {
-    let mut totals = one::no_files();
+    let mut totals = Totals::default();
+    let mut is_whole = true;
     for i in 1..front::arg_count(&rt) {
-        totals = rewrite_argument(&rt, i, totals);
+        is_whole &= rewrite_argument(&rt, i, &mut totals).is_ok();
     }
-    let is_printed = print_totals(&rt, totals);
-    if totals.lost || !is_printed {
-        put(
-            &rt.messages(),
-            b"rewrite: not every line could be written\n",
-        );
+    is_whole &= rt.println(totals).is_ok();
+    if !is_whole {
+        let _ = rt
+            .messages()
+            .println("rewrite: not every line could be written");
     }
 }

@@ -1,39 +1,27 @@
-// A site from its 171 numbers, in the order of docs/TESTING.md: five net-inputs of 11, the net-outputs 0 to 4 of 6, of
+// A site from its numbers, in the order of docs/TESTING.md: five net-inputs of 11, the net-outputs 0 to 4 of 6, of
 // which the first is 1 for one in use and 2 more for the mark closing, the out-queue and the in-queue with a count and
 // eight entries of 3 each; behind these 135 what the split output brings: for each net-input whether it is connected to
-// that output, the output, and its in-queue. Numbers that no field can hold are cut to it.
-ghost use Rattle.std.specs.Prelude.{◌≡◌, ◌+◌, ◌%◌, ◌<◌, ◌≤◌};
-ghost use Rattle.base.specs.Sizes.{input_count};
-ghost use Rattle.singles.specs.Sizes.{site_numbers, output_numbers, entry_numbers, queue_numbers};
+// that output, the output, and its in-queue. Numbers that no field can hold are cut to it, and those that are missing
+// are 0.
+ghost use Rattle.std.specs.Prelude.{◌≡◌, ◌%◌};
 
+use std::array;
 use types::{
     Connection, InEntry, InQueue, Input, OutEntry, OutQueue, Output, Phase, Received, Site,
     Terminator,
 };
 
-// The numbers of a site, and those of them that stand without the split output and its in-queue.
-pub(crate) const NUMBERS: usize = 171;
-
-pub(crate) const FIRST: usize = 135;
-
-// Where the net-outputs, the out-queue and the in-queue begin.
-pub(crate) const OUTPUTS_FROM: usize = 55;
-
-pub(crate) const OUT_QUEUE: usize = 85;
-
-pub(crate) const IN_QUEUE: usize = 110;
-
-// Where the net-inputs' marks of the split output, that output and its in-queue begin.
-pub(crate) const SPLIT_MARKS: usize = FIRST;
-
-pub(crate) const SPLIT_OUTPUT: usize = 140;
-
-pub(crate) const SPLIT_IN_QUEUE: usize = 146;
-
+// The lowest byte, and the lowest two: `%` cuts what `as`, which loses no bits here, would not pass.
 pub(crate) fn byte_of(n: u64) -> u8
     ensures { result ≡ n % 256 }
 {
     (n % 256) as u8
+}
+
+pub(crate) fn short_of(n: u64) -> u16
+    ensures { result ≡ n % 65536 }
+{
+    (n % 65536) as u16
 }
 
 fn connection_of(n: u64) -> Connection {
@@ -76,142 +64,135 @@ fn phase_of(state: u64, connection: Connection, received: Received) -> Phase {
     }
 }
 
-// Net-input i.
-fn input_of(n: &[u64; NUMBERS], i: usize) -> Input
-    requires { i < input_count }
-{
-    let at = 11 * i;
-    let phase = phase_at(n, at);
-    let packet = byte_of(n[at + 3]);
-    let outputs = marks_of(n, i);
-    let tries = byte_of(n[at + 10]);
-    Input {
-        set: n[at + 4],
-        phase,
-        outputs,
-        packet,
-        tries,
+// The numbers that are still to be read.
+#[derive(Clone, Copy)]
+struct Numbers<'a>(&'a [u64]);
+
+impl Numbers<'_> {
+    fn next(&mut self) -> u64 {
+        match self.0.split_first() {
+            Some((first, others)) => {
+                self.0 = others;
+                *first
+            }
+            None => 0,
+        }
+    }
+
+    fn byte(&mut self) -> u8 {
+        byte_of(self.next())
+    }
+
+    fn mark(&mut self) -> bool {
+        self.next() == 1
+    }
+
+    fn input(&mut self) -> Input {
+        let phase = self.phase();
+        let packet = self.byte();
+        let set = self.next();
+        let mut outputs = [false; base::OUTPUTS];
+        for is_connected in &mut outputs[..base::SPLIT_PORT] {
+            *is_connected = self.mark();
+        }
+        let tries = self.byte();
+        Input {
+            set,
+            phase,
+            outputs,
+            packet,
+            tries,
+        }
+    }
+
+    fn phase(&mut self) -> Phase {
+        let state = self.next();
+        let connection = connection_of(self.next());
+        let received = received_of(self.next());
+        phase_of(state, connection, received)
+    }
+
+    fn output(&mut self) -> Output {
+        let marks = self.next();
+        let packet = self.byte();
+        let set = self.next();
+        let input = self.byte();
+        let head = self.mark();
+        let terminator = terminator_of(self.next());
+        Output {
+            set,
+            terminator,
+            packet,
+            input,
+            used: marks % 2 == 1,
+            head,
+            closing: marks / 2 % 2 == 1,
+        }
+    }
+
+    // The count of a queue and its entries.
+    fn queue<E: Entry>(&mut self) -> (usize, [E; base::QUEUE]) {
+        let count = self.next() as usize;
+        (count, array::from_fn(|_| E::read(self)))
+    }
+
+    fn out_queue(&mut self) -> OutQueue {
+        let (count, entries) = self.queue();
+        OutQueue { entries, count }
+    }
+
+    fn in_queue(&mut self) -> InQueue {
+        let (count, entries) = self.queue();
+        InQueue { entries, count }
     }
 }
 
-fn phase_at(n: &[u64; NUMBERS], at: usize) -> Phase
-    requires { at + 3 ≤ site_numbers }
-{
-    let connection = connection_of(n[at + 1]);
-    let received = received_of(n[at + 2]);
-    phase_of(n[at], connection, received)
+// An entry of a queue.
+trait Entry {
+    fn read(numbers: &mut Numbers<'_>) -> Self;
 }
 
-// The outputs that net-input i is connected to.
-fn marks_of(n: &[u64; NUMBERS], i: usize) -> [bool; base::OUTPUTS]
-    requires { i < input_count }
-{
-    let at = 11 * i + 5;
-    [
-        n[at] == 1,
-        n[at + 1] == 1,
-        n[at + 2] == 1,
-        n[at + 3] == 1,
-        n[at + 4] == 1,
-        n[SPLIT_MARKS + i] == 1,
-    ]
-}
-
-fn output_of(n: &[u64; NUMBERS], at: usize) -> Output
-    requires { at + output_numbers ≤ site_numbers }
-{
-    let packet = byte_of(n[at + 1]);
-    let input = byte_of(n[at + 3]);
-    let terminator = terminator_of(n[at + 5]);
-    Output {
-        set: n[at + 2],
-        terminator,
-        packet,
-        input,
-        used: n[at] % 2 == 1,
-        head: n[at + 4] == 1,
-        closing: n[at] / 2 % 2 == 1,
+impl Entry for OutEntry {
+    fn read(numbers: &mut Numbers<'_>) -> Self {
+        let packet = numbers.byte();
+        let set = numbers.next();
+        let started = numbers.mark();
+        OutEntry {
+            set,
+            packet,
+            started,
+        }
     }
 }
 
-fn out_entry_of(n: &[u64; NUMBERS], at: usize) -> OutEntry
-    requires { at + entry_numbers ≤ site_numbers }
-{
-    let packet = byte_of(n[at]);
-    OutEntry {
-        set: n[at + 1],
-        packet,
-        started: n[at + 2] == 1,
+impl Entry for InEntry {
+    fn read(numbers: &mut Numbers<'_>) -> Self {
+        let packet = numbers.byte();
+        let set = numbers.next();
+        let terminator = terminator_of(numbers.next());
+        InEntry {
+            set,
+            terminator,
+            packet,
+        }
     }
 }
 
-fn in_entry_of(n: &[u64; NUMBERS], at: usize) -> InEntry
-    requires { at + entry_numbers ≤ site_numbers }
-{
-    let packet = byte_of(n[at]);
-    let terminator = terminator_of(n[at + 2]);
-    InEntry {
-        set: n[at + 1],
-        terminator,
-        packet,
+pub(crate) fn site_of(numbers: &[u64]) -> Site {
+    let mut numbers = Numbers(numbers);
+    let mut inputs: [Input; base::INPUTS] = array::from_fn(|_| numbers.input());
+    let ports: [Output; base::SPLIT_PORT] = array::from_fn(|_| numbers.output());
+    let outgoing = numbers.out_queue();
+    let first = numbers.in_queue();
+    for input in &mut inputs {
+        input.outputs[base::SPLIT_PORT] = numbers.mark();
     }
-}
-
-fn out_queue_of(n: &[u64; NUMBERS], at: usize) -> OutQueue
-    requires { at + queue_numbers ≤ site_numbers }
-{
-    OutQueue {
-        entries: [
-            out_entry_of(n, at + 1),
-            out_entry_of(n, at + 4),
-            out_entry_of(n, at + 7),
-            out_entry_of(n, at + 10),
-            out_entry_of(n, at + 13),
-            out_entry_of(n, at + 16),
-            out_entry_of(n, at + 19),
-            out_entry_of(n, at + 22),
-        ],
-        count: n[at] as usize,
-    }
-}
-
-fn in_queue_of(n: &[u64; NUMBERS], at: usize) -> InQueue
-    requires { at + queue_numbers ≤ site_numbers }
-{
-    InQueue {
-        entries: [
-            in_entry_of(n, at + 1),
-            in_entry_of(n, at + 4),
-            in_entry_of(n, at + 7),
-            in_entry_of(n, at + 10),
-            in_entry_of(n, at + 13),
-            in_entry_of(n, at + 16),
-            in_entry_of(n, at + 19),
-            in_entry_of(n, at + 22),
-        ],
-        count: n[at] as usize,
-    }
-}
-
-pub(crate) fn site_of(n: &[u64; NUMBERS]) -> Site {
-    let outgoing = out_queue_of(n, OUT_QUEUE);
+    let split = numbers.output();
+    let second = numbers.in_queue();
     Site {
-        inputs: [
-            input_of(n, 0),
-            input_of(n, 1),
-            input_of(n, 2),
-            input_of(n, 3),
-            input_of(n, 4),
-        ],
-        outputs: [
-            output_of(n, OUTPUTS_FROM),
-            output_of(n, OUTPUTS_FROM + 6),
-            output_of(n, OUTPUTS_FROM + 12),
-            output_of(n, OUTPUTS_FROM + 18),
-            output_of(n, OUTPUTS_FROM + 24),
-            output_of(n, SPLIT_OUTPUT),
-        ],
+        inputs,
+        outputs: array::from_fn(|port| ports.get(port).copied().unwrap_or(split)),
         outgoing,
-        incoming: [in_queue_of(n, IN_QUEUE), in_queue_of(n, SPLIT_IN_QUEUE)],
+        incoming: [first, second],
     }
 }

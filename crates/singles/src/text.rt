@@ -1,185 +1,90 @@
-// Numbers out of standard input, which is read piece by piece. A number is its decimal digits and the one byte after
-// them; where digits are missing it is 0, so that a short or damaged text is read too.
+// Numbers out of a text that is read piece by piece. A number is its decimal digits and the one byte after them; where
+// digits are missing it is 0, so that a short or damaged text is read too.
 ghost use Rattle.std.specs.Prelude.{◌≤◌, length};
-ghost use Rattle.singles.specs.Sizes.{site_numbers};
 
-use crate::site::NUMBERS;
 use std::io::Read;
 
-// The piece of the text that is being read: it lies in a buffer that the caller lends.
-pub(crate) const PIECE: usize = 4096;
+// How much of the text is read at once.
+const PIECE: usize = 4096;
 
-// Where the next byte of the piece is, how many bytes the piece has, and whether the text is at its end.
-#[derive(Clone, Copy)]
-pub(crate) struct Cursor {
-    pub at: usize,
-    pub end: usize,
-    pub over: bool,
+// The bytes of a number at most: the digits of the largest of 64 bits and one byte more.
+const LONGEST: u8 = 21;
+
+// A text: the piece that is being read, the place of the next byte in it and how many bytes it has, and whether the
+// text was at its end when a byte was asked for last.
+#[derive(Drop)]
+pub(crate) struct Text<R: Read> {
+    input: R,
+    piece: [u8; PIECE],
+    at: usize,
+    end: usize,
+    is_over: bool,
+    ghost within: { end ≤ length piece },
 }
 
-// A digit, or 10 for any other byte and the end of the text.
-#[derive(Clone, Copy)]
-struct Digit {
-    value: u8,
-    cursor: Cursor,
-}
-
-#[derive(Clone, Copy)]
-pub(crate) struct ReadNumber {
-    pub value: u64,
-    pub cursor: Cursor,
-}
-
-pub(crate) fn start() -> Cursor {
-    Cursor {
-        at: 0,
-        end: 0,
-        over: false,
+// The number that a byte stands for, if it is a digit.
+fn digit_of(byte: u8) -> Option<u8> {
+    match byte {
+        b'0'..=b'9' => Some(byte - b'0'),
+        _ => None,
     }
 }
 
-fn digit_of(byte: u8) -> u8 {
-    if byte < b'0' {
-        return 10;
-    }
-    if b'9' < byte {
-        return 10;
-    }
-    byte - b'0'
-}
-
-fn least(a: usize, b: usize) -> usize
-    ensures { (result ≤ a) × (result ≤ b) }
-{
-    if a < b { a } else { b }
-}
-
-// Reads until the piece is full, the text ends or a read fails. Answers how many bytes stand at its front.
-fn read_full(text: &mut impl Read, piece: &mut [u8]) -> usize
-    ensures { result ≤ length piece.new }
-{
-    let mut done = 0usize;
-    while done < piece.len() {
-        match text.read(&mut piece[done..]) {
-            Ok(0) | Err(_) => break,
-            Ok(more) => done += more,
+impl<R: Read> Text<R> {
+    pub(crate) fn new(input: R) -> Self {
+        Text {
+            input,
+            piece: [0; PIECE],
+            at: 0,
+            end: 0,
+            is_over: false,
         }
     }
-    done
-}
 
-fn next_digit(text: &mut impl Read, piece: &mut [u8; PIECE], cursor: Cursor) -> Digit {
-    let at = cursor.at;
-    let end = cursor.end;
-    if at < least(end, PIECE) {
-        let value = digit_of(piece[at]);
-        return Digit {
-            value,
-            cursor: Cursor {
-                at: at + 1,
-                end,
-                over: false,
-            },
-        };
+    pub(crate) fn is_over(&self) -> bool {
+        self.is_over
     }
-    let got = read_full(text, piece);
-    if got == 0 {
-        return Digit {
-            value: 10,
-            cursor: Cursor {
-                at: 0,
-                end: 0,
-                over: true,
-            },
-        };
-    }
-    let value = digit_of(piece[0]);
-    Digit {
-        value,
-        cursor: Cursor {
-            at: 1,
-            end: got,
-            over: false,
-        },
-    }
-}
 
-// The number with a digit more; at most the largest of 64 bits.
-fn longer(value: u64, digit: u8) -> u64 {
-    if value < 1844674407370955161 {
-        return value * 10 + (digit % 10) as u64;
-    }
-    if 1844674407370955161 < value {
-        return 18446744073709551615;
-    }
-    if digit < 6 {
-        return 18446744073709551610 + digit as u64;
-    }
-    18446744073709551615
-}
-
-// The next number: 20 digits at most, and the byte after them.
-pub(crate) fn number(text: &mut impl Read, piece: &mut [u8; PIECE], from: Cursor) -> ReadNumber {
-    let mut value: u64 = 0;
-    let mut cursor = from;
-    let mut turn: usize = 0;
-    while turn < 21 {
-        let next = next_digit(text, piece, cursor);
-        cursor = next.cursor;
-        let digit = next.value;
-        if digit == 10 {
-            return ReadNumber { value, cursor };
+    // The next byte, if there is one. A text that cannot be read further is at its end.
+    fn byte(&mut self) -> Option<u8> {
+        if self.at >= self.end {
+            self.end = self.input.read(&mut self.piece).unwrap_or(0);
+            self.at = 0;
         }
-        value = longer(value, digit);
-        turn += 1;
-    }
-    ReadNumber { value, cursor }
-}
-
-// As many numbers as the longest list has, that of the routes.
-pub(crate) const LONGEST: usize = base::SITES * base::SITES;
-
-// The numbers `fill n x0 .. x(n-1)`: the first n places of the room hold x0 .. x(n-1), the others `fill`.
-pub(crate) fn filled(
-    text: &mut impl Read,
-    piece: &mut [u8; PIECE],
-    from: Cursor,
-    room: &mut [u64; LONGEST],
-) -> Cursor {
-    let fill = number(text, piece, from);
-    let count = number(text, piece, fill.cursor);
-    let mut cursor = count.cursor;
-    let mut i: usize = 0;
-    while i < LONGEST {
-        if (i as u64) < count.value {
-            let next = number(text, piece, cursor);
-            cursor = next.cursor;
-            room[i] = next.value;
-        } else {
-            room[i] = fill.value;
+        self.is_over = self.at >= self.end;
+        if self.is_over {
+            return None;
         }
-        i += 1;
+        let byte = self.piece[self.at];
+        self.at += 1;
+        Some(byte)
     }
-    cursor
-}
 
-// So many numbers of a site, into the room's first places.
-pub(crate) fn site_numbers(
-    text: &mut impl Read,
-    piece: &mut [u8; PIECE],
-    from: Cursor,
-    room: &mut [u64; NUMBERS],
-    count: usize,
-) -> Cursor
-    requires { count ≤ site_numbers }
-{
-    let mut cursor = from;
-    let mut i: usize = 0;
-    while i < count {
-        let next = number(text, piece, cursor);
-        cursor = next.cursor;
-        room[i] = next.value;
-        i += 1;
+    // The next number, at most the largest of 64 bits.
+    pub(crate) fn number(&mut self) -> u64 {
+        let mut value = 0u64;
+        for _ in 0..LONGEST {
+            match self.byte().and_then(digit_of) {
+                Some(digit) => value = value.saturating_mul(10).saturating_add(u64::from(digit)),
+                None => break,
+            }
+        }
+        value
     }
-    cursor
+
+    // As many numbers as the room has places.
+    pub(crate) fn numbers(&mut self, room: &mut [u64]) {
+        for place in room.iter_mut() {
+            *place = self.number();
+        }
+    }
+
+    // The numbers `fill n x0 .. x(n-1)`: the first n places of the room hold x0 .. x(n-1), the others `fill`.
+    pub(crate) fn filled(&mut self, room: &mut [u64]) {
+        let fill = self.number();
+        let count = (self.number() as usize).min(room.len());
+        let (given, others) = room.split_at_mut(count);
+        self.numbers(given);
+        others.fill(fill);
+    }
 }

@@ -12,11 +12,10 @@ use machine::PlayAnswer;
 
 // What a player answered: its services, or 65,536 and the refusal.
 fn told(played: PlayAnswer) -> usize {
-    let counts = played.counts;
-    if played.refusal == 0 {
-        return counts.serviced;
+    match played.refusal {
+        0 => played.counts.serviced,
+        refusal => 65536 + usize::from(refusal),
     }
-    65536 + base::wide(played.refusal)
 }
 
 // Plays the archive into the book: the run in lent words.

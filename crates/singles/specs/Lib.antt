@@ -1,2 +1,0 @@
--- The sizes of the text form.
-pub mod Sizes
