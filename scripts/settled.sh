@@ -18,13 +18,13 @@ unseen="settled timing stack exports_c"
 bare="model theorems layout format lines calls"
 
 # Functions without a theorem: what is read and written lies outside the machine in which a contract is stated. In
-# `front` that is all of them: the program's arguments, messages, files and the line of numbers; and the patterns that
-# `inspect`, `trace` and `batch` fill, whose words are tested, not proved.
+# `front` that is all of them: the program's arguments, messages, files and the line of numbers; and the lines that
+# `inspect`, `trace` and `batch` compose, whose words are tested, not proved.
 exceptions="report::read_seen report::print_services report::print_line report::print_refusal"
-exceptions="$exceptions front::begin front::arg_count front::misused front::no_words front::word_at front::take_word front::words_of front::tell"
-exceptions="$exceptions front::tell_status front::say front::too_long front::print front::no_output"
-exceptions="$exceptions front::print_usage front::helped front::fill front::add_word"
-exceptions="$exceptions front::read_file front::read_argument front::read_input front::no_input"
+exceptions="$exceptions front::run front::is_fronted front::is_command front::fold_words front::arg_count front::of front::none front::with"
+exceptions="$exceptions front::say front::say_word front::misused front::too_long front::print front::no_output front::show_usage"
+exceptions="$exceptions front::read_file front::read_argument front::read front::read_input front::no_input"
+exceptions="$exceptions front::new front::as_bytes front::add_bytes front::add_name front::add_answer"
 
 fail() {
     echo "settled: $1" >&2

@@ -11,16 +11,12 @@ const BEYOND: u64 = latency::ARGUMENT + 1;
 pub fn number_of(word: &[u8]) -> u64
     ensures { result ≡ number_of word.now }
 {
-    let mut value = 0u64;
-    let mut i = 0usize;
-    while i < word.len() {
-        let byte = word[i];
-        if is_digit(byte) {
-            value = with_digit(value, byte);
-            i += 1;
-            continue;
+    let mut value = 0;
+    for byte in word {
+        if !is_digit(*byte) {
+            return 0;
         }
-        return 0;
+        value = with_digit(value, *byte);
     }
     value
 }
@@ -28,7 +24,7 @@ pub fn number_of(word: &[u8]) -> u64
 fn is_digit(byte: u8) -> bool
     ensures { result ≡ is_digit byte }
 {
-    (b'0' <= byte) & (byte <= b'9')
+    byte.is_ascii_digit()
 }
 
 // A digit more behind a value.
@@ -36,8 +32,7 @@ fn with_digit(value: u64, byte: u8) -> u64
     requires { (value ≤ beyond) × (is_digit byte ≡ true) }
     ensures { result ≡ min beyond (10 * value + (byte - 48)) }
 {
-    let more = 10 * value + (byte - b'0') as u64;
-    if more < BEYOND { more } else { BEYOND }
+    BEYOND.min(10 * value + u64::from(byte - b'0'))
 }
 
 // The numbers with that of a word at place k, which may be none of theirs.

@@ -26,15 +26,11 @@ pub fn quote(numbers: [u64; NUMBERS], doubled: bool, text: &mut [u8; TEXT]) -> Q
         × (text.new ≡ at_front (quote_text doubled numbers) text.old) }
     ensures front { Front result.count text.new }
 {
-    let t = numbers[0];
-    let l = numbers[1];
-    let d = numbers[2];
-    let n = numbers[3];
-    let w = numbers[4];
+    let [t, l, d, n, w] = numbers;
     let found = latency::uncontended(t, l, d, n, w);
     let refusal = found.refusal;
     Quoted {
-        refusal: refusal,
+        refusal,
         count: put_text(found, doubled, text),
     }
 }

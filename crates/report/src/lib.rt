@@ -25,13 +25,6 @@ pub const ANSWER: usize = 113;
 // Room for the line of every service: `65535 255 255` and its newline.
 const SERVICE: usize = 14;
 
-// A reading: how many bytes stand at the front of the lent room; none if it failed, which is said by then.
-#[derive(Clone, Copy)]
-pub struct Seen {
-    pub failed: bool,
-    pub count: usize,
-}
-
 // ---- composing
 
 // Puts `refused N`, or the counts of an archive that was not refused, and a newline at the front of the lent bytes.

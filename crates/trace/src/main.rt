@@ -5,16 +5,15 @@
 
 mod apart;
 mod asked;
+mod change;
 mod places;
 mod printed;
 mod run;
-mod told;
 mod why;
 
 use asked::{Asked, Told, Work};
 use front::{Desk, Program, Status};
-use run::{Mode, Traced};
-use std::io::Result;
+use run::{Mode, Stop};
 
 fn main(rt: HostRuntime) {
     front::run(rt, "trace", |program| answer(program));
@@ -37,38 +36,32 @@ fn trace_file(program: &Program<impl Desk>, work: Work) -> Status {
     };
     match tell(program, &bytes[..n], work.told) {
         Ok(status) => status,
-        Err(error) => {
+        Err(Stop::Refused) => {
+            program.say("an event was refused in a run that the reader accepts");
+            Status::Failed
+        }
+        Err(Stop::Unwritten(error)) => {
             program.no_output(error);
             Status::Failed
         }
     }
 }
 
-// Tells it of the run that the bytes hold, or answers the error of the line that could not be written.
-fn tell(program: &Program<impl Desk>, bytes: &[u8], told: Told) -> Result<Status> {
+// Tells it of the run that the bytes hold. The last line has the counts; failed asks have none.
+fn tell(program: &Program<impl Desk>, bytes: &[u8], told: Told) -> Result<Status, Stop> {
     let decoded = archive::read(bytes);
     if decoded.refusal != 0 {
         report::print_refusal(&program.rt, decoded.refusal)?;
         return Ok(Status::Failed);
     }
-    let stored = decoded.run;
     match told {
-        Told::Apart => {
-            apart::print_sites(&program.rt, stored.network)?;
-            Ok(Status::Done)
+        Told::Apart => apart::print_sites(&program.rt, &decoded.run.network)?,
+        Told::Run(mode) => {
+            let counts = run::trace(&program.rt, &decoded.run, mode)?;
+            if mode != Mode::Why {
+                report::print_line(&program.rt, 0, counts)?;
+            }
         }
-        Told::Run(mode) => ended(program, mode, run::trace(&program.rt, stored, mode)?),
-    }
-}
-
-// The last line of a trace, unless it stopped before, which is said. Failed asks have none.
-fn ended(program: &Program<impl Desk>, mode: Mode, traced: Traced) -> Result<Status> {
-    if traced.stop == run::REFUSED {
-        program.say("an event was refused in a run that the reader accepts");
-        return Ok(Status::Failed);
-    }
-    if mode != Mode::Why {
-        report::print_line(&program.rt, 0, traced.counts)?;
     }
     Ok(Status::Done)
 }

@@ -1,101 +1,186 @@
 // What is seen of a state's places in its words. All use of the layout (crate layout, specs/Layout.antt and Packed.antt)
-// is here. Every function takes any words and any numbers: words that are not there read as 0, and a number beyond its
+// is here. Every method takes any words and any numbers: words that are not there read as 0, and a number beyond its
 // range stands for its remainder.
+ghost use Rattle.std.specs.Prelude.{◌<◌};
 
 use layout::{ARRIVED_FROM, COUNTS_FROM, LEAVING_FROM, OUTPUTS_FROM, SITE_PLACES};
+use std::fmt;
+
+// The state of a net-input.
+#[derive(Clone, Copy, PartialEq, Eq)]
+pub enum State {
+    Free,
+    Seek,
+    Open,
+    Wait,
+    Done,
+    Last,
+    Abort,
+    FinAbort,
+}
+
+impl From<usize> for State {
+    fn from(number: usize) -> State {
+        match number % 8 {
+            0 => State::Free,
+            1 => State::Seek,
+            2 => State::Open,
+            3 => State::Wait,
+            4 => State::Done,
+            5 => State::Last,
+            6 => State::Abort,
+            _ => State::FinAbort,
+        }
+    }
+}
+
+impl fmt::Display for State {
+    fn fmt<W: fmt::Write>(&self, f: &mut fmt::Formatter<W>) -> fmt::Result {
+        f.write_str(match self {
+            State::Free => "free",
+            State::Seek => "seek",
+            State::Open => "open",
+            State::Wait => "wait",
+            State::Done => "done",
+            State::Last => "last",
+            State::Abort => "abort",
+            State::FinAbort => "fin-abort",
+        })
+    }
+}
+
+// How a net-input is connected, by its number.
+#[derive(Clone, Copy)]
+pub struct Connection(usize);
+
+impl fmt::Display for Connection {
+    fn fmt<W: fmt::Write>(&self, f: &mut fmt::Formatter<W>) -> fmt::Result {
+        f.write_str(match self.0 {
+            0 => "none",
+            1 => "unicast",
+            2 => "passthru",
+            3 => "all-remote",
+            4 => "some-local",
+            5 => "handed",
+            6 => "split",
+            _ => "",
+        })
+    }
+}
+
+// The terminator of a net-output, by its number.
+#[derive(Clone, Copy)]
+pub struct Terminator(usize);
+
+impl fmt::Display for Terminator {
+    fn fmt<W: fmt::Write>(&self, f: &mut fmt::Formatter<W>) -> fmt::Result {
+        f.write_str(match self.0 {
+            0 => "none",
+            1 => "end",
+            2 => "abort",
+            _ => "keep-local",
+        })
+    }
+}
 
 // A net-input: bit j of the marks is connected output j.
 #[derive(Clone, Copy)]
 pub struct Input {
-    pub state: usize,
-    pub connection: usize,
-    pub marks: usize,
-    pub packet: usize,
-    pub tries: usize,
+    pub state: State,
+    pub connection: Connection,
+    pub marks: u64,
+    pub packet: u64,
+    pub tries: u64,
 }
 
 // A net-output: its set, whether its head is taken and whether it is closing, its terminator and packet, and the net-input
 // that feeds it.
 #[derive(Clone, Copy)]
 pub struct Output {
-    pub set: usize,
-    pub head: bool,
-    pub closing: bool,
-    pub terminator: usize,
-    pub packet: usize,
+    pub set: u64,
+    pub has_head: bool,
+    pub is_closing: bool,
+    pub terminator: Terminator,
+    pub packet: u64,
     pub feeder: usize,
 }
 
 // An out-queue: its count, its front, and the set of its last entry.
 #[derive(Clone, Copy)]
 pub struct Leaving {
-    pub count: usize,
-    pub started: bool,
-    pub packet: usize,
-    pub last: usize,
+    pub count: u64,
+    pub has_started: bool,
+    pub packet: u64,
+    pub last: u64,
 }
 
-fn word_at(words: &[u64], i: usize) -> usize {
-    if i < words.len() {
-        return words[i] as usize;
+// A state in its words.
+#[derive(Clone, Copy)]
+pub struct Places<'a>(pub &'a [u64]);
+
+impl Places<'_> {
+    // The first word of place k of site s, its set.
+    fn set(self, s: usize, k: usize) -> u64 {
+        self.word(2 * place_of(s, k))
     }
-    0
-}
 
-// The two words of place k of site s: its set, and its small fields.
-fn set_at(words: &[u64], s: usize, k: usize) -> usize {
-    word_at(
-        words,
-        2 * (SITE_PLACES * (s % base::SITES) + k % SITE_PLACES),
-    )
-}
+    // The second, which has its small fields.
+    fn fields(self, s: usize, k: usize) -> u64 {
+        self.word(2 * place_of(s, k) + 1)
+    }
 
-fn fields_at(words: &[u64], s: usize, k: usize) -> usize {
-    word_at(
-        words,
-        2 * (SITE_PLACES * (s % base::SITES) + k % SITE_PLACES) + 1,
-    )
-}
+    fn word(self, i: usize) -> u64 {
+        self.0.get(i).copied().unwrap_or(0)
+    }
 
-// Net-input i of site s.
-pub fn input_at(words: &[u64], s: usize, i: usize) -> Input {
-    let fields = fields_at(words, s, i);
-    Input {
-        state: fields % 8,
-        connection: fields / 8 % 8,
-        marks: fields / 256 % 64,
-        packet: fields / 65536 % 256,
-        tries: fields / 16777216 % 256,
+    // Net-input i of site s.
+    pub fn input(self, s: usize, i: usize) -> Input {
+        let fields = self.fields(s, i);
+        Input {
+            state: State::from(fields as usize),
+            connection: Connection((fields / 8 % 8) as usize),
+            marks: fields / 256 % 64,
+            packet: fields / 65536 % 256,
+            tries: fields / 16777216 % 256,
+        }
+    }
+
+    // Net-output j of site s.
+    pub fn output(self, s: usize, j: usize) -> Output {
+        let k = OUTPUTS_FROM + j % base::OUTPUTS;
+        let fields = self.fields(s, k);
+        Output {
+            set: self.set(s, k),
+            has_head: fields / 2 % 2 == 1,
+            is_closing: fields / 16 % 2 == 1,
+            terminator: Terminator((fields / 4 % 4) as usize),
+            packet: fields / 65536 % 256,
+            feeder: (fields / 256 % 256) as usize,
+        }
+    }
+
+    // The out-queue of site s.
+    pub fn leaving(self, s: usize) -> Leaving {
+        let count = self.set(s, COUNTS_FROM);
+        let fields = self.fields(s, LEAVING_FROM);
+        let last = (count as usize).saturating_sub(1) % base::QUEUE;
+        Leaving {
+            count,
+            has_started: fields % 2 == 1,
+            packet: fields / 256 % 256,
+            last: self.set(s, LEAVING_FROM + last),
+        }
+    }
+
+    // The packet of the front of in-queue m of site s.
+    pub fn arrived(self, s: usize, m: usize) -> u64 {
+        self.fields(s, ARRIVED_FROM + base::QUEUE * (m % base::IN_QUEUES)) / 256 % 256
     }
 }
 
-// Net-output j of site s.
-pub fn output_at(words: &[u64], s: usize, j: usize) -> Output {
-    let k = OUTPUTS_FROM + j % base::OUTPUTS;
-    let fields = fields_at(words, s, k);
-    Output {
-        set: set_at(words, s, k),
-        head: fields / 2 % 2 == 1,
-        closing: fields / 16 % 2 == 1,
-        terminator: fields / 4 % 4,
-        packet: fields / 65536 % 256,
-        feeder: fields / 256 % 256,
-    }
-}
-
-// The out-queue of site s.
-pub fn leaving_at(words: &[u64], s: usize) -> Leaving {
-    let count = set_at(words, s, COUNTS_FROM);
-    let fields = fields_at(words, s, LEAVING_FROM);
-    Leaving {
-        count,
-        started: fields % 2 == 1,
-        packet: fields / 256 % 256,
-        last: set_at(words, s, LEAVING_FROM + base::one_less(count) % base::QUEUE),
-    }
-}
-
-// The packet of the front of in-queue m of site s.
-pub fn arrived_at(words: &[u64], s: usize, m: usize) -> usize {
-    fields_at(words, s, ARRIVED_FROM + base::QUEUE * (m % base::IN_QUEUES)) / 256 % 256
+// Place k of site s among those of all sites.
+fn place_of(s: usize, k: usize) -> usize
+    ensures { result < 131072 }
+{
+    SITE_PLACES * (s % base::SITES) + k % SITE_PLACES
 }
