@@ -6,8 +6,8 @@
 
 mod asked;
 
-use archive::Written;
 use asked::{Asked, Way};
+use base::Refusal;
 use front::{Desk, Program, Status, Usage};
 use std::fmt;
 
@@ -17,11 +17,11 @@ const USAGE: Usage = Usage {
         and writes the moved bytes to standard output.\n",
 };
 
-// How a move ended: the status, or the number of a refusal.
+// How a move ended: the status, or a refusal.
 #[derive(Clone, Copy)]
 enum Ended {
     With(Status),
-    Refused(u8),
+    Refused(Refusal),
 }
 
 // The line `STATUS REFUSAL` for the front, without its newline; 0 is no refusal.
@@ -29,7 +29,7 @@ impl fmt::Display for Ended {
     fn fmt<W: fmt::Write>(&self, f: &mut fmt::Formatter<W>) -> fmt::Result {
         match self {
             Ended::With(status) => write!(f, "{status} 0"),
-            Ended::Refused(number) => write!(f, "{} {number}", Status::Failed),
+            Ended::Refused(refusal) => write!(f, "{} {refusal}", Status::Failed),
         }
     }
 }
@@ -44,9 +44,9 @@ fn answer(program: &Program<impl Desk>) -> Ended {
         Ok(asked) => move_archive(program, asked),
         Err(why) => Ended::With(program.show_usage(why, USAGE)),
     };
-    if let Ended::Refused(number) = ended {
+    if let Ended::Refused(refusal) = ended {
         if !program.is_fronted() {
-            program.say(format_args!("refused {number}"));
+            program.say(format_args!("refused {refusal}"));
         }
     }
     ended
@@ -59,14 +59,13 @@ fn move_archive(program: &Program<impl Desk>, asked: Asked) -> Ended {
         return Ended::With(Status::Failed);
     };
     let mut room = [0u8; format::LONGEST];
-    let written = moved(asked.way, &bytes[..n], &mut room);
-    if written.refusal != 0 {
-        return Ended::Refused(written.refusal);
+    match moved(asked.way, &bytes[..n], &mut room) {
+        Ok(length) => Ended::With(put_out(program, &room, length)),
+        Err(refusal) => Ended::Refused(refusal),
     }
-    Ended::With(put_out(program, &room, written.length))
 }
 
-fn moved(way: Way, bytes: &[u8], room: &mut [u8]) -> Written {
+fn moved(way: Way, bytes: &[u8], room: &mut [u8]) -> Result<usize, Refusal> {
     match way {
         Way::Over => archive::move_over(bytes, room),
         Way::Back => archive::move_back(bytes, room),

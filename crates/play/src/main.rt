@@ -3,6 +3,7 @@
 // cannot be read or written is told on standard error. Assumes nothing of the file.
 #![tactic(auto)]
 
+use base::Refusal;
 use front::{Desk, NoWork, Program, Status, Usage, Words};
 use std::io::Print;
 use types::Counts;
@@ -42,19 +43,27 @@ fn play(program: &Program<impl Desk>, file: Option<usize>) -> Status {
     };
     let mut book = [0u8; report::BOOK];
     let played = machine::play(&bytes[..n], &mut book);
-    if let Err(error) = print_played(&program.rt, &book, played.refusal, played.counts) {
+    if let Err(error) = print_played(&program.rt, &book, played) {
         program.no_output(error);
         return Status::Failed;
     }
-    if played.refusal == 0 {
-        Status::Done
-    } else {
-        Status::Failed
+    match played {
+        Ok(_) => Status::Done,
+        Err(_) => Status::Failed,
     }
 }
 
 // The services of the book, then the line of the answer.
-fn print_played(out: &impl Print, book: &[u8], refusal: u8, counts: Counts) -> std::io::Result<()> {
-    report::print_services(out, book, counts.serviced)?;
-    report::print_line(out, refusal, counts)
+fn print_played(
+    out: &impl Print,
+    book: &[u8],
+    played: Result<Counts, Refusal>,
+) -> std::io::Result<()> {
+    match played {
+        Ok(counts) => {
+            report::print_services(out, book, counts.serviced)?;
+            report::print_line(out, 0, counts)
+        }
+        Err(refusal) => report::print_refusal(out, u8::from(refusal)),
+    }
 }

@@ -20,7 +20,7 @@ use Rattle.report.proofs.Puts.{front_counts}
 use Rattle.latency.specs.Latency.{Latencies}
 use Rattle.quote.specs.Text.{half_line, whole_line, value_line, value_lines, latencies_text, text_most}
 use Rattle.quote.specs.Text.{latencies_of, quote_text, quote_of}
-use Rattle.quote.specs.declared.text.Quoted.{Quoted}
+use Rattle.quote.specs.Text.{Quoted}
 
 -- ---- a line
 

@@ -2,9 +2,9 @@
 -- is. Assumes nothing.
 use Rattle.std.specs.Prelude.{ℕ, ◌/◌, ◌%◌, Bool, cond, List, [], ◌++◌, eqb, length, get_or}
 use Rattle.lines.specs.Text.{ascii, decimal, refused_line}
-use Rattle.latency.specs.Latency.{latencies}
-use Rattle.latency.specs.Latency.{Latencies}
-use Rattle.quote.specs.declared.text.Quoted.{Quoted}
+use Rattle.latency.specs.Latency.{Latencies, latencies}
+use Rattle.base.specs.Refusals.{number_of}
+use Rattle.quote.specs.declared.text.Quoted.{Quoted as Said}
 
 -- the half of v: `40` for 80, `89.5` for 179
 unfoldable pub half_line : ℕ → List ℕ
@@ -41,6 +41,14 @@ unfoldable pub quote_text : Bool → List ℕ → List ℕ
 quote_text doubled numbers = latencies_text doubled (latencies_of numbers)
 
 -- the refusal, and how many bytes the text has
+pub record Quoted : Type 0 where
+  pub refusal : ℕ
+  pub count : ℕ
+
+-- what the code answers in these words
+abbrev pub told_quoted : Said → Quoted
+told_quoted q = record { refusal = number_of q.refused; count = q.count }
+
 unfoldable pub quote_of : Bool → List ℕ → Quoted
 quote_of doubled numbers =
     record { refusal = (latencies_of numbers).refusal; count = length (quote_text doubled numbers) }

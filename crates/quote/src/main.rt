@@ -35,7 +35,7 @@ fn answer(program: &Program<impl Desk>) -> Status {
 fn print_quote(program: &Program<impl Desk>, asked: Asked) -> Status {
     let mut room = [0u8; text::TEXT];
     let quoted = text::quote(asked.numbers, asked.doubled, &mut room);
-    if program.print(&room[..quoted.count]) && quoted.refusal == 0 {
+    if program.print(&room[..quoted.count]) && quoted.refused.is_none() {
         Status::Done
     } else {
         Status::Failed

@@ -3,6 +3,7 @@
 use mathlib.Core.Path.{refl}
 use Rattle.settled.specs.Outcomes.{Settles}
 use Rattle.settled.proofs.Shown.{settled, value, beside, behind, inputs, same}
+use Rattle.settled.proofs.Told.{play_by}
 use Rattle.callers.specs.contracts.run as the_run
 use Rattle.callers.specs.contracts.send as the_send
 use Rattle.callers.specs.contracts.play as the_play
@@ -20,7 +21,7 @@ send_settled = settled (λ κs a x y p q. refl) (λ κs a x y p q i. (same p q i
 -- the answer, and every byte of the lent `book`
 pub play_settled : Settles the_play.ended (λ M 𝓤. the_play.clauses) (λ M 𝓤. the_play.spec)
 play_settled = settled (λ κs a. beside value (beside (behind (inputs the_play.ended κs).1.0) value))
-    (λ κs a x y p q i. (same p.0 q.0 i, (tt, (same p.1 q.1 i, tt))))
+    (λ κs a x y p q i. (play_by x.0 y.0 (same p.0 q.0) i, (tt, (same p.1 q.1 i, tt))))
 
 -- the answer, every byte of the lent `book`, every byte of the lent `beside`
 pub play_beside_settled : Settles the_play_beside.ended (λ M 𝓤. the_play_beside.clauses) (λ M 𝓤. the_play_beside.spec)
@@ -28,7 +29,7 @@ play_beside_settled = settled
     (λ κs a.
     let i = inputs the_play_beside.ended κs in
     beside value (beside (behind i.1.0) (beside (behind i.1.1.0) value)))
-    (λ κs a x y p q i. (same p.0 q.0 i, (tt, (same p.1 q.1 i, (same p.2 q.2 i, tt)))))
+    (λ κs a x y p q i. (play_by x.0 y.0 (same p.0 q.0) i, (tt, (same p.1 q.1 i, (same p.2 q.2 i, tt)))))
 
 -- the second answer and the state after it
 pub two_draws_settled : Settles the_two_draws.ended (λ M 𝓤. the_two_draws.clauses) (λ M 𝓤. the_two_draws.spec)

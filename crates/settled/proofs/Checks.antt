@@ -3,6 +3,7 @@
 use mathlib.Core.Path.{refl}
 use Rattle.settled.specs.Outcomes.{Settles}
 use Rattle.settled.proofs.Shown.{settled, same}
+use Rattle.settled.proofs.Told.{refusal_by}
 use Rattle.checks.specs.contracts.network_refusal as the_network_refusal
 use Rattle.checks.specs.contracts.is_in_range as the_is_in_range
 use Rattle.checks.specs.contracts.event_refusal as the_event_refusal
@@ -17,7 +18,7 @@ use Rattle.checks.specs.contracts.kind_refusal as the_kind_refusal
 use Rattle.checks.specs.contracts.far_apart as the_far_apart
 
 pub network_refusal_settled : Settles the_network_refusal.ended (λ M 𝓤. the_network_refusal.clauses) (λ M 𝓤. the_network_refusal.spec)
-network_refusal_settled = settled (λ κs a x y p q. refl) (λ κs a x y p q i. (same p q i, x.1))
+network_refusal_settled = settled (λ κs a x y p q. refl) (λ κs a x y p q i. (refusal_by x.0 y.0 (same p q) i, x.1))
 
 pub is_in_range_settled : Settles the_is_in_range.ended (λ M 𝓤. the_is_in_range.clauses) (λ M 𝓤. the_is_in_range.spec)
 is_in_range_settled = settled (λ κs a x y p q. refl) (λ κs a x y p q i. (same p q i, x.1))
@@ -26,10 +27,10 @@ pub place_ok_settled : Settles the_place_ok.ended (λ M 𝓤. the_place_ok.claus
 place_ok_settled = settled (λ κs a x y p q. refl) (λ κs a x y p q i. (same p q i, x.1))
 
 pub event_refusal_settled : Settles the_event_refusal.ended (λ M 𝓤. the_event_refusal.clauses) (λ M 𝓤. the_event_refusal.spec)
-event_refusal_settled = settled (λ κs a x y p q. refl) (λ κs a x y p q i. (same p q i, x.1))
+event_refusal_settled = settled (λ κs a x y p q. refl) (λ κs a x y p q i. (refusal_by x.0 y.0 (same p q) i, x.1))
 
 pub send_fault_settled : Settles the_send_fault.ended (λ M 𝓤. the_send_fault.clauses) (λ M 𝓤. the_send_fault.spec)
-send_fault_settled = settled (λ κs a x y p q. refl) (λ κs a x y p q i. (same p q i, x.1))
+send_fault_settled = settled (λ κs a x y p q. refl) (λ κs a x y p q i. (refusal_by x.0 y.0 (same p q) i, x.1))
 
 pub sizes_ok_settled : Settles the_sizes_ok.ended (λ M 𝓤. the_sizes_ok.clauses) (λ M 𝓤. the_sizes_ok.spec)
 sizes_ok_settled = settled (λ κs a x y p q. refl) (λ κs a x y p q i. (same p q i, x.1))
@@ -47,7 +48,7 @@ pub stored_ok_settled : Settles the_stored_ok.ended (λ M 𝓤. the_stored_ok.cl
 stored_ok_settled = settled (λ κs a x y p q. refl) (λ κs a x y p q i. (same p q i, x.1))
 
 pub kind_refusal_settled : Settles the_kind_refusal.ended (λ M 𝓤. the_kind_refusal.clauses) (λ M 𝓤. the_kind_refusal.spec)
-kind_refusal_settled = settled (λ κs a x y p q. refl) (λ κs a x y p q i. (same p q i, x.1))
+kind_refusal_settled = settled (λ κs a x y p q. refl) (λ κs a x y p q i. (refusal_by x.0 y.0 (same p q) i, x.1))
 
 pub far_apart_settled : Settles the_far_apart.ended (λ M 𝓤. the_far_apart.clauses) (λ M 𝓤. the_far_apart.spec)
 far_apart_settled = settled (λ κs a x y p q. refl) (λ κs a x y p q i. (same p q i, x.1))

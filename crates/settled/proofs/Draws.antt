@@ -3,6 +3,7 @@
 use mathlib.Core.Path.{refl}
 use Rattle.settled.specs.Outcomes.{Settles}
 use Rattle.settled.proofs.Shown.{settled, same}
+use Rattle.settled.proofs.Told.{event_by}
 use Rattle.draws.specs.contracts.draw as the_draw
 use Rattle.draws.specs.contracts.is_restricted as the_is_restricted
 use Rattle.draws.specs.contracts.codes_in as the_codes_in
@@ -18,4 +19,4 @@ pub codes_in_settled : Settles the_codes_in.ended (λ M 𝓤. the_codes_in.claus
 codes_in_settled = settled (λ κs a x y p q. refl) (λ κs a x y p q i. (same p q i, x.1))
 
 pub event_of_settled : Settles the_event_of.ended (λ M 𝓤. the_event_of.clauses) (λ M 𝓤. the_event_of.spec)
-event_of_settled = settled (λ κs a x y p q. refl) (λ κs a x y p q i. (same p q i, x.1))
+event_of_settled = settled (λ κs a x y p q. refl) (λ κs a x y p q i. (event_by x.0 y.0 (same p q) i, x.1))

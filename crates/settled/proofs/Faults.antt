@@ -3,6 +3,7 @@
 use mathlib.Core.Path.{refl}
 use Rattle.settled.specs.Outcomes.{Settles}
 use Rattle.settled.proofs.Shown.{settled, same}
+use Rattle.settled.proofs.Told.{fault_by}
 use Rattle.faults.specs.contracts.find as the_find
 use Rattle.faults.specs.contracts.size_of as the_size_of
 use Rattle.faults.specs.contracts.fields_place as the_fields_place
@@ -13,7 +14,7 @@ use Rattle.faults.specs.contracts.edition_of as the_edition_of
 use Rattle.faults.specs.contracts.channel_of as the_channel_of
 
 pub find_settled : Settles the_find.ended (λ M 𝓤. the_find.clauses) (λ M 𝓤. the_find.spec)
-find_settled = settled (λ κs a x y p q. refl) (λ κs a x y p q i. (same p q i, x.1))
+find_settled = settled (λ κs a x y p q. refl) (λ κs a x y p q i. (fault_by x.0 y.0 (same p q) i, x.1))
 
 pub size_of_settled : Settles the_size_of.ended (λ M 𝓤. the_size_of.clauses) (λ M 𝓤. the_size_of.spec)
 size_of_settled = settled (λ κs a x y p q. refl) (λ κs a x y p q i. (same p q i, x.1))

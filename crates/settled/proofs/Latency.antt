@@ -3,7 +3,8 @@
 use mathlib.Core.Path.{refl}
 use Rattle.settled.specs.Outcomes.{Settles}
 use Rattle.settled.proofs.Shown.{settled, same}
+use Rattle.settled.proofs.Told.{latencies_by}
 use Rattle.latency.specs.contracts.uncontended as the_uncontended
 
 pub uncontended_settled : Settles the_uncontended.ended (λ M 𝓤. the_uncontended.clauses) (λ M 𝓤. the_uncontended.spec)
-uncontended_settled = settled (λ κs a x y p q. refl) (λ κs a x y p q i. (same p q i, x.1))
+uncontended_settled = settled (λ κs a x y p q. refl) (λ κs a x y p q i. (latencies_by x.0 y.0 (same p q) i, x.1))

@@ -2,6 +2,7 @@
 -- `use` line of its contract, the statement and the proof, in the file of its crate; of a further crate: a file of its own,
 -- named here.
 pub mod Shown
+pub mod Told
 pub mod Base
 pub mod Sets
 pub mod Draws

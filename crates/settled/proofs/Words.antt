@@ -8,6 +8,7 @@ use Rattle.types.specs.declared.RunAnswer.{RunAnswer}
 use Rattle.layout.specs.Public.{RanWords, SentWords}
 use Rattle.settled.specs.Outcomes.{Settles}
 use Rattle.settled.proofs.Shown.{settled, value, beside, behind, inputs, same}
+use Rattle.settled.proofs.Told.{play_by, owed_by}
 use Rattle.words.specs.contracts.owed as the_owed
 use Rattle.words.specs.contracts.play as the_play
 use Rattle.words.specs.contracts.run as the_run
@@ -17,7 +18,7 @@ use Rattle.words.specs.contracts.write_empty as the_write_empty
 -- the answer, and every byte of the lent `book`
 pub play_settled : Settles the_play.ended (λ M 𝓤. the_play.clauses) (λ M 𝓤. the_play.spec)
 play_settled = settled (λ κs a. beside value (beside (behind (inputs the_play.ended κs).1.0) value))
-    (λ κs a x y p q i. (same p.0 q.0 i, (tt, (same p.1 q.1 i, tt))))
+    (λ κs a x y p q i. (play_by x.0 y.0 (same p.0 q.0) i, (tt, (same p.1 q.1 i, tt))))
 
 -- the answer with the outputs in the way, and every one of the lent `words`
 pub run_settled : Settles the_run.ended (λ M 𝓤. the_run.clauses) (λ M 𝓤. the_run.spec)
@@ -42,4 +43,4 @@ write_empty_settled = settled (λ κs a. beside (behind (inputs the_write_empty.
     (λ κs a x y p q i. (same p.0 q.0 i, (same p.1 q.1 i, tt)))
 
 pub owed_settled : Settles the_owed.ended (λ M 𝓤. the_owed.clauses) (λ M 𝓤. the_owed.spec)
-owed_settled = settled (λ κs a x y p q. refl) (λ κs a x y p q i. (same p q i, x.1))
+owed_settled = settled (λ κs a x y p q. refl) (λ κs a x y p q i. (owed_by x.0 y.0 (same p q) i, x.1))

@@ -49,15 +49,17 @@ fn trace_file(program: &Program<impl Desk>, work: Work) -> Status {
 
 // Tells it of the run that the bytes hold. The last line has the counts; failed asks have none.
 fn tell(program: &Program<impl Desk>, bytes: &[u8], told: Told) -> Result<Status, Stop> {
-    let decoded = archive::read(bytes);
-    if decoded.refusal != 0 {
-        report::print_refusal(&program.rt, decoded.refusal)?;
-        return Ok(Status::Failed);
-    }
+    let run = match archive::read(bytes) {
+        Ok(run) => run,
+        Err(refusal) => {
+            report::print_refusal(&program.rt, u8::from(refusal))?;
+            return Ok(Status::Failed);
+        }
+    };
     match told {
-        Told::Apart => apart::print_sites(&program.rt, &decoded.run.network)?,
+        Told::Apart => apart::print_sites(&program.rt, &run.network)?,
         Told::Run(mode) => {
-            let counts = run::trace(&program.rt, &decoded.run, mode)?;
+            let counts = run::trace(&program.rt, &run, mode)?;
             if mode != Mode::Why {
                 report::print_line(&program.rt, 0, counts)?;
             }

@@ -5,6 +5,7 @@ use crate::change::{Change, Target};
 use crate::places::Places;
 use crate::printed::{DrawLine, SendLine, print};
 use crate::why::{Ask, Times};
+use base::Refusal;
 use layout::WORDS;
 use machine::Clock;
 use std::io::{Error, Print};
@@ -28,6 +29,12 @@ pub enum Stop {
 impl From<Error> for Stop {
     fn from(error: Error) -> Stop {
         Stop::Unwritten(error)
+    }
+}
+
+impl From<Refusal> for Stop {
+    fn from(_refusal: Refusal) -> Stop {
+        Stop::Refused
     }
 }
 
@@ -80,15 +87,12 @@ impl<P: Print> Tracer<'_, P> {
         for _ in 0..turns {
             self.turn()?;
         }
-        let left = words::owed(&self.state);
-        if left.refusal != 0 {
-            return Err(Stop::Refused);
-        }
+        let owed = words::owed(&self.state)?;
         if self.mode == Mode::Why {
             self.times.print(self.out)?;
         }
         Ok(Counts {
-            owed: left.pairs,
+            owed,
             ..self.counts
         })
     }
@@ -145,9 +149,9 @@ impl<P: Print> Tracer<'_, P> {
     fn draw(&mut self) -> Result<(), Stop> {
         let network = &self.run.network;
         let ticked = machine::ticked(self.clock);
-        let named = draws::event_of(ticked.value, network.sites, network.edition);
-        let ran = words::run(*network, &mut self.state, named.site, named.code);
-        self.tell(named.site, named.code, ran)?;
+        let event = draws::event_of(ticked.value, network.sites, network.edition)?;
+        let ran = words::run(*network, &mut self.state, event.site, event.code);
+        self.tell(event.site, event.code, ran)?;
         if let Ran::Serviced(_, _) = ran.answer {
             self.counts.serviced = self.counts.serviced.wrapping_add(1);
         }
