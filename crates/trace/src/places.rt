@@ -1,6 +1,6 @@
-// What is seen of a state's places in its words. All use of the layout (crate layout, specs/Layout.antt and Packed.antt)
-// is here. Every method takes any words and any numbers: words that are not there read as 0, and a number beyond its
-// range stands for its remainder.
+// What is seen of a state's places in its words. All use of the layout (crate layout, specs/Layout.antt and
+// Packed.antt) is here. Every method takes any words and any numbers: words that are not there read as 0, and a number
+// beyond its range stands for its remainder.
 ghost use Rattle.std.specs.Prelude.{◌<◌};
 
 use layout::{ARRIVED_FROM, COUNTS_FROM, LEAVING_FROM, OUTPUTS_FROM, SITE_PLACES};
@@ -112,8 +112,8 @@ pub struct Input {
     pub tries: u64,
 }
 
-// A net-output: its set, whether its head is taken and whether it is closing, its terminator and packet, and the net-input
-// that feeds it.
+// A net-output: its set, whether its head is taken and whether it is closing, its terminator and packet, and the
+// net-input that feeds it.
 #[derive(Clone, Copy)]
 pub struct Output {
     pub set: u64,
