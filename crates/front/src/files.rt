@@ -18,9 +18,9 @@ fn read_named(rt: &impl Files, name: &[u8], room: &mut [u8]) -> Result<usize>
 }
 
 impl<R: Desk> Program<R> {
-    // Reads the file of this name, as far as the room goes, and answers how many bytes stand at the front of it. If that
-    // cannot be done, says why on standard error. FIFOs, devices, sockets and folders are not opened: they cannot be read to
-    // an end.
+    // Reads the file of this name, as far as the room goes, and answers how many bytes stand at the front of it. If
+    // that cannot be done, says why on standard error. FIFOs, devices, sockets and folders are not opened: they cannot
+    // be read to an end.
     pub fn read_file(&self, name: &[u8], room: &mut [u8]) -> Option<usize>
         ensures { IfSome result (λ count. Front count room.new) }
     {

@@ -1,5 +1,5 @@
-// Messages on standard error: each begins with the name of the program, and a name in it is shown as on standard output, on
-// one line. The usage.
+// Messages on standard error: each begins with the name of the program, and a name in it is shown as on standard
+// output, on one line. The usage.
 ghost use Rattle.std.specs.Prelude.{◌≤◌, length, IfSome};
 
 use crate::desk::Desk;
@@ -93,7 +93,8 @@ impl<R: Desk> Program<R> {
         self.put(line.as_bytes());
     }
 
-    // `NAME: FILE what: why` with the system's words for the error, also where the file's name fills the room of a message.
+    // `NAME: FILE what: why` with the system's words for the error, also where the file's name fills the room of a
+    // message.
     fn say_system(&self, file: &[u8], what: &str, error: Error) {
         let mut told = self.message();
         told.add_name(file);
@@ -144,8 +145,8 @@ impl<R: Desk> Program<R> {
         to.write_all(usage.meaning.as_bytes())
     }
 
-    // Prints the usage in place of work: for help on standard output; behind the message of wrong use on standard error, or
-    // not at all where it cannot be written.
+    // Prints the usage in place of work: for help on standard output; behind the message of wrong use on standard
+    // error, or not at all where it cannot be written.
     pub fn show_usage(&self, why: NoWork, usage: Usage) -> Status {
         match why {
             NoWork::Help => match self.print_usage(&self.rt, usage) {

@@ -1,5 +1,5 @@
-// A program as it was called: `PROGRAM [--front NAME] WORDS..`. Behind `--front` messages begin with NAME, and at its end
-// the program writes a line of numbers to descriptor 3, the first of them its status.
+// A program as it was called: `PROGRAM [--front NAME] WORDS..`. Behind `--front` messages begin with NAME, and at its
+// end the program writes a line of numbers to descriptor 3, the first of them its status.
 ghost use Rattle.io.specs.Counts.{IsPrefixLen as Front};
 
 use crate::desk::Desk;
@@ -15,8 +15,8 @@ const NUMBERS: i32 = 3;
 
 const NUMBERS_ROOM: usize = 128;
 
-// The system; the name that messages begin with; whether the front called; the number of the first word of the program's
-// own.
+// The system; the name that messages begin with; whether the front called; the number of the first word of the
+// program's own.
 #[derive(Drop)]
 pub struct Program<R> {
     pub rt: R,
@@ -39,8 +39,8 @@ pub fn run<R: Desk + Drop, A: Display + Drop, F: FnOnce(&Program<R>) -> A>(
 }
 
 impl<R: Desk> Program<R> {
-    // The program of this name, as it was called. Its messages begin with NAME, or with its own name where NAME is empty or
-    // does not fit.
+    // The program of this name, as it was called. Its messages begin with NAME, or with its own name where NAME is
+    // empty or does not fit.
     fn called(rt: R, own: &str) -> Self {
         let is_fronted = is_word(&rt, 1, "--front");
         let given = if is_fronted { name_at(&rt, 2) } else { None };
@@ -80,8 +80,8 @@ impl<R: Desk> Program<R> {
         }
     }
 
-    // Takes the words of the program's own one after the other into what they ask for, as `take` says of a word, its number
-    // and what was asked for before it. Of a word that is longer than the room only its first bytes are seen.
+    // Takes the words of the program's own one after the other into what they ask for, as `take` says of a word, its
+    // number and what was asked for before it. Of a word that is longer than the room only its first bytes are seen.
     pub fn fold_words<T, F: FnMut(T, usize, &[u8]) -> T>(
         &self,
         room: &mut [u8],

@@ -1,5 +1,5 @@
-// The words of a program: names and options. `--` ends the options, and a word that begins with `-` before it, if it has a
-// second byte, is one.
+// The words of a program: names and options. `--` ends the options, and a word that begins with `-` before it, if it
+// has a second byte, is one.
 use crate::desk::Desk;
 use crate::program::Program;
 
@@ -19,8 +19,8 @@ pub struct Words {
 }
 
 impl Words {
-    // The words of a program that has no options of its own. What comes behind a call for help or a wrong word is not looked
-    // at.
+    // The words of a program that has no options of its own. What comes behind a call for help or a wrong word is not
+    // looked at.
     pub fn of(program: &Program<impl Desk>) -> Result<Words, NoWork> {
         let mut room = io::buffer();
         program.fold_words(

@@ -33,8 +33,8 @@ impl Asked {
         Ok(asked)
     }
 
-    // With one more word, argument i: `--doubled`, what the programs share, or a number. To `Words` one that does not begin
-    // with two dashes is as good as the empty word, a name.
+    // With one more word, argument i: `--doubled`, what the programs share, or a number. To `Words` one that does not
+    // begin with two dashes is as good as the empty word, a name.
     fn with(self, program: &Program<impl Desk>, i: usize, word: &[u8]) -> Result<Asked, NoWork> {
         let mut asked = self;
         if !self.words.is_ended && word == b"--doubled".as_slice() {

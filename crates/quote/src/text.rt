@@ -1,4 +1,5 @@
 // The text of the four latencies, composed in lent bytes, so that it goes out by one write. specs/Text.antt has it.
+// (Places are handed on, and no `Line` of `front` is filled: the clauses settle each byte by those of `report`.)
 ghost use Rattle.std.specs.Prelude.{◌≡◌, ◌++◌, length};
 ghost use Rattle.io.specs.Counts.{IsPrefixLen as Front};
 ghost use Rattle.base.specs.Answers.{at_front};

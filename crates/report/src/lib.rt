@@ -86,6 +86,7 @@ pub fn read_seen(from: &mut impl Read, room: &mut [u8]) -> Result<usize>
 
 // Prints the lines of the first `count` services of a book, as far as the book has them, many in one write and no line
 // in two. Stops at a write that fails.
+// (No `for`: a turn prints as many services as surely fit, and `service_lines` answers how many these were.)
 pub fn print_services(out: &impl Print, book: &[u8], count: usize) -> Result<()> {
     let n = least(count, book.len() / 4);
     let mut text = io::buffer();

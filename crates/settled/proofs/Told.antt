@@ -1,21 +1,21 @@
 -- An answer of the code is settled by what it is in the words of the definitions: from these it can be made again. Assumes
 -- nothing.
-use Rattle.std.specs.Prelude.{◌≡◌, refl, true, false, cond, ℕ, eqb, Option, Some, None, Result, Ok, Err}
+use Rattle.std.specs.Prelude.{◌≡◌, refl, cond, ℕ, eqb, Option, Some, None, Result, Ok, Err}
 use Rattle.std.proofs.Common.{sym, ap, ◌∙◌}
 use Rattle.base.specs.declared.refusal.Refusal.{Refusal}
 use Rattle.base.specs.Refusals.{number, number_of, number_some, of_number, numbered, refusal_of}
 use Rattle.types.specs.declared.Run.{Run}
 use Rattle.types.specs.declared.Counts.{Counts}
 use Rattle.draws.specs.declared.Event.{Event}
-use Rattle.draws.specs.Draws.{DrawnEvent, told as told_event}
+use Rattle.draws.specs.Draws.{told as told_event}
 use Rattle.latency.specs.declared.Latencies.{Latencies as Four}
-use Rattle.latency.specs.Latency.{Latencies, told as told_latencies}
+use Rattle.latency.specs.Latency.{told as told_latencies}
 use Rattle.format.specs.declared.Fault.{Fault as Found}
 use Rattle.format.specs.Faults.{Fault, told_fault}
-use Rattle.format.specs.Refusals.{Decoded, Written, told_run, told_length}
+use Rattle.format.specs.Refusals.{Decoded, told_run, told_length}
 use Rattle.machine.specs.declared.player.Started.{Started}
-use Rattle.machine.specs.Play.{PlayAnswer, told_play, told_start}
-use Rattle.words.specs.Owing.{OwedAnswer, told_owed}
+use Rattle.machine.specs.Play.{told_play, told_start}
+use Rattle.words.specs.Owing.{told_owed}
 
 -- a Result, of which f tells the refusal's number, 0 for none, and g the value
 module _ {T S : Type 0} (told : Result T Refusal → S) (f : S → ℕ) (g : S → T)

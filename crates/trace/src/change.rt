@@ -1,5 +1,5 @@
-// What a RUN changed, in the words of docs/TRACE.md: what became of the component that its code names, as it is seen in the
-// words before and after the event.
+// What a RUN changed, in the words of docs/TRACE.md: what became of the component that its code names, as it is seen in
+// the words before and after the event.
 use crate::places::State::{Free, Seek};
 use crate::places::{Input, Output, Places};
 use crate::printed::Set;
@@ -20,8 +20,8 @@ impl Display for Target {
     }
 }
 
-// A RUN with this code at a site, its answer, and the state before and after it. `tries` is the network's T; `target` is at
-// the end of the channel of the net-output which a code from 6 to 9 names.
+// A RUN with this code at a site, its answer, and the state before and after it. `tries` is the network's T; `target`
+// is at the end of the channel of the net-output which a code from 6 to 9 names.
 #[derive(Clone, Copy)]
 pub struct Change<'a> {
     pub tries: u8,

@@ -1,6 +1,6 @@
 // Tells what happened in a stored run: `trace [--front NAME] [--all | --why | --apart] [--] FILE`. docs/TRACE.md has
-// the lines. The run is played by the public single events on lent words, one after the other, each with all its checks;
-// with --apart nothing is played. Assumes nothing of the file.
+// the lines. The run is played by the public single events on lent words, one after the other, each with all its
+// checks; with --apart nothing is played. Assumes nothing of the file.
 #![tactic(auto)]
 
 mod apart;

@@ -1,12 +1,13 @@
-// What is seen of a state's places in its words. All use of the layout (crate layout, specs/Layout.antt and Packed.antt)
-// is here. Every method takes any words and any numbers: words that are not there read as 0, and a number beyond its
-// range stands for its remainder.
+// What is seen of a state's places in its words. All use of the layout (crate layout, specs/Layout.antt and
+// Packed.antt) is here. Every method takes any words and any numbers: words that are not there read as 0, and a number
+// beyond its range stands for its remainder.
 ghost use Rattle.std.specs.Prelude.{◌<◌};
 
 use layout::{ARRIVED_FROM, COUNTS_FROM, LEAVING_FROM, OUTPUTS_FROM, SITE_PLACES};
 use std::fmt;
+use types::{Connection, Terminator};
 
-// The state of a net-input.
+// The state of a net-input, without what `types::Phase` has beside it.
 #[derive(Clone, Copy, PartialEq, Eq)]
 pub enum State {
     Free,
@@ -19,8 +20,8 @@ pub enum State {
     FinAbort,
 }
 
-impl From<usize> for State {
-    fn from(number: usize) -> State {
+impl From<u64> for State {
+    fn from(number: u64) -> State {
         match number % 8 {
             0 => State::Free,
             1 => State::Seek,
@@ -49,37 +50,55 @@ impl fmt::Display for State {
     }
 }
 
-// How a net-input is connected, by its number.
+// A connection or a terminator, displayed by its word.
 #[derive(Clone, Copy)]
-pub struct Connection(usize);
+pub struct Word<T>(T);
 
-impl fmt::Display for Connection {
+impl fmt::Display for Word<Option<Connection>> {
     fn fmt<W: fmt::Write>(&self, f: &mut fmt::Formatter<W>) -> fmt::Result {
         f.write_str(match self.0 {
-            0 => "none",
-            1 => "unicast",
-            2 => "passthru",
-            3 => "all-remote",
-            4 => "some-local",
-            5 => "handed",
-            6 => "split",
-            _ => "",
+            None => "none",
+            Some(Connection::Unicast) => "unicast",
+            Some(Connection::Passthru) => "passthru",
+            Some(Connection::AllRemote) => "all-remote",
+            Some(Connection::SomeLocal) => "some-local",
+            Some(Connection::Handed) => "handed",
+            Some(Connection::Branch) => "split",
         })
     }
 }
 
-// The terminator of a net-output, by its number.
-#[derive(Clone, Copy)]
-pub struct Terminator(usize);
-
-impl fmt::Display for Terminator {
+impl fmt::Display for Word<Terminator> {
     fn fmt<W: fmt::Write>(&self, f: &mut fmt::Formatter<W>) -> fmt::Result {
         f.write_str(match self.0 {
-            0 => "none",
-            1 => "end",
-            2 => "abort",
-            _ => "keep-local",
+            Terminator::None => "none",
+            Terminator::End => "end",
+            Terminator::Abort => "abort",
+            Terminator::KeepLocal => "keep-local",
         })
+    }
+}
+
+// The connection of this number; 0 is none.
+fn connection_of(number: u64) -> Option<Connection> {
+    match number {
+        1 => Some(Connection::Unicast),
+        2 => Some(Connection::Passthru),
+        3 => Some(Connection::AllRemote),
+        4 => Some(Connection::SomeLocal),
+        5 => Some(Connection::Handed),
+        6 => Some(Connection::Branch),
+        _ => None,
+    }
+}
+
+// The terminator of this number.
+fn terminator_of(number: u64) -> Terminator {
+    match number % 4 {
+        0 => Terminator::None,
+        1 => Terminator::End,
+        2 => Terminator::Abort,
+        _ => Terminator::KeepLocal,
     }
 }
 
@@ -87,20 +106,20 @@ impl fmt::Display for Terminator {
 #[derive(Clone, Copy)]
 pub struct Input {
     pub state: State,
-    pub connection: Connection,
+    pub connection: Word<Option<Connection>>,
     pub marks: u64,
     pub packet: u64,
     pub tries: u64,
 }
 
-// A net-output: its set, whether its head is taken and whether it is closing, its terminator and packet, and the net-input
-// that feeds it.
+// A net-output: its set, whether its head is taken and whether it is closing, its terminator and packet, and the
+// net-input that feeds it.
 #[derive(Clone, Copy)]
 pub struct Output {
     pub set: u64,
     pub has_head: bool,
     pub is_closing: bool,
-    pub terminator: Terminator,
+    pub terminator: Word<Terminator>,
     pub packet: u64,
     pub feeder: usize,
 }
@@ -137,8 +156,8 @@ impl Places<'_> {
     pub fn input(self, s: usize, i: usize) -> Input {
         let fields = self.fields(s, i);
         Input {
-            state: State::from(fields as usize),
-            connection: Connection((fields / 8 % 8) as usize),
+            state: State::from(fields),
+            connection: Word(connection_of(fields / 8 % 8)),
             marks: fields / 256 % 64,
             packet: fields / 65536 % 256,
             tries: fields / 16777216 % 256,
@@ -153,7 +172,7 @@ impl Places<'_> {
             set: self.set(s, k),
             has_head: fields / 2 % 2 == 1,
             is_closing: fields / 16 % 2 == 1,
-            terminator: Terminator((fields / 4 % 4) as usize),
+            terminator: Word(terminator_of(fields / 4)),
             packet: fields / 65536 % 256,
             feeder: (fields / 256 % 256) as usize,
         }

@@ -1,6 +1,6 @@
-// A stored run traced by the public single events on lent words, in the order of docs/MODEL.md: before draw d every send
-// that is marked d, after the last draw those marked with the number of draws. Each event's line goes out before the
-// next event. Assumes nothing of the run.
+// A stored run traced by the public single events on lent words, in the order of docs/MODEL.md: before draw d every
+// send that is marked d, after the last draw those marked with the number of draws. Each event's line goes out before
+// the next event. Assumes nothing of the run.
 use crate::change::{Change, Target};
 use crate::places::Places;
 use crate::printed::{DrawLine, SendLine, print};
@@ -38,8 +38,9 @@ impl From<Refusal> for Stop {
     }
 }
 
-// A run under way: the words of its state, and those before the present event, which are not looked at where only failed
-// asks are told; how often each output stood in the way; the next send, the clock of the draws, and what was counted.
+// A run under way: the words of its state, and those before the present event, which are not looked at where only
+// failed asks are told; how often each output stood in the way; the next send, the clock of the draws, and what was
+// counted.
 #[derive(Drop)]
 struct Tracer<'a, P> {
     out: &'a P,

@@ -1,5 +1,5 @@
-// Failed asks, in the words of docs/TRACE.md: a line for each, and how often each output stood in the way. Every function
-// takes any numbers: one beyond its range stands for its remainder.
+// Failed asks, in the words of docs/TRACE.md: a line for each, and how often each output stood in the way. Every
+// function takes any numbers: one beyond its range stands for its remainder.
 ghost use Rattle.std.specs.Prelude.{◌<◌, IfSome};
 
 use crate::places::Places;
@@ -9,7 +9,8 @@ use std::io::{Print, Result};
 // The outputs of all sites.
 const PLACES: usize = base::OUTPUTS * base::SITES;
 
-// A failed ask at draw number `number`: net-input `input` of the site, and the outputs in its way, none where nothing failed.
+// A failed ask at draw number `number`: net-input `input` of the site, and the outputs in its way, none where nothing
+// failed.
 #[derive(Clone, Copy)]
 pub struct Ask {
     pub number: u16,
@@ -57,8 +58,8 @@ impl Times {
         }
     }
 
-    // Prints `output J of site S: N` for each output that was counted, the most often first, among equals the lower place.
-    // What is printed is counted no more.
+    // Prints `output J of site S: N` for each output that was counted, the most often first, among equals the lower
+    // place. What is printed is counted no more.
     pub fn print(&mut self, out: &impl Print) -> Result<()> {
         for _ in 0..PLACES {
             let Some(place) = self.most() else {

@@ -12,10 +12,10 @@ unfolding value_lines
 returns-in-Ok c =
     let two = added_then c.add_value-multi.ensures c.add_value-resumable.ensures in
     let four = added_then (added_then two c.add_value-restricted.ensures) c.add_value.ensures in
-    values_whole c.args.doubled (told (Ok c.in-Ok.four)) (search rules) refl four
+    rw c.in-Ok.is (values_whole c.args.doubled (told (Ok c.in-Ok.four)) (search rules) refl four)
 
 pub returns-in-Err : goal.returns-in-Err
 returns-in-Err c =
     let e = c.in-Err.refusal in
     let added = rw c.from.ensures at c.add_answer.ensures.1 in
-    refusal_whole c.args.doubled (told (Err e)) _ (search rules) (number_nonzero e) added
+    rw c.in-Err.is (refusal_whole c.args.doubled (told (Err e)) _ (search rules) (number_nonzero e) added)
