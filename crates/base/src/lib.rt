@@ -37,7 +37,7 @@ pub const PACKETS: u8 = 255;
 // Bits of a set of sites.
 pub const SET: usize = 64;
 
-// The same number, as an index: of one byte, and of two.
+// The same number, as an index: of one byte, and of two. (Two functions: `wide_settled` and `wider_settled` are of each.)
 pub fn wide(x: u8) -> usize
     ensures { (result ≡ x) × (result < 256) }
 {
@@ -50,7 +50,7 @@ pub fn wider(x: u16) -> usize
     usize::from(x)
 }
 
-// The number of two bytes, the higher first.
+// The number of two bytes, the higher first. (So are `word`, `quad` and `oct`: each has its theorem.)
 pub fn word(high: u8, low: u8) -> u16
     ensures { result ≡ high * 256 + low }
 {

@@ -97,7 +97,7 @@ fn ports_of(network: Network, s: usize) -> [bool; 16]
 pub fn route_ok(ports: [bool; 16], s: usize, t: usize, route: u16) -> bool
     ensures { result ≡ route_by ports s t route }
 {
-    let w = route as usize;
+    let w = usize::from(route);
     let a = w / 4096;
     let b = w / 256 % 16;
     let c = w / 16 % 16;

@@ -11,44 +11,38 @@ ghost use Rattle.model.specs.Events.{refusal_then};
 ghost use Rattle.checks.specs.Range.{net_places_ok, in_queues_ok};
 
 use crate::network::network_refusal;
-use crate::range::places::{in_entry_ok, input_ok, out_entry_ok, output_ok};
+use crate::range::places::{Limits, in_entry_ok, input_ok, out_entry_ok, output_ok};
 use base::Refusal;
 use types::{InQueue, Input, Network, OutQueue, Output, Site, State};
 
 // The net-inputs and the net-outputs of a site: five of each, and the split output.
 fn net_places_ok(
-    edition: u8,
-    sites: usize,
-    limit: u8,
-    counter: u8,
+    limits: Limits,
     inputs: [Input; base::INPUTS],
     outputs: [Output; base::OUTPUTS],
 ) -> bool
-    ensures { result ≡ net_places_ok edition sites limit counter inputs outputs }
+    ensures { result ≡ net_places_ok limits.edition limits.sites limits.tries limits.counter inputs outputs }
 {
     let split = outputs[base::SPLIT_PORT];
     (0..base::INPUTS).all(|i| {
-        input_ok(edition, sites, limit, counter, outputs, i, inputs[i])
-            & output_ok(edition, sites, counter, i, outputs[i])
-    }) & output_ok(edition, sites, counter, base::SPLIT_PORT, split)
+        input_ok(limits, outputs, i, inputs[i]) & output_ok(limits, i, outputs[i])
+    }) & output_ok(limits, base::SPLIT_PORT, split)
 }
 
-// The out-queue: eight places.
-fn out_queue_ok(sites: usize, depth: usize, counter: u8, queue: OutQueue) -> bool
-    ensures { result ≡ spec.out_queue_ok sites depth counter queue }
+// The out-queue: eight places. (A function for each kind of queue, as there is a struct for each.)
+fn out_queue_ok(limits: Limits, queue: OutQueue) -> bool
+    ensures { result ≡ spec.out_queue_ok limits.sites limits.depth limits.counter queue }
 {
-    let count = queue.count;
-    (count <= depth)
-        & (0..base::QUEUE).all(|m| out_entry_ok(sites, counter, count, m, queue.entries[m]))
+    (queue.count <= limits.depth)
+        & (0..base::QUEUE).all(|m| out_entry_ok(limits, queue.count, m, queue.entries[m]))
 }
 
 // An in-queue: eight places.
-fn in_queue_ok(sites: usize, depth: usize, counter: u8, queue: InQueue) -> bool
-    ensures { result ≡ spec.in_queue_ok sites depth counter queue }
+fn in_queue_ok(limits: Limits, queue: InQueue) -> bool
+    ensures { result ≡ spec.in_queue_ok limits.sites limits.depth limits.counter queue }
 {
-    let count = queue.count;
-    (count <= depth)
-        & (0..base::QUEUE).all(|m| in_entry_ok(sites, counter, count, m, queue.entries[m]))
+    (queue.count <= limits.depth)
+        & (0..base::QUEUE).all(|m| in_entry_ok(limits, queue.count, m, queue.entries[m]))
 }
 
 // The depth of in-queue m: that of the split output has none but in edition 3.
@@ -63,46 +57,32 @@ fn depth_of(edition: u8, depth: usize, m: usize) -> usize
 }
 
 // Both in-queues.
-fn in_queues_ok(
-    edition: u8,
-    sites: usize,
-    depth: usize,
-    counter: u8,
-    incoming: [InQueue; base::IN_QUEUES],
-) -> bool
-    ensures { result ≡ in_queues_ok edition sites depth counter incoming }
+fn in_queues_ok(limits: Limits, incoming: [InQueue; base::IN_QUEUES]) -> bool
+    ensures { result ≡ in_queues_ok limits.edition limits.sites limits.depth limits.counter incoming }
 {
-    (0..base::IN_QUEUES).all(|m| in_queue_ok(
-        sites,
-        depth_of(edition, depth, m),
-        counter,
-        incoming[m],
-    ))
+    (0..base::IN_QUEUES).all(|m| {
+        let depth = depth_of(limits.edition, limits.depth, m);
+        in_queue_ok(Limits { depth, ..limits }, incoming[m])
+    })
 }
 
 // The queues of a site.
-fn queues_ok(
-    edition: u8,
-    sites: usize,
-    depth: usize,
-    counter: u8,
-    outgoing: OutQueue,
-    incoming: [InQueue; base::IN_QUEUES],
-) -> bool
-    ensures { result ≡ spec.out_queue_ok sites depth counter outgoing && in_queues_ok edition sites depth counter incoming }
+fn queues_ok(limits: Limits, outgoing: OutQueue, incoming: [InQueue; base::IN_QUEUES]) -> bool
+    ensures { result ≡ spec.out_queue_ok limits.sites limits.depth limits.counter outgoing
+        && in_queues_ok limits.edition limits.sites limits.depth limits.counter incoming }
 {
-    out_queue_ok(sites, depth, counter, outgoing)
-        & in_queues_ok(edition, sites, depth, counter, incoming)
+    out_queue_ok(limits, outgoing) & in_queues_ok(limits, incoming)
 }
 
 // A site of the network. With T, D and counter 0 it is the test of room beyond S.
-fn site_ok(edition: u8, sites: usize, limit: u8, depth: usize, counter: u8, site: Site) -> bool
-    ensures { result ≡ spec.site_ok edition sites limit depth counter site }
+fn site_ok(limits: Limits, site: Site) -> bool
+    ensures { result ≡ spec.site_ok limits.edition limits.sites limits.tries limits.depth limits.counter site }
 {
-    net_places_ok(edition, sites, limit, counter, site.inputs, site.outputs)
-        & queues_ok(edition, sites, depth, counter, site.outgoing, site.incoming)
+    net_places_ok(limits, site.inputs, site.outputs)
+        & queues_ok(limits, site.outgoing, site.incoming)
 }
 
+// (The limits stay apart here: `place_ok_settled` is of the five numbers.)
 // Place s of a state's sites, with the edition, S, T, D and the counter: a site of the network, or room beyond S.
 pub fn place_ok(
     edition: u8,
@@ -115,10 +95,23 @@ pub fn place_ok(
 ) -> bool
     ensures { result ≡ spec.place_ok edition sites tries depth counter s site }
 {
+    let limits = Limits {
+        edition,
+        sites,
+        tries,
+        depth,
+        counter,
+    };
     if s < sites {
-        return site_ok(edition, sites, tries, depth, counter, site);
+        return site_ok(limits, site);
     }
-    site_ok(edition, sites, 0, 0, 0, site)
+    let none = Limits {
+        tries: 0,
+        depth: 0,
+        counter: 0,
+        ..limits
+    };
+    site_ok(none, site)
 }
 
 // Whether the state is in range for the network.

@@ -11,7 +11,7 @@ use lib.ListN.{length, set}
 use Rattle.model.specs.Runs.{book_room, played_run, counts_of}
 use Rattle.format.specs.Format.{run_of}
 use Rattle.format.specs.Refusals.{read_refusal}
-use Rattle.machine.specs.Play.{PlayAnswer}
+use Rattle.machine.specs.declared.player.PlayAnswer.{PlayAnswer}
 use Rattle.machine.specs.Play.{play_refusal, play_answer, play_book, no_counts}
 use Rattle.base.specs.Answers.{at_front}
 use Rattle.calls.specs.Calls.{count_places, four_counts, call_refusal, book_after, counts_after}

@@ -28,7 +28,7 @@ fn put_counts(counts: Counts, out: &mut [u64])
     out[3] = counts.owed as u64;
 }
 
-// What C is answered: 0, or the refusal's number.
+// What C is answered: 0, or the refusal's number. (Numbers from here on: the C interface.)
 fn told<T: Copy>(answer: Result<T, Refusal>) -> u8
     ensures { result ≡ refusal_of answer }
 {

@@ -1,3 +1,4 @@
+// (Versions and editions are bytes and no enums: every one may be handed in, as the theorems of these functions say.)
 // What differs between the versions of an archive: where its parts begin, how long it is, and what an edition byte and the
 // bytes of a channel say. A version that is not 1 is taken as 2.
 ghost use Rattle.std.specs.Prelude.{◌≡◌, ◌+◌, ◌*◌};

@@ -53,7 +53,7 @@ fn set_at(b: &[u8], version: u8, p: usize) -> u64
     ensures { result ≡ set_in version b.now p }
 {
     if version == 1 {
-        return word_at(b, p) as u64;
+        return u64::from(word_at(b, p));
     }
     base::oct(quad_at(b, p), quad_at(b, p + 4))
 }

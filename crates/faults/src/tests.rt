@@ -19,7 +19,8 @@ fn channel_at(b: &[u8], version: u8, m: usize) -> u16
     channel_of(version, b[p], b[p + 1])
 }
 
-// Version 1: no byte before channel m's is this one. All of them are looked at, some at a time.
+// Version 1: no byte before channel m's is this one. All of them are looked at, some at a time (`all` leaves at the first, and
+// looks at them one by one). Version 2 has a function of its own: its channels are two bytes each.
 fn byte_is_first(b: &[u8], m: usize, byte: u8) -> bool
     requires { channel_place 1 m ≤ length b.now }
     ensures { result ≡ all (byte_differs b.now byte) m }

@@ -16,6 +16,7 @@ use Rattle.format.specs.Refusals.{Decoded}
 use Rattle.format.specs.Refusals.{read_refusal, decode}
 use Rattle.base.specs.declared.refusal.Refusal.{Refusal}
 use Rattle.base.specs.Refusals.{number, number_of}
+use Rattle.machine.specs.declared.player.PlayAnswer.{PlayAnswer}
 use Rattle.machine.specs.declared.player.Started.{Started}
 
 -- "player 1 to 8, then 14": the reader's, then "14 .. for the book below 4 times the summed sizes of the stored sends'
@@ -26,11 +27,6 @@ play_refusal b room = or_next (read_refusal b) (cond (ltb room (book_room (run_o
 -- "A refusal's other numbers are zero."
 abbrev pub no_counts : Counts
 no_counts = record { accepted = 0; pairs = 0; serviced = 0; owed = 0 }
-
--- the counts of a run that is played; or the refusal, and counts of zero
-pub record PlayAnswer : Type 0 where
-  pub refusal : ℕ
-  pub counts : Counts
 
 abbrev pub refused_by : ℕ → PlayAnswer
 refused_by k = record { refusal = k; counts = no_counts }

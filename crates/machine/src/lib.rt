@@ -15,5 +15,5 @@ mod turns;
 pub use clock::{Clock, tick, ticked};
 pub use events::{empty_state, run, send};
 pub use owing::site_pairs;
-pub use player::{Started, play, start};
+pub use player::{PlayAnswer, Started, play, refused, start};
 pub use turns::{book_room, capped, enter, enter_answer, is_due};

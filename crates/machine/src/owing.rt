@@ -86,7 +86,7 @@ fn place_pairs(terminator: Terminator, s: usize, set: u64) -> usize
     match terminator {
         Terminator::None | Terminator::Abort => 0,
         Terminator::End => sets::size(set),
-        Terminator::KeepLocal => sets::member(set, s) as usize,
+        Terminator::KeepLocal => usize::from(sets::member(set, s)),
     }
 }
 

@@ -3,7 +3,7 @@
 ghost use Rattle.std.specs.Prelude.{◌≡◌, None, length};
 ghost use Rattle.model.specs.Runs.{played_run, counts_of};
 ghost use Rattle.format.specs.Format.{no_run};
-ghost use Rattle.machine.specs.Play.{play_answer, play_book, book_in, Playable, start_of, told_start, told_play};
+ghost use Rattle.machine.specs.Play.{refused_by, play_answer, play_book, book_in, Playable, start_of, told_start, told_play};
 
 use crate::clock::{Clock, ticked};
 use crate::events::{act_of, empty_state, try_send};
@@ -12,6 +12,28 @@ use crate::store::{answer_to, store_act};
 use crate::turns::{book_room, capped, enter_answer, is_due};
 use base::Refusal;
 use types::{Counts, Network, Run, Sent, StoredSend};
+
+// What the player answers in numbers: the refusal, or 0 and the counts; with a refusal all counts are zero.
+#[derive(Clone, Copy)]
+pub struct PlayAnswer {
+    pub refusal: u8,
+    pub counts: Counts,
+}
+
+// The answer with a refusal, whatever number it has. (A struct and no Result: `refused_settled` is about any number of a byte.)
+pub fn refused(refusal: u8) -> PlayAnswer
+    ensures { result ≡ refused_by refusal }
+{
+    PlayAnswer {
+        refusal,
+        counts: Counts {
+            accepted: 0,
+            pairs: 0,
+            serviced: 0,
+            owed: 0,
+        },
+    }
+}
 
 // A valid run played from the empty state, the book large enough: one state, advanced draw by draw by the core step by value.
 fn play_run(run: &Run, book: &mut [u8]) -> Counts

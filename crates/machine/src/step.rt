@@ -104,7 +104,7 @@ fn timeout_step(network: Network, s: usize, site: Site) -> Act
     requires { (spec.out_at site 0).input < input_count }
     ensures { result ≡ of_act network s (timeout_act network.edition site) }
 {
-    let i = site.outputs[0].input as usize;
+    let i = usize::from(site.outputs[0].input);
     let Some(turn) = time_out(
         network.edition,
         site.incoming[0],

@@ -46,10 +46,8 @@ pub fn add_name(text: &mut [u8], at: usize, name: &[u8]) -> usize
         × Added text.old at (shown name.now) result text.new }
 {
     let mut to = least(at, text.len());
-    let mut k = 0usize;
-    while k < name.len() {
-        to = add_shown(text, to, name[k]);
-        k += 1;
+    for byte in name {
+        to = add_shown(text, to, *byte);
     }
     to
 }
@@ -84,6 +82,6 @@ fn add_code(text: &mut [u8], at: usize, byte: u8) -> usize
 {
     let behind = add_bytes(text, at, b"\\x");
     let mut digits = [0u8; 16];
-    let k = io::hex(byte as u64, 2, &mut digits);
+    let k = io::hex(u64::from(byte), 2, &mut digits);
     add_bytes(text, behind, &digits[..k])
 }

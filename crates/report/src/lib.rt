@@ -27,6 +27,7 @@ const SERVICE: usize = 14;
 
 // ---- composing
 
+// (A number and no Result, here and in `add_answer`: their theorems are of any number of a byte.)
 // Puts `refused N`, or the counts of an archive that was not refused, and a newline at the front of the lent bytes.
 // Answers how many they are.
 pub fn answer_line(refusal: u8, counts: Counts, text: &mut [u8; ANSWER]) -> usize
@@ -48,10 +49,8 @@ pub fn service_lines(book: &[u8], text: &mut [u8]) -> Lines
 {
     let n = least(book.len() / 4, text.len() / SERVICE);
     let mut at = 0usize;
-    let mut k = 0usize;
-    while k < n {
+    for k in 0..n {
         at = put_entry(text, at, book, k);
-        k += 1;
     }
     Lines {
         services: n,
@@ -100,7 +99,7 @@ pub fn print_services(out: &impl Print, book: &[u8], count: usize) -> Result<()>
     Ok(())
 }
 
-// Prints the line of an answer in one write.
+// Prints the line of an answer in one write. (A number, as `answer_line` takes it.)
 pub fn print_line(out: &impl Print, refusal: u8, counts: Counts) -> Result<()> {
     let mut text = [0u8; ANSWER];
     let n = answer_line(refusal, counts, &mut text);

@@ -1,3 +1,4 @@
+// (Places are handed on: the clauses settle each byte of the room, which is the caller's.)
 // Bytes put one behind the other into a lent room: each function takes the place to put at and answers the place behind
 // what it put. The caller has seen to the room.
 ghost use Rattle.std.specs.Prelude.{◌+◌, ◌*◌, ◌≤◌, ◌<◌, ◌++◌, length};
@@ -10,10 +11,8 @@ pub(crate) fn put_all(room: &mut [u8], at: usize, bytes: &[u8]) -> usize
     requires { at + length bytes.now ≤ length room.old }
     ensures { Put room.old at bytes.now result room.new }
 {
-    let mut i = 0;
-    while i < bytes.len() {
-        room[at + i] = bytes[i];
-        i += 1;
+    for (i, byte) in bytes.iter().enumerate() {
+        room[at + i] = *byte;
     }
     at + bytes.len()
 }

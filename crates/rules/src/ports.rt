@@ -13,10 +13,10 @@ fn ports(route: u16) -> [usize; base::PORTS]
     ensures { result ≡ choices route }
 {
     [
-        (route / 4096) as usize,
-        (route / 256 % 16) as usize,
-        (route / 16 % 16) as usize,
-        (route % 16) as usize,
+        usize::from(route / 4096),
+        usize::from(route / 256 % 16),
+        usize::from(route / 16 % 16),
+        usize::from(route % 16),
     ]
 }
 

@@ -25,7 +25,8 @@ fn shifted<T: Copy>(all: [T; base::QUEUE], none: T) -> [T; base::QUEUE]
     [all[1], all[2], all[3], all[4], all[5], all[6], all[7], none]
 }
 
-// The two queues stay two types with functions of their own: a struct of an array of a type parameter gets no proof.
+// The two queues stay two types, as crates/types says why, and so each has its own push and pop.
+
 // The out-queue with an entry more, if it has fewer than depth.
 pub fn push_out(depth: usize, queue: OutQueue, entry: OutEntry) -> OutQueue
     ensures { result ≡ cond (ltb queue.count depth) (spec.push_out queue entry) queue }

@@ -9,6 +9,7 @@ use Rattle.machine.specs.contracts.run as the_run
 use Rattle.machine.specs.contracts.send as the_send
 use Rattle.machine.specs.contracts.site_pairs as the_site_pairs
 use Rattle.machine.specs.contracts.play as the_play
+use Rattle.machine.specs.contracts.refused as the_refused
 use Rattle.machine.specs.contracts.start as the_start
 use Rattle.machine.specs.contracts.tick as the_tick
 use Rattle.machine.specs.contracts.ticked as the_ticked
@@ -37,6 +38,9 @@ site_pairs_settled = settled (λ κs a x y p q. refl) (λ κs a x y p q i. (same
 pub play_settled : Settles the_play.ended (λ M 𝓤. the_play.clauses) (λ M 𝓤. the_play.spec)
 play_settled = settled (λ κs a. beside value (beside (behind (inputs the_play.ended κs).1.0) value))
     (λ κs a x y p q i. (play_by x.0 y.0 (same p.0 q.0) i, (tt, (same p.1 q.1 i, tt))))
+
+pub refused_settled : Settles the_refused.ended (λ M 𝓤. the_refused.clauses) (λ M 𝓤. the_refused.spec)
+refused_settled = settled (λ κs a x y p q. refl) (λ κs a x y p q i. (same p q i, x.1))
 
 -- the refusal and the run; the contract says besides what a run that is not refused has
 pub start_settled : Settles the_start.ended (λ M 𝓤. the_start.clauses) (λ M 𝓤. the_start.spec)

@@ -87,7 +87,9 @@ pub struct InEntry {
     pub packet: u8,
 }
 
-// A queue: its entries from the front, and how many there are.
+// A queue: its entries from the front, and how many there are. (Two structs and no generic one: the kit's guide asks that a
+// generic struct hold no array of a type parameter, since a call through another type owes a bound of its size. The count
+// stays: room behind it is part of the state, which `in_range` looks at.)
 #[derive(Clone, Copy)]
 pub struct OutQueue {
     pub entries: [OutEntry; base::QUEUE],
@@ -115,7 +117,8 @@ pub struct State {
     pub counter: u8,
 }
 
-// A network: the stored version and the edition of the rules that it goes by; S, T, D; a channel for each site and port 1 to
+// A network: the stored version and the edition of the rules that it goes by (numbers and no enums: `checks::network_refusal` takes
+// any, and answers 2 and 17); S, T, D; a channel for each site and port 1 to
 // 4; a route for each from-site and to-site, in rows of S.
 #[derive(Clone, Copy)]
 pub struct Network {
@@ -146,14 +149,15 @@ pub struct Run {
     pub sends: [StoredSend; base::SENDS],
 }
 
-// The answer of SEND: the packet number, or why it is turned down.
+// The answer of SEND: the packet number, or why it is turned down. (No Result: SEND and RUN answer alike.)
 #[derive(Clone, Copy)]
 pub enum Sent {
     Accepted(u8),
     Refused(u8),
 }
 
-// The answer of RUN: 0, 1, 2 with packet and site, or why it is turned down.
+// The answer of RUN: 0, 1, 2 with packet and site, or why it is turned down. (No Result: `machine::enter_answer` takes an answer
+// with any number for its refusal, and `enter_answer_settled` says so of each.)
 #[derive(Clone, Copy)]
 pub enum Ran {
     Nothing,
@@ -192,6 +196,7 @@ pub struct Counts {
     pub owed: usize,
 }
 
+// (The numbers are functions and no From: docs/CONTRACTS.md names them, and `state_number_settled` and the like are about them.)
 // The state number of a net-input: 0 free, 1 seek, 2 open, 3 wait, 4 done, 5 last, 6 abort, 7 fin-abort.
 pub fn state_number(phase: Phase) -> u8
     ensures { result ≡ state_number phase }

@@ -9,40 +9,19 @@ use crate::{Connection, Phase, Terminator};
 pub fn is_free(phase: Phase) -> bool
     ensures { result ≡ is_free phase }
 {
-    match phase {
-        Phase::Free => true,
-        Phase::Seek => false,
-        Phase::Open(_) => false,
-        Phase::Wait(_) => false,
-        Phase::Done(_, _) => false,
-        Phase::Last(_, _) => false,
-        Phase::Abort(_) => false,
-        Phase::FinAbort(_, _) => false,
-    }
+    matches!(phase, Phase::Free)
 }
 
 // Whether a connection is all-remote or some-local: 3 or 4.
 pub fn is_split(connection: Connection) -> bool
     ensures { result ≡ splits connection }
 {
-    match connection {
-        Connection::Unicast => false,
-        Connection::Passthru => false,
-        Connection::AllRemote => true,
-        Connection::SomeLocal => true,
-        Connection::Handed => false,
-        Connection::Branch => false,
-    }
+    matches!(connection, Connection::AllRemote | Connection::SomeLocal)
 }
 
 // Whether a terminator is none.
 pub fn is_none(terminator: Terminator) -> bool
     ensures { result ≡ is_none terminator }
 {
-    match terminator {
-        Terminator::None => true,
-        Terminator::End => false,
-        Terminator::Abort => false,
-        Terminator::KeepLocal => false,
-    }
+    matches!(terminator, Terminator::None)
 }

@@ -12,11 +12,21 @@ ghost use Rattle.checks.specs.Range.{connection_ok, branch_ok};
 use crate::range::phases::{is_aborting, is_branching, is_connected, is_keep, is_splitting};
 use types::{InEntry, Input, OutEntry, Output, Phase};
 
+// What places are judged by: the edition, S, T, D and the counter.
+#[derive(Clone, Copy)]
+pub(crate) struct Limits {
+    pub edition: u8,
+    pub sites: usize,
+    pub tries: u8,
+    pub depth: usize,
+    pub counter: u8,
+}
+
 // The packet below the counter, the set not empty and within S.
-fn tag_ok(sites: usize, counter: u8, packet: u8, set: u64) -> bool
-    ensures { result ≡ spec.tag_ok sites counter packet set }
+fn tag_ok(limits: Limits, packet: u8, set: u64) -> bool
+    ensures { result ≡ spec.tag_ok limits.sites limits.counter packet set }
 {
-    (packet < counter) & sets::is_targets(set, sites)
+    (packet < limits.counter) & sets::is_targets(set, limits.sites)
 }
 
 fn any_mark(marks: [bool; base::OUTPUTS]) -> bool
@@ -34,27 +44,23 @@ fn any_remote(marks: [bool; base::OUTPUTS]) -> bool
 fn zero_input(input: Input) -> bool
     ensures { result ≡ spec.zero_input input }
 {
-    let phase = input.phase;
-    let marks = input.outputs;
-    types::is_free(phase)
+    types::is_free(input.phase)
         & (input.packet == 0)
         & (input.set == 0)
-        & !any_mark(marks)
+        & !any_mark(input.outputs)
         & (input.tries == 0)
 }
 
 fn zero_output(output: Output) -> bool
     ensures { result ≡ spec.zero_output output }
 {
-    let terminator = output.terminator;
-    let closing = output.closing;
     !output.used
         & (output.packet == 0)
         & (output.set == 0)
         & (output.input == 0)
         & !output.head
-        & types::is_none(terminator)
-        & !closing
+        & types::is_none(output.terminator)
+        & !output.closing
 }
 
 fn zero_out_entry(entry: OutEntry) -> bool
@@ -66,16 +72,17 @@ fn zero_out_entry(entry: OutEntry) -> bool
 fn zero_in_entry(entry: InEntry) -> bool
     ensures { result ≡ spec.zero_in_entry entry }
 {
-    let terminator = entry.terminator;
-    (entry.packet == 0) & (entry.set == 0) & types::is_none(terminator)
+    (entry.packet == 0) & (entry.set == 0) & types::is_none(entry.terminator)
 }
 
 // In use, not closing, without a terminator and fed by net-input i.
 fn fed_by(i: usize, output: Output) -> bool
     ensures { result ≡ spec.fed_by i output }
 {
-    let terminator = output.terminator;
-    output.used & !output.closing & types::is_none(terminator) & (base::wide(output.input) == i)
+    output.used
+        & !output.closing
+        & types::is_none(output.terminator)
+        & (base::wide(output.input) == i)
 }
 
 // Each output that net-input i marks is fed by it.
@@ -118,75 +125,61 @@ fn connection_ok(
 
 // Net-input i, with the outputs of its site.
 pub(crate) fn input_ok(
-    edition: u8,
-    sites: usize,
-    limit: u8,
-    counter: u8,
+    limits: Limits,
     outputs: [Output; base::OUTPUTS],
     i: usize,
     input: Input,
 ) -> bool
-    ensures { result ≡ spec.input_ok edition sites limit counter outputs i input }
+    ensures { result ≡ spec.input_ok limits.edition limits.sites limits.tries limits.counter outputs i input }
 {
-    let phase = input.phase;
-    let marks = input.outputs;
-    if types::is_free(phase) {
+    if types::is_free(input.phase) {
         return zero_input(input);
     }
-    (input.tries <= limit)
-        & tag_ok(sites, counter, input.packet, input.set)
-        & connection_ok(edition, outputs, i, phase, marks)
+    (input.tries <= limits.tries)
+        & tag_ok(limits, input.packet, input.set)
+        & connection_ok(limits.edition, outputs, i, input.phase, input.outputs)
 }
 
 // Net-output j, which is in use, may be closing: edition 2 or 3, an output 1 to 4, head taken, without a terminator.
 fn closing_ok(edition: u8, j: usize, output: Output) -> bool
     ensures { result ≡ spec.closing_ok edition j output }
 {
-    let terminator = output.terminator;
-    let taken = output.head;
     ((edition == 2) | draws::is_restricted(edition))
         & !((j == 0) | (j == base::SPLIT_PORT))
-        & taken
-        & types::is_none(terminator)
+        & output.head
+        & types::is_none(output.terminator)
 }
 
 // Net-output j; the split output is in use in edition 3 alone.
-pub(crate) fn output_ok(edition: u8, sites: usize, counter: u8, j: usize, output: Output) -> bool
-    ensures { result ≡ spec.output_ok edition sites counter j output }
+pub(crate) fn output_ok(limits: Limits, j: usize, output: Output) -> bool
+    ensures { result ≡ spec.output_ok limits.edition limits.sites limits.counter j output }
 {
-    let terminator = output.terminator;
     if output.used {
-        return tag_ok(sites, counter, output.packet, output.set)
+        return tag_ok(limits, output.packet, output.set)
             & (base::wide(output.input) < base::INPUTS)
-            & (!is_keep(terminator) | (j == 0))
-            & (!output.closing | closing_ok(edition, j, output))
-            & ((j != base::SPLIT_PORT) | draws::is_restricted(edition));
+            & (!is_keep(output.terminator) | (j == 0))
+            & (!output.closing | closing_ok(limits.edition, j, output))
+            & ((j != base::SPLIT_PORT) | draws::is_restricted(limits.edition));
     }
     zero_output(output)
 }
 
 // Entry m of an out-queue that has `count`.
-pub(crate) fn out_entry_ok(
-    sites: usize,
-    counter: u8,
-    count: usize,
-    m: usize,
-    entry: OutEntry,
-) -> bool
-    ensures { result ≡ spec.out_entry_ok sites counter count m entry }
+pub(crate) fn out_entry_ok(limits: Limits, count: usize, m: usize, entry: OutEntry) -> bool
+    ensures { result ≡ spec.out_entry_ok limits.sites limits.counter count m entry }
 {
     if m < count {
-        return tag_ok(sites, counter, entry.packet, entry.set) & (!entry.started | (m == 0));
+        return tag_ok(limits, entry.packet, entry.set) & (!entry.started | (m == 0));
     }
     zero_out_entry(entry)
 }
 
 // Entry m of an in-queue that has `count`.
-pub(crate) fn in_entry_ok(sites: usize, counter: u8, count: usize, m: usize, entry: InEntry) -> bool
-    ensures { result ≡ spec.in_entry_ok sites counter count m entry }
+pub(crate) fn in_entry_ok(limits: Limits, count: usize, m: usize, entry: InEntry) -> bool
+    ensures { result ≡ spec.in_entry_ok limits.sites limits.counter count m entry }
 {
     if m < count {
-        return tag_ok(sites, counter, entry.packet, entry.set);
+        return tag_ok(limits, entry.packet, entry.set);
     }
     zero_in_entry(entry)
 }

@@ -11,12 +11,6 @@ loop-k-init c = (refl, omega arith, omega arith, no_lines _ _)
 pub put_entry-at-requires : goal.put_entry-at-requires
 put_entry-at-requires c = omega (arith, c.least-n.ensures, c.loop-k.invariant.2)
 
-pub overflow_add-k : goal.overflow_add-k
-overflow_add-k c = omega arith
-
-pub loop-k-smaller : goal.loop-k-smaller
-loop-k-smaller c = omega arith
-
 pub loop-k-preserved : goal.loop-k-preserved
 loop-k-preserved c =
     let e = c.put_entry-at.ensures in

@@ -1,5 +1,5 @@
 -- `service_lines` meets its contract: a line a turn, each within its greatest length. Assumes nothing.
-use Prim.Native.Nat.{◌*◌, ◌-◌, ◌≤◌}
+use Prim.Native.Nat.{◌*◌, ◌≤◌}
 use mathlib.Core.Path.{◌≡◌}
 use lib.ListN.{length}
 use Rattle.lines.specs.Text.{service_most, service_lines}
@@ -10,6 +10,3 @@ abbrev pub invariant-loop-k : goal.invariant-loop-k
 invariant-loop-k l =
     (length l.text ≡ length l.initial.text) × (l.k ≤ l.n) × (l.at ≤ service_most * l.k)
     × Put l.initial.text 0 (service_lines l.book l.k) l.at l.text
-
-abbrev pub decreases-loop-k : goal.decreases-loop-k
-decreases-loop-k l = l.n - l.k

@@ -7,4 +7,4 @@ use Rattle.checks.proofs.network.route_ok.Goals as goal
 
 pub returns : goal.returns
 unfolding route_by all
-returns c = rw or-true refl
+returns c = rw c.from-w.ensures (rw or-true refl)

@@ -9,5 +9,5 @@ use Rattle.checks.proofs.range.in_queues_ok.Goals as goal
 pub returns : goal.returns
 returns c =
     let a = c.args in
-    all_in_range (λ m. in_queue_ok a.sites (depth_of a.edition a.depth m) a.counter (get_or a.incoming m in_queue_d))
+    all_in_range (λ m. in_queue_ok a.limits.sites (depth_of a.limits.edition a.limits.depth m) a.limits.counter (get_or a.incoming m in_queue_d))
     in_queue_count _ _ _ c.all.ensures.ran refl (λ x b q k. search rules)

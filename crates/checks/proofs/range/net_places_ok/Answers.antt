@@ -11,9 +11,9 @@ use Rattle.checks.proofs.range.net_places_ok.Goals as goal
 pub returns : goal.returns
 returns c =
     let a = c.args in
-    all_two (λ i. input_ok a.edition a.sites a.limit a.counter a.outputs i (get_or a.inputs i input_d))
-    (λ j. output_ok a.edition a.sites a.counter j (out_of a.outputs j)) input_count _ _
-    (all_in_range (λ i. input_ok a.edition a.sites a.limit a.counter a.outputs i (get_or a.inputs i input_d)
-    && output_ok a.edition a.sites a.counter i (out_of a.outputs i)) input_count _ _ _ c.all.ensures.ran refl
+    all_two (λ i. input_ok a.limits.edition a.limits.sites a.limits.tries a.limits.counter a.outputs i (get_or a.inputs i input_d))
+    (λ j. output_ok a.limits.edition a.limits.sites a.limits.counter j (out_of a.outputs j)) input_count _ _
+    (all_in_range (λ i. input_ok a.limits.edition a.limits.sites a.limits.tries a.limits.counter a.outputs i (get_or a.inputs i input_d)
+    && output_ok a.limits.edition a.limits.sites a.limits.counter i (out_of a.outputs i)) input_count _ _ _ c.all.ensures.ran refl
     (λ x b q k. search rules))
     c.output_ok.ensures

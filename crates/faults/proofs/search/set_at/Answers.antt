@@ -10,7 +10,7 @@ pub word_at-requires : goal.word_at-requires
 word_at-requires c = omega (arith, c.requires, set_some c.args.version)
 
 pub returns-then-version-eq1 : goal.returns-then-version-eq1
-returns-then-version-eq1 c = rw (eq-eqb _ _ c.if-version-eq1.true) c.word_at.ensures
+returns-then-version-eq1 c = rw (eq-eqb _ _ c.if-version-eq1.true) (c.from.ensures ∙ c.word_at.ensures)
 
 pub quad_at-requires : goal.quad_at-requires
 quad_at-requires c = omega (arith, c.requires, set_second c.args.version c.if-version-eq1.false)

@@ -10,5 +10,7 @@ pub returns : goal.returns
 returns c =
     let byte = c.args.byte in
     let k = c.hex-k in
-    let e : take k.result k.new.out ≡ last_digits 16 2 byte = two_digits byte _ _ (omega arith) k.ensures.len k.ensures.digits in
+    let e : take k.result k.new.out ≡ last_digits 16 2 byte = two_digits byte _ _ (omega arith)
+    (rw c.from.ensures at k.ensures.len)
+    (rw c.from.ensures at k.ensures.digits) in
     (c.add_bytes.ensures.0, added_then c.add_bytes-behind.ensures.1 (rw e at c.add_bytes.ensures.1))

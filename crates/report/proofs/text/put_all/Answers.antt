@@ -21,12 +21,6 @@ overflow_add-room c = omega arith
 pub bounds-room-at : goal.bounds-room-at
 bounds-room-at c = omega arith
 
-pub overflow_add-i : goal.overflow_add-i
-overflow_add-i c = omega arith
-
-pub loop-i-smaller : goal.loop-i-smaller
-loop-i-smaller c = omega arith
-
 pub loop-i-preserved : goal.loop-i-preserved
 loop-i-preserved c =
     let l = c.loop-i in

@@ -1,0 +1,2 @@
+-- Computed tables over the definitions of this crate.
+pub mod Numbers
