@@ -81,14 +81,14 @@ module _ {R : Run} {room : List ℕ} {total k : ℕ} {c b : List ℕ} {t : Tally
   pub gone : total ≤ k → Stands R c room b t
   gone l =
       let last : k ≡ R.count + R.draws = omega (arith, l, at.playing.here, at.playing.turns) in
-      record { size = at.size; draws = at.playing.draws; same = at.playing.same ∙ ap (progress R room) last }
+      record { size = at.size; same = at.playing.same ∙ ap (progress R room) last }
 
 -- the counts and the book at the end
-pub played_words : (R : Run) (d b q : List ℕ) (r : Tally) → Playable R (length b) → Stands R d b q r → (owed : ℕ)
+pub played_words : (R : Run) (d b q : List ℕ) (r : Tally) → Playable R (length b) → R.draws < 65536 → Stands R d b q r → (owed : ℕ)
     → owed ≡ owed_pairs (sites_of d)
     → (record { accepted = r.accepted; pairs = r.pairs; serviced = r.serviced; owed = owed } ≡ counts_of (played_run R)) × (q ≡ book_in R b)
-played_words R d b q r ok st owed e =
+played_words R d b q r ok h st owed e =
     let total = R.count + R.draws in
     let at : Playing R b total total (standing r d q) =
-    record { run = ok; turns = refl; draws = st.draws; here = omega arith; same = st.same } in
+    record { run = ok; turns = refl; draws = h; here = omega arith; same = st.same } in
     ended at (omega arith) e

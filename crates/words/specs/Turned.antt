@@ -79,5 +79,4 @@ pub record Startable (R : Run) (c : List ℕ) (room : ℕ) : Type 0 where
 -- where it stands after its last turn, the book b at first
 pub record Stands (R : Run) (d b q : List ℕ) (r : Tally) : Type 0 where
   pub size : length d ≡ word_count
-  pub draws : R.draws < 65536
   pub same : standing r d q ≡ progress R b (R.count + R.draws)

@@ -1,3 +1,4 @@
+use borrow.Author.Rules.{rules}
 use mathlib.Core.Path.{refl}
 use Rattle.layout.specs.Words.{no_words}
 use Rattle.words.proofs.PlayLaws.{played_words}
@@ -8,4 +9,4 @@ unfolding no_words
 play_turns-t-requires c = record { run = c.requires; words = refl }
 
 pub returns : goal.returns
-returns c = played_words _ _ _ _ _ c.requires c.play_turns-t.ensures _ c.owed_in_place.ensures
+returns c = played_words _ _ _ _ _ c.requires (search rules) c.play_turns-t.ensures _ c.owed_in_place.ensures
