@@ -95,7 +95,7 @@ fn move_route(b: &[u8], p: usize, out: &mut [u8], q: usize)
     requires { (p + 2 ≤ length b.now) × (q + 2 ≤ length out.old) }
     ensures { out.new ≡ put out.old q (word_bytes (word b.now p)) }
 {
-    put_word(out, q, base::word(b[p], b[p + 1]) as u64);
+    put_word(out, q, u64::from(base::word(b[p], b[p + 1])));
 }
 
 fn move_routes(b: &[u8], p: usize, out: &mut [u8], q: usize, n: usize)

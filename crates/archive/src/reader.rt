@@ -52,7 +52,7 @@ fn set_at(b: &[u8], version: u8, p: usize) -> u64
     ensures { result ≡ set_in version b.now p }
 {
     if version == 1 {
-        return base::word(b[p], b[p + 1]) as u64;
+        return u64::from(base::word(b[p], b[p + 1]));
     }
     base::oct(quad_at(b, p), quad_at(b, p + 4))
 }

@@ -105,8 +105,8 @@ pub(crate) fn put_fields(
     put_byte(out, p, sites as u8);
     put_byte(out, p + 1, tries);
     put_byte(out, p + 2, depth as u8);
-    put_quad(out, p + 3, seed as u64);
-    put_word(out, p + 7, draws as u64);
+    put_quad(out, p + 3, u64::from(seed));
+    put_word(out, p + 7, u64::from(draws));
     put_byte(out, p + 9, count as u8);
 }
 
@@ -119,7 +119,7 @@ pub(crate) fn put_channel(out: &mut [u8], p: usize, version: u8, channel: u16)
         out[p] = (channel % 256) as u8;
         return;
     }
-    put_word(out, p, channel as u64);
+    put_word(out, p, u64::from(channel));
 }
 
 fn put_channels(out: &mut [u8], version: u8, channels: [u16; base::PORTS * base::SITES], n: usize)
@@ -141,7 +141,7 @@ fn put_routes(out: &mut [u8], routes: [u16; base::SITES * base::SITES], p: usize
     ensures { out.new ≡ put out.old p (route_bytes routes n) }
 {
     for k in 0..n {
-        put_word(out, p + 2 * k, routes[k] as u64);
+        put_word(out, p + 2 * k, u64::from(routes[k]));
     }
 }
 
@@ -162,7 +162,7 @@ pub(crate) fn put_send(out: &mut [u8], p: usize, version: u8, send: StoredSend)
     ensures { out.new ≡ put out.old p (send_bytes version send) }
 {
     let draw = send.draw;
-    put_word(out, p, draw as u64);
+    put_word(out, p, u64::from(draw));
     put_byte(out, p + 2, send.site);
     put_set(out, p + 3, version, send.set);
 }

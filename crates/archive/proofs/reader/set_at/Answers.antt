@@ -15,7 +15,7 @@ bounds-b-p-then-version-eq1 c =
     omega (arith, rw (eq-eqb _ _ if1.true) at (pre))
 
 pub returns-then-version-eq1 : goal.returns-then-version-eq1
-returns-then-version-eq1 c = rw (eq-eqb _ _ c.if-version-eq1.true) c.word.ensures
+returns-then-version-eq1 c = rw (eq-eqb _ _ c.if-version-eq1.true) (c.from.ensures ∙ c.word.ensures)
 
 pub quad_at-requires : goal.quad_at-requires
 quad_at-requires c = omega (arith, rw (ne_eqb _ _ c.if-version-eq1.false) at c.requires)

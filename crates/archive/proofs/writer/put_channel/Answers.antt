@@ -18,4 +18,4 @@ pub put_word-requires : goal.put_word-requires
 put_word-requires c = omega (arith, rw (ne_eqb _ _ c.if-version-eq1.false) at c.requires.0)
 
 pub returns : goal.returns
-returns c = rw (ne_eqb _ _ c.if-version-eq1.false) c.put_word.ensures
+returns c = rw (ne_eqb _ _ c.if-version-eq1.false) (rw c.from.ensures at c.put_word.ensures)

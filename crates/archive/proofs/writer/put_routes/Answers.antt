@@ -30,7 +30,7 @@ loop-k-preserved c =
     let args = c.args in (
       omega arith,
       ap length put_word.ensures ∙ length_put _ _ _ (omega arith) ∙ l.invariant.1,
-      routes_turn args.routes _ _ _ args.p l.k l.invariant.2 put_word.ensures (omega arith),
+      routes_turn args.routes _ _ _ args.p l.k l.invariant.2 (rw c.from.ensures at put_word.ensures) (omega arith),
     )
 
 pub shape_of-out : goal.shape_of-out

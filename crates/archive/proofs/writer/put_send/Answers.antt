@@ -6,7 +6,7 @@ use Rattle.archive.proofs.writer.put_send.Goals as goal
 
 pub returns : goal.returns
 returns c =
-    let word = c.put_word.ensures in
+    let word = rw c.from.ensures at c.put_word.ensures in
     let byte = c.put_byte.ensures in
     let set = c.put_set.ensures in
     let b = byte ∙ put_append _ _ _ _ _ _ (omega arith) word refl in
