@@ -12,6 +12,7 @@ ghost use Rattle.model.specs.Runs.{no_sends};
 use base::Refusal;
 use types::{Network, Run, StoredSend};
 
+// (The parts are read by `for`: the archive holds the first n places of a room, and the rest stays as it begins.)
 // Behind the last channel there are routes, so that a second byte is there in version 1 too.
 fn read_channels(b: &[u8], version: u8, n: usize) -> [u16; base::PORTS * base::SITES]
     requires { (n ≤ port_count * sites_most) × (channel_place version n < length b.now) }

@@ -122,6 +122,7 @@ pub(crate) fn put_channel(out: &mut [u8], p: usize, version: u8, channel: u16)
     put_word(out, p, u64::from(channel));
 }
 
+// (The parts are put by `for`, as they are moved in mover.rt: the place of each in the archive goes by its number.)
 fn put_channels(out: &mut [u8], version: u8, channels: [u16; base::PORTS * base::SITES], n: usize)
     requires { (n ≤ port_count * sites_most) × (channel_place version n ≤ length out.old) × AllNarrow version channels n }
     ensures { out.new ≡ put out.old (head_length version) (channel_bytes version channels n) }

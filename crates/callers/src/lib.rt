@@ -47,6 +47,7 @@ pub fn play(bytes: &[u8], book: &mut [u8]) -> Result<Counts, Refusal>
     ensures { (told_play result ≡ play_answer bytes.now (length book.old))
         × (book.new ≡ play_book bytes.now book.old) }
 {
+    // (Named for the edits of must-fail/, which change what is answered.)
     let played = machine::play(bytes, book);
     played
 }

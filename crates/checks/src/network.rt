@@ -1,4 +1,4 @@
-// Is this a network: the refusal 2, 17, 3, 6 or 7, or 0. Room beyond S sites is not looked at. A test leaves at the first
+// Is this a network: the refusal 2, 17, 3, 6 or 7, or none. Room beyond S sites is not looked at. A test leaves at the first
 // place that fails it. The tests of version and edition, of S, T and D, of a channel and of a route take numbers, so that
 // they serve a network in lent bytes too.
 ghost use Rattle.std.specs.Prelude.{◌≡◌, ◌≤◌, ◌<◌, ◌*◌, ltb};
@@ -11,7 +11,7 @@ ghost use Rattle.checks.specs.Network.{kind_in, sizes_in, parts_refusal, ports_b
 use base::Refusal;
 use types::Network;
 
-// 2 for a version that is neither 1 nor 2, 17 for an edition that is not 1, nor 2 or 3 in version 2, else 0.
+// 2 for a version that is neither 1 nor 2, 17 for an edition that is not 1, nor 2 or 3 in version 2, else none.
 pub fn kind_refusal(version: u8, edition: u8) -> Result<(), Refusal>
     ensures { refusal_of result ≡ kind_in version edition }
 {
@@ -80,6 +80,7 @@ pub fn ports_by(first: bool, second: bool, third: bool, last: bool) -> [bool; 16
     ]
 }
 
+// (A line for each port, as `ports_by` takes them: an iterator over four is no shorter.)
 fn ports_of(network: Network, s: usize) -> [bool; 16]
     requires { s < sites_most }
     ensures { result ≡ ports_of network s }
@@ -127,7 +128,7 @@ fn routes_ok(network: Network) -> bool
     (0..network.sites).all(|s| row_ok(network, s))
 }
 
-// 3 for S, T or D outside its limits, 6 for the channels, 7 for the routes, else 0.
+// 3 for S, T or D outside its limits, 6 for the channels, 7 for the routes, else none.
 fn parts_refusal(network: Network) -> Result<(), Refusal>
     ensures { refusal_of result ≡ parts_refusal network }
 {

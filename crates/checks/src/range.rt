@@ -82,8 +82,8 @@ fn site_ok(limits: Limits, site: Site) -> bool
         & queues_ok(limits, site.outgoing, site.incoming)
 }
 
-// (The limits stay apart here: `place_ok_settled` is of the five numbers.)
 // Place s of a state's sites, with the edition, S, T, D and the counter: a site of the network, or room beyond S.
+// (The limits stay apart here: `place_ok_settled` is of the five numbers.)
 pub fn place_ok(
     edition: u8,
     sites: usize,

@@ -6,7 +6,8 @@ ghost use Rattle.checks.specs.Sends.{send_after};
 
 use base::Refusal;
 
-// 9, 10, 12, 11 or 0 for SEND (site, set), with S, D, the counter and the entries of the site's out-queue.
+// 9, 10, 12, 11 or none for SEND (site, set), with S, D, the counter and the entries of the site's out-queue. (Numbers and
+// no network: `send_fault_settled` is of them.)
 pub fn send_fault(
     sites: usize,
     depth: usize,
@@ -33,7 +34,7 @@ pub fn send_fault(
 }
 
 // A stored send behind one with draw number `last`, or the first with 0 there: its site, set and draw number possible, and
-// its draw number not below the last.
+// its draw number not below the last. (The send's fields stay apart: `stored_ok_settled` is of them.)
 pub fn stored_ok(draw: u16, site: u8, set: u64, sites: usize, draws: u16, last: u16) -> bool
     ensures { result ≡ send_after sites draws last (record { set = set; draw = draw; site = site }) }
 {

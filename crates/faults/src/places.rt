@@ -1,6 +1,6 @@
-// (Versions and editions are bytes and no enums: every one may be handed in, as the theorems of these functions say.)
 // What differs between the versions of an archive: where its parts begin, how long it is, and what an edition byte and the
 // bytes of a channel say. A version that is not 1 is taken as 2.
+// (Versions and editions are bytes and no enums: every one may be handed in, as the theorems of these functions say.)
 ghost use Rattle.std.specs.Prelude.{◌≡◌, ◌+◌, ◌*◌};
 ghost use Rattle.format.specs.Format as spec;
 
@@ -63,7 +63,7 @@ pub fn channel_of(version: u8, first: u8, second: u8) -> u16
         if first == 255 {
             return base::NO_CHANNEL;
         }
-        return first as u16;
+        return u16::from(first);
     }
     base::word(first, second)
 }

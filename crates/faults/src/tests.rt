@@ -65,7 +65,8 @@ pub(crate) fn channel_ok(b: &[u8], version: u8, sites: usize, m: usize) -> bool
     (channel == base::NO_CHANNEL) | (checks::is_input(channel, sites) & is_new)
 }
 
-// The hex digits that may stand in a list of site s: 0, and the ports with a channel.
+// The hex digits that may stand in a list of site s: 0, and the ports with a channel. (A line for each port, as
+// `checks::ports_by` takes them.)
 pub(crate) fn ports_at(b: &[u8], version: u8, sites: usize, s: usize) -> [bool; 16]
     requires { Read b.now version sites × (s < sites) }
     ensures { result ≡ ports_of (network_of b.now) s }

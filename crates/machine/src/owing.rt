@@ -103,7 +103,8 @@ fn places_pairs<P: Place>(s: usize, places: &[P]) -> usize
     n
 }
 
-// Of the entries of an out-queue, of an in-queue.
+// Of the entries of an out-queue, of an in-queue. (Two lines over one generic `places_pairs`: one more generic function for
+// them would only hand on.)
 fn out_queue_pairs(s: usize, queue: OutQueue) -> usize
     ensures { (result ≡ sum (spec.pairs_out_entry s) (take queue.count queue.entries)) × (result ≤ 512) }
 {

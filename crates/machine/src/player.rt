@@ -41,7 +41,7 @@ fn play_run(run: &Run, book: &mut [u8]) -> Counts
     ensures { (result ≡ counts_of (played_run run.now)) × (book.new ≡ book_in run.now book.old) }
 {
     let network = run.network;
-    let total = run.count + (run.draws as usize);
+    let total = run.count + usize::from(run.draws);
     let mut state = empty_state();
     let mut clock = Clock {
         value: run.seed,

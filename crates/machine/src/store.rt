@@ -23,7 +23,7 @@ pub struct Seen {
 fn end_site(channel: u16) -> usize
     ensures { result ≡ channel / port_count % sites_most }
 {
-    (channel / 4) as usize % base::SITES
+    usize::from(channel / 4) % base::SITES
 }
 
 // The input at the end of a channel, of the site there; a free one where there is no channel.
@@ -31,7 +31,7 @@ fn end_of(site: Site, channel: u16) -> Input
     ensures { result ≡ cond (is_channel channel) (in_at site (end_port channel)) no_input }
 {
     if is_channel(channel) {
-        return site.inputs[(channel % 4) as usize + 1];
+        return site.inputs[usize::from(channel % 4) + 1];
     }
     free_input()
 }
@@ -68,8 +68,8 @@ fn pass_on(state: State, s: usize, site: Site, channel: u16, input: Input) -> St
     requires { (s < sites_most) × (channel < port_count * sites_most) }
     ensures { result ≡ passed state s site channel input }
 {
-    let u = (channel / 4) as usize;
-    let k = (channel % 4) as usize + 1;
+    let u = usize::from(channel / 4);
+    let k = usize::from(channel % 4) + 1;
     let mut next = state;
     next.sites[s] = site;
     let mut far = next.sites[u];

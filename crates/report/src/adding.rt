@@ -1,5 +1,6 @@
 // A line that grows in lent bytes: each function takes the place behind what stands there, adds as much as there is
 // room for, and answers the place behind that. So a line is composed first and goes out by one write.
+// (Places are handed on, as in text.rt: the clauses settle each byte of the room, which is the caller's.)
 ghost use Rattle.std.specs.Prelude.{◌++◌};
 ghost use Rattle.io.specs.Counts.{IsPrefixLen as Front};
 ghost use Rattle.io.specs.Digits.{last_digits};
@@ -7,7 +8,7 @@ ghost use Rattle.lines.specs.Text.{ascii, decimal, answer_line};
 ghost use Rattle.lines.specs.Add.{Added, shown, shown_byte};
 
 use crate::text::put_all;
-use crate::{ANSWER, answer_line, least};
+use crate::{ANSWER, answer_line};
 use types::Counts;
 
 // Adds bytes as they are.
@@ -15,8 +16,8 @@ pub fn add_bytes(text: &mut [u8], at: usize, bytes: &[u8]) -> usize
     ensures { Front result text.new
         × Added text.old at bytes.now result text.new }
 {
-    let from = least(at, text.len());
-    let n = least(bytes.len(), text.len() - from);
+    let from = at.min(text.len());
+    let n = bytes.len().min(text.len() - from);
     put_all(text, from, &bytes[..n])
 }
 
@@ -45,7 +46,7 @@ pub fn add_name(text: &mut [u8], at: usize, name: &[u8]) -> usize
     ensures { Front result text.new
         × Added text.old at (shown name.now) result text.new }
 {
-    let mut to = least(at, text.len());
+    let mut to = at.min(text.len());
     for byte in name {
         to = add_shown(text, to, *byte);
     }

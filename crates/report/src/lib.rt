@@ -7,7 +7,7 @@
 mod adding;
 mod text;
 
-ghost use Rattle.std.specs.Prelude.{min, ◌≡◌, OnErr, length, IfOk};
+ghost use Rattle.std.specs.Prelude.{◌≡◌, OnErr, length, IfOk};
 ghost use Rattle.io.specs.Counts.{IsPrefixLen as Front};
 ghost use Rattle.base.specs.Answers.{at_front};
 ghost use Rattle.lines.specs.Text.{answer_line, lines_answer, lines_after};
@@ -27,9 +27,9 @@ const SERVICE: usize = 14;
 
 // ---- composing
 
-// (A number and no Result, here and in `add_answer`: their theorems are of any number of a byte.)
 // Puts `refused N`, or the counts of an archive that was not refused, and a newline at the front of the lent bytes.
 // Answers how many they are.
+// (A number and no Result, here and in `add_answer`: their theorems are of any number of a byte.)
 pub fn answer_line(refusal: u8, counts: Counts, text: &mut [u8; ANSWER]) -> usize
     ensures { (result ≡ length (answer_line refusal counts))
         × (text.new ≡ at_front (answer_line refusal counts) text.old) }
@@ -47,7 +47,7 @@ pub fn service_lines(book: &[u8], text: &mut [u8]) -> Lines
     ensures { (result ≡ lines_answer book.now (length text.old))
         × (text.new ≡ lines_after book.now text.old) }
 {
-    let n = least(book.len() / 4, text.len() / SERVICE);
+    let n = (book.len() / 4).min(text.len() / SERVICE);
     let mut at = 0usize;
     for k in 0..n {
         at = put_entry(text, at, book, k);
@@ -58,16 +58,11 @@ pub fn service_lines(book: &[u8], text: &mut [u8]) -> Lines
     }
 }
 
-pub(crate) fn least(a: usize, b: usize) -> usize
-    ensures { result ≡ min a b }
-{
-    if a < b { a } else { b }
-}
-
 // ---- reading and writing
 
 // Reads until the room is full or the input ends, and answers how many bytes stand at the front of the room. A read
-// that fails makes the whole reading fail, with that read's own error: of the room only its length is known then.
+// that fails makes the whole reading fail, with that read's own error: of the room only its length is known then. (A `while`:
+// a read may bring less than it is asked for, so that no range says how often.)
 pub fn read_seen(from: &mut impl Read, room: &mut [u8]) -> Result<usize>
     ensures ok { IfOk result (λ count. Front count room.new) }
     ensures err { OnErr result (length room.new ≡ length room.old) }
@@ -87,7 +82,7 @@ pub fn read_seen(from: &mut impl Read, room: &mut [u8]) -> Result<usize>
 // in two. Stops at a write that fails.
 // (No `for`: a turn prints as many services as surely fit, and `service_lines` answers how many these were.)
 pub fn print_services(out: &impl Print, book: &[u8], count: usize) -> Result<()> {
-    let n = least(count, book.len() / 4);
+    let n = count.min(book.len() / 4);
     let mut text = io::buffer();
     let mut k = 0usize;
     while k < n {

@@ -1,6 +1,6 @@
-// (Places are handed on: the clauses settle each byte of the room, which is the caller's.)
 // Bytes put one behind the other into a lent room: each function takes the place to put at and answers the place behind
 // what it put. The caller has seen to the room.
+// (Places are handed on: the clauses settle each byte of the room, which is the caller's.)
 ghost use Rattle.std.specs.Prelude.{◌+◌, ◌*◌, ◌≤◌, ◌<◌, ◌++◌, length};
 ghost use Rattle.lines.specs.Text.{decimal, counts_line, service_line, line_at, answer_most, service_most};
 ghost use Rattle.report.specs.Put.{Put};

@@ -50,9 +50,11 @@ impl fmt::Display for Totals {
     }
 }
 
+// The line of a file; what is behind a name that could not be written is written all the same.
 fn print_line(out: &impl Print, name: &[u8], outcome: Outcome) -> Result<()> {
-    out.write_all(name)?;
-    println!(out; ": {outcome}")
+    let named = out.write_all(name);
+    println!(out; ": {outcome}")?;
+    named
 }
 
 // The file that argument i names, and whether its line could be written. A longer argument than a path can be leads to

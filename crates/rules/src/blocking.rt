@@ -19,7 +19,7 @@ fn is_way(list: [usize; base::PORTS], j: usize) -> bool
     (1..=base::PORTS).contains(&j) && list.contains(&j)
 }
 
-// The ports of a list, as a set of outputs.
+// The ports of a list, as a set of outputs. (A `for`: a fold would hand the set on and say no more.)
 fn ports_of(list: [usize; base::PORTS]) -> u64
     ensures { result ≡ those (λ j. is_port j && listed list j) output_count }
 {
@@ -46,7 +46,7 @@ fn ways_of(search: Search, set: u64) -> u64
 
 // The router asked over any routes, sites and sets: its choice, or the outputs in the way. Nothing serves, and nothing is in
 // the way, where site s is none of the sites, there are more than the limit, the routes are not those of the limit's
-// sites, or the set is not one of targets.
+// sites, or the set is not one of targets. (The network's parts stay apart: `ask_in_settled` is of them.)
 pub fn ask_in(
     edition: u8,
     routes: &[u16],
@@ -86,7 +86,8 @@ fn passed_on(
     }
 }
 
-// What the step of a net-input passes on, over any routes; nothing where it is not in seek.
+// What the step of a net-input passes on, over any routes; nothing where it is not in seek. (Of the
+// parts of a network, as `blocking_in_settled` is.)
 pub fn blocking_in(
     edition: u8,
     routes: &[u16],

@@ -27,7 +27,7 @@ fn count_chosen(sets: [u64; base::OUTPUTS]) -> usize
     sets.iter().filter(|set| **set != 0).count()
 }
 
-// The first of the ports 1 to 4 that a choice has; 0 where it has none.
+// The first of the ports 1 to 4 that a choice has; 0 where it has none, as the definition says.
 fn first_chosen(sets: [u64; base::OUTPUTS]) -> usize
     ensures { result ≡ first_chosen sets }
 {
@@ -190,7 +190,8 @@ pub(crate) fn search_in(
 }
 
 // The same over any routes, sites and sets: nothing serves where site s is none of the sites, there are more than the
-// limit, the routes are not those of the limit's sites, or the set is not one of targets.
+// limit, the routes are not those of the limit's sites, or the set is not one of targets. (Of the parts of a network, as
+// `route_in_settled` is.)
 pub fn route_in(
     edition: u8,
     routes: &[u16],

@@ -51,7 +51,8 @@ fn is_split_ready(words: &[u64; WORDS], s: usize, marked: bool) -> bool
     marked && is_taken(words, s, base::SPLIT_PORT)
 }
 
-// Which outputs of site s are ready: output 0, and those that are marked.
+// Which outputs of site s are ready: output 0, and those that are marked. (A row for each output: the first and the last ask
+// another test than those between them.)
 fn readies(
     network: &Network,
     words: &[u64; WORDS],

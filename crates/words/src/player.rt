@@ -125,7 +125,7 @@ fn play_run(run: Run, book: &mut [u8]) -> Counts
     }
 }
 
-// The player, for any bytes and any lent room: refusals 1 to 8 and 14, or the run played and its book at the room's front.
+// The player, for any bytes and any lent room: refusals 1 to 8, 14 and 17, or the run played and its book at the room's front.
 pub fn play(bytes: &[u8], book: &mut [u8]) -> Result<Counts, Refusal>
     ensures { (told_play result ≡ play_answer bytes.now (length book.old))
         × (book.new ≡ play_book bytes.now book.old) }

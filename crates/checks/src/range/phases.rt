@@ -1,4 +1,4 @@
-// What a net-input's state and a terminator tell: the model's case functions, each as one full match.
+// What a net-input's state and a terminator tell: the model's case functions, each as a full match or by `matches!`.
 ghost use Rattle.std.specs.Prelude.{◌≡◌};
 ghost use Rattle.types.specs.Phases.{branches, connected, splitting, branching, aborting, is_keep};
 

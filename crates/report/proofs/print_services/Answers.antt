@@ -36,16 +36,16 @@ pub overflow_add-k : goal.overflow_add-k
 overflow_add-k g c =
     let r = c.service_lines-lines in
     let f = lines_counts _ c.loop-k.text r.new.text r.result r.ensures.0 r.ensures.1 in
-    omega (arith, f.1, part_length c.args.book.now c.least-n.result c.loop-k.k (omega arith) (omega arith))
+    omega (arith, f.1, part_length c.args.book.now c.min-n.result c.loop-k.k (omega arith) (omega arith))
 
 pub loop-k-smaller : goal.loop-k-smaller
 loop-k-smaller g c =
     let r = c.service_lines-lines in
     let f = lines_counts _ c.loop-k.text r.new.text r.result r.ensures.0 r.ensures.1 in
-    omega (arith, f.1, part_length c.args.book.now c.least-n.result c.loop-k.k (omega arith) (omega arith))
+    omega (arith, f.1, part_length c.args.book.now c.min-n.result c.loop-k.k (omega arith) (omega arith))
 
 pub loop-k-preserved : goal.loop-k-preserved
 loop-k-preserved g c =
     let r = c.service_lines-lines in
     let f = lines_counts _ c.loop-k.text r.new.text r.result r.ensures.0 r.ensures.1 in
-    (search rules, omega (arith, f.1, part_length c.args.book.now c.least-n.result c.loop-k.k (omega arith) (omega arith)))
+    (search rules, omega (arith, f.1, part_length c.args.book.now c.min-n.result c.loop-k.k (omega arith) (omega arith)))

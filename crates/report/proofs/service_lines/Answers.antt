@@ -9,7 +9,7 @@ pub loop-k-init : goal.loop-k-init
 loop-k-init c = (refl, omega arith, omega arith, no_lines _ _)
 
 pub put_entry-at-requires : goal.put_entry-at-requires
-put_entry-at-requires c = omega (arith, c.least-n.ensures, c.loop-k.invariant.2)
+put_entry-at-requires c = omega (arith, c.min-n.ensures, c.loop-k.invariant.2)
 
 pub loop-k-preserved : goal.loop-k-preserved
 loop-k-preserved c =
@@ -20,5 +20,5 @@ loop-k-preserved c =
 pub returns : goal.returns
 returns c =
     let l = c.loop-k in
-    let n = c.least-n in
+    let n = c.min-n in
     lines_all _ n.result l.k n.ensures (omega arith) l.invariant.3

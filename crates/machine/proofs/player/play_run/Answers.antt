@@ -1,4 +1,5 @@
 use mathlib.Core.Path.{refl, sym, ap, ◌∙◌}
+use Prim.Native.Nat.{◌+◌}
 use Rattle.draws.specs.Draws.{told}
 use Rattle.draws.proofs.Laws.{event_ok}
 use native.Mathlib.Omega.{arith}
@@ -14,7 +15,7 @@ overflow_add-total c =
     omega (arith, (stored_sends c.args.run.now c.requires.valid).0)
 
 pub loop-turn-init : goal.loop-turn-init
-loop-turn-init c = begun c.requires refl (search rules) c.empty_state-state.ensures
+loop-turn-init c = begun c.requires (ap (◌+◌ c.args.run.now.count) c.from.ensures) (search rules) c.empty_state-state.ensures
 
 pub overflow_add-next : goal.overflow_add-next
 overflow_add-next c = omega (arith, next_most c.loop-turn.invariant)

@@ -7,7 +7,7 @@ use Rattle.report.proofs.Adds.{added_start, added_counts, shown_more}
 use Rattle.report.proofs.adding.add_name.Goals as goal
 
 pub loop-byte-init : goal.loop-byte-init
-loop-byte-init c = (refl, omega arith, added_start _ _ _ _ c.least-to.ensures)
+loop-byte-init c = (refl, omega arith, added_start _ _ _ _ c.min-to.ensures)
 
 pub loop-byte-preserved : goal.loop-byte-preserved
 loop-byte-preserved c =
