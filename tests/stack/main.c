@@ -19,8 +19,8 @@
 #define MOVE_LIMIT 4096
 #define READ_LIMIT 4096
 
-/* The reader's answer, format::Decoded: refusal 1, padding 7, network 8,728, seed, draws and count 16, sends 255 x 16. */
-#define ANSWER_BYTES (1 + 7 + 8728 + 16 + 255 * 16)
+/* The reader's answer, a Result: which it is 8, network 8,728, seed, draws and count 16, sends 255 x 16. */
+#define ANSWER_BYTES (8 + 8728 + 16 + 255 * 16)
 /* What of it stack_read cannot do without: channels, routes and sends. */
 #define PICKED_BYTES (2 * 256 + 2 * 4096 + 255 * 16)
 
