@@ -1,20 +1,46 @@
-use Rattle.std.proofs.Common.{◌≡◌, ap, sym, ◌∙◌}
-use Rattle.base.specs.Refusals.{number, number_of, number_nonzero}
-use Rattle.machine.specs.Play.{refused_by, told_start}
-use Rattle.machine.proofs.PlayerAnswers.{play_refused, play_done}
+use Rattle.std.proofs.Common.{◌<◌, ◌≤◌, refl, arith}
+use lib.ListN.{length}
+use Rattle.base.specs.Refusals.{number, number_nonzero}
+use Rattle.base.specs.declared.refusal.Refusal.TheVariants.{Room}
+use Rattle.model.specs.Runs.{book_room}
+use Rattle.format.specs.Format.{version_of, count_place, count_of, no_run}
+use Rattle.format.specs.Refusals.{Decoded}
+use Rattle.machine.proofs.PlayerAnswers.{read_room, start_refused, start_short, start_done, start_playable, play_refused, play_done}
 use Rattle.words.proofs.player.play.Goals as goal
 
-pub returns-in-Some : goal.returns-in-Some
-returns-in-Some c =
+pub returns-in-Err : goal.returns-in-Err
+returns-in-Err c =
     let a = c.args in
-    let e = c.in-Some.refusal in
-    let z : number_of c.start-started.result.refused ≡ number e = ap number_of c.in-Some.is in
-    let w = play_refused a.bytes.now a.book.now {d = told_start c.start-started.result} c.start-started.ensures.0
-    (λ y. number_nonzero e (sym z ∙ y)) in
-    (ap refused_by (sym z) ∙ w.0, w.1)
+    let b = a.bytes.now in
+    let e = c.in-Err.refusal in
+    let d : Decoded = record { refusal = number e; run = no_run } in
+    play_refused b a.book.now {d = d} (start_refused b d c.in-Err.ensures _ (number_nonzero e)) (number_nonzero e)
 
-pub returns : goal.returns
-returns c =
+pub returns-in-Ok : goal.returns-in-Ok
+returns-in-Ok c =
     let a = c.args in
-    play_done a.bytes.now a.book.now {d = told_start c.start-started.result} c.start-started.ensures.0 (ap number_of c.in_default.is)
-    c.play_run.ensures.0 c.play_run.ensures.1
+    let b = a.bytes.now in
+    let d : Decoded = record { refusal = 0; run = c.in-Ok.run' } in
+    let byte : count_of b < 256 = omega (arith, c.type_inv.bytes (count_place (version_of b))) in
+    let w = read_room b d c.in-Ok.ensures refl byte c.book_room.ensures in
+    let short = start_short b d c.in-Ok.ensures (length a.book.now) refl (omega (arith, w, c.if-book-book_room.true)) in
+    play_refused b a.book.now {d = record { refusal = 14; run = c.in-Ok.run' }} short (number_nonzero Room)
+
+pub play_run-requires : goal.play_run-requires
+play_run-requires c =
+    let a = c.args in
+    let b = a.bytes.now in
+    let d : Decoded = record { refusal = 0; run = c.in-Ok.run' } in
+    let byte : count_of b < 256 = omega (arith, c.type_inv.bytes (count_place (version_of b))) in
+    let w = read_room b d c.in-Ok.ensures refl byte c.book_room.ensures in
+    start_playable b d c.in-Ok.ensures (length a.book.now) refl byte (omega (arith, w, c.if-book-book_room.false))
+
+pub returns-in-Ok-2 : goal.returns-in-Ok-2
+returns-in-Ok-2 c =
+    let a = c.args in
+    let b = a.bytes.now in
+    let d : Decoded = record { refusal = 0; run = c.in-Ok.run' } in
+    let byte : count_of b < 256 = omega (arith, c.type_inv.bytes (count_place (version_of b))) in
+    let w = read_room b d c.in-Ok.ensures refl byte c.book_room.ensures in
+    let done = start_done b d c.in-Ok.ensures (length a.book.now) refl (omega (arith, w, c.if-book-book_room.false)) in
+    play_done b a.book.now {d = d} done refl c.play_run.ensures.0 c.play_run.ensures.1
