@@ -22,11 +22,12 @@ fn told(run: types::Run, k: usize) -> usize
     base::wider(channel) + 65536 * routed
 }
 
-// Reads the archive: its refusal, 1 to 17, or 32 and what k picks of its run.
+// Reads the archive: its refusal, 1 to 17, or 32 and what k picks of its run. It asks for the refusal first, so that what is
+// read is a run and the way to the picks is straight: behind a match the compiler keeps an array more, which is not the reader's.
 #[unsafe(no_mangle)]
 pub extern "C" fn stack_read(bytes: &[u8], k: usize) -> usize {
-    match archive::read(bytes) {
-        Ok(run) => 32 + told(run, k),
-        Err(refusal) => base::wide(u8::from(refusal)),
+    if let Err(refusal) = archive::check(bytes) {
+        return base::wide(u8::from(refusal));
     }
+    32 + told(archive::read(bytes).unwrap(), k)
 }
