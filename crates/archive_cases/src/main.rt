@@ -14,7 +14,7 @@ mod wide;
 use base::Refusal;
 use std::fmt::Display;
 use std::io::{Print, Read};
-use types::{Network, Run, StoredSend};
+use types::Run;
 
 // "Run R", byte by byte.
 pub(crate) const R: [u8; 24] = [
@@ -53,29 +53,9 @@ pub(crate) fn show_check(out: &impl Print, label: &str, file: &[u8]) {
     );
 }
 
-// What stands for the run of a file that is refused.
-const NO_RUN: Run = Run {
-    network: Network {
-        sites: 0,
-        depth: 0,
-        tries: 0,
-        version: 0,
-        edition: 0,
-        channels: [0; base::PORTS * base::SITES],
-        routes: [0; base::SITES * base::SITES],
-    },
-    seed: 0,
-    draws: 0,
-    count: 0,
-    sends: [StoredSend {
-        set: 0,
-        draw: 0,
-        site: 0,
-    }; base::SENDS],
-};
-
+// The run that the reader hands over, all zero for a file that is refused.
 pub(crate) fn run_of(file: &[u8]) -> Run {
-    archive::read(file).unwrap_or(NO_RUN)
+    machine::start(file, 0).run
 }
 
 // Reads a file, and answers the run.

@@ -25,7 +25,8 @@ pub struct Program<R> {
     pub(crate) first: usize,
 }
 
-// Runs a program of this name: it does its work, and the front, if it called, is told the answer.
+// Runs a program of this name: it does its work, and the front, if it called, is told the answer. (What may be called is a
+// `requires` here and in `fold_words`, as the kit has it of a closure that is passed in.)
 pub fn run<R: Desk + Drop, A: Display + Drop, F: FnOnce(&Program<R>) -> A>(
     rt: R,
     name: &str,
