@@ -16,7 +16,8 @@ pub fn kind_refusal(version: u8, edition: u8) -> Result<(), Refusal>
     ensures { refusal_of result ≡ kind_in version edition }
 {
     match (version, edition) {
-        (1, 1) | (2, 1..=3) => Ok(()),
+        (1, 1) | (2, 1 | 2) => Ok(()),
+        (2, _) if draws::is_restricted(edition) => Ok(()),
         (1 | 2, _) => Err(Refusal::Edition),
         _ => Err(Refusal::Version),
     }
@@ -81,11 +82,11 @@ pub fn ports_by(first: bool, second: bool, third: bool, last: bool) -> [bool; 16
 }
 
 // (A line for each port, as `ports_by` takes them: an iterator over four is no shorter.)
-fn ports_of(network: Network, s: usize) -> [bool; 16]
+fn ports_of(network: &Network, s: usize) -> [bool; 16]
     requires { s < sites_most }
-    ensures { result ≡ ports_of network s }
+    ensures { result ≡ ports_of network.now s }
 {
-    let channels = network.channels;
+    let channels = &network.channels;
     let at = base::PORTS * s;
     let first = channels[at] != base::NO_CHANNEL;
     let second = channels[at + 1] != base::NO_CHANNEL;
@@ -111,19 +112,19 @@ pub fn route_ok(ports: [bool; 16], s: usize, t: usize, route: u16) -> bool
     ((s == t) & (w == 0)) | ((s != t) & ((a != 0) & known & packed & apart))
 }
 
-// The routes from site s.
-fn row_ok(network: Network, s: usize) -> bool
-    requires { (s < network.sites) × (network.sites ≤ sites_most) }
-    ensures { result ≡ all (route_ok network s) network.sites }
+// The routes from site s. (The network is lent: by value its routes are copied for each row.)
+fn row_ok(network: &Network, s: usize) -> bool
+    requires { (s < network.now.sites) × (network.now.sites ≤ sites_most) }
+    ensures { result ≡ all (route_ok network.now s) network.now.sites }
 {
     let ports = ports_of(network, s);
     let row = s * network.sites;
     (0..network.sites).all(|t| route_ok(ports, s, t, network.routes[row + t]))
 }
 
-fn routes_ok(network: Network) -> bool
-    requires { network.sites ≤ sites_most }
-    ensures { result ≡ routes_ok network }
+fn routes_ok(network: &Network) -> bool
+    requires { network.now.sites ≤ sites_most }
+    ensures { result ≡ routes_ok network.now }
 {
     (0..network.sites).all(|s| row_ok(network, s))
 }
@@ -138,7 +139,7 @@ fn parts_refusal(network: Network) -> Result<(), Refusal>
     if !channels_ok(network) {
         return Err(Refusal::Channels);
     }
-    if !routes_ok(network) {
+    if !routes_ok(&network) {
         return Err(Refusal::Routes);
     }
     Ok(())

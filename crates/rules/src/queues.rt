@@ -72,7 +72,7 @@ pub(crate) fn pop_out(queue: OutQueue) -> OutQueue
 {
     OutQueue {
         entries: shifted(queue.entries, NO_OUT_ENTRY),
-        count: queue.count.saturating_sub(1),
+        count: base::one_less(queue.count),
     }
 }
 
@@ -81,7 +81,7 @@ pub(crate) fn pop_in(queue: InQueue) -> InQueue
 {
     InQueue {
         entries: shifted(queue.entries, NO_IN_ENTRY),
-        count: queue.count.saturating_sub(1),
+        count: base::one_less(queue.count),
     }
 }
 
@@ -100,7 +100,7 @@ fn last_of(queue: InQueue) -> InEntry
 {
     queue
         .entries
-        .get(queue.count.saturating_sub(1))
+        .get(base::one_less(queue.count))
         .copied()
         .unwrap_or(NO_IN_ENTRY)
 }
@@ -121,7 +121,7 @@ pub(crate) fn end_last(queue: InQueue, terminator: Terminator) -> InQueue
         ..last_of(queue)
     };
     InQueue {
-        entries: stored(queue.entries, queue.count.saturating_sub(1), entry),
+        entries: stored(queue.entries, base::one_less(queue.count), entry),
         ..queue
     }
 }

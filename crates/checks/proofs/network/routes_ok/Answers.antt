@@ -6,5 +6,5 @@ use Rattle.checks.proofs.network.routes_ok.Goals as goal
 
 pub returns : goal.returns
 returns c =
-    let n = c.args.network in
+    let n = c.args.network.now in
     all_in_range (λ s. all (route_ok n s) n.sites) n.sites _ _ _ c.all.ensures.ran refl (λ x b q k. search rules)

@@ -8,7 +8,7 @@ use Rattle.checks.proofs.network.row_ok.Goals as goal
 pub returns : goal.returns
 returns c =
     let a = c.args in
-    let n = a.network in
+    let n = a.network.now in
     all_in_range (λ t. route_by c.ports_of-ports.result a.s t (get_or n.routes (a.s * n.sites + t) 0)) n.sites _ _ _
     c.all.ensures.ran refl (λ x b q k. search rules)
     ∙ row_by n a.s _ _ c.ports_of-ports.ensures
