@@ -80,6 +80,18 @@ fn play_run(run: &Run, book: &mut [u8]) -> Counts
     }
 }
 
+// The answer of a player, in numbers.
+impl From<Result<Counts, Refusal>> for PlayAnswer {
+    ghost from_gives = { λ played answer. answer ≡ told_play played };
+
+    fn from(played: Result<Counts, Refusal>) -> PlayAnswer {
+        match played {
+            Ok(counts) => PlayAnswer { refusal: 0, counts },
+            Err(refusal) => refused(u8::from(refusal)),
+        }
+    }
+}
+
 // What a player starts from: the run that the reader hands over, and why it is not played, if anything.
 #[derive(Clone, Copy)]
 pub struct Started {
@@ -113,22 +125,29 @@ fn no_run() -> Run
     }
 }
 
-// What a player starts from, with so many bytes lent for the book: refusals 1 to 8, 17 and 14.
+// What a player starts from, with so many bytes lent for the book: refusals 1 to 8, 17 and 14. (Each answer is
+// returned where it is made: of one that is the value of a `match` the compiler keeps another copy, which takes the
+// stack of `words::play` above its bound, docs/DECISIONS.md 163.)
 pub fn start(bytes: &[u8], room: usize) -> Started
     ensures { (told_start result ≡ start_of bytes.now room)
         × (result.refused ≡ None → Playable result.run room) }
 {
-    match archive::read(bytes) {
-        Err(refusal) => Started {
-            refused: Some(refusal),
-            run: no_run(),
-        },
-        Ok(run) if room < book_room(run.sends, run.count) => Started {
+    let run = match archive::read(bytes) {
+        Ok(run) => run,
+        Err(refusal) => {
+            return Started {
+                refused: Some(refusal),
+                run: no_run(),
+            };
+        }
+    };
+    if room < book_room(run.sends, run.count) {
+        return Started {
             refused: Some(Refusal::Room),
             run,
-        },
-        Ok(run) => Started { refused: None, run },
+        };
     }
+    Started { refused: None, run }
 }
 
 // The player, for any bytes and any lent room: refusals 1 to 8, 17 and 14, or the run played and its book at the room's front.

@@ -11,7 +11,7 @@ use crate::runs::run_in_place;
 use crate::sends::send_in_place;
 use base::Refusal;
 use layout::WORDS;
-use machine::{Clock, book_room, capped, enter_answer, is_due, ticked};
+use machine::{Clock, capped, enter_answer, is_due, start, ticked};
 use types::{Counts, Network, Run, Sent, StoredSend};
 
 // Where a run stands beside its state and its book: the packets accepted, their summed set sizes, the services, the next stored send,
@@ -130,9 +130,9 @@ pub fn play(bytes: &[u8], book: &mut [u8]) -> Result<Counts, Refusal>
     ensures { (told_play result ≡ play_answer bytes.now (length book.old))
         × (book.new ≡ play_book bytes.now book.old) }
 {
-    match archive::read(bytes) {
-        Err(refusal) => Err(refusal),
-        Ok(run) if book.len() < book_room(run.sends, run.count) => Err(Refusal::Room),
-        Ok(run) => Ok(play_run(run, book)),
+    let started = start(bytes, book.len());
+    if let Some(refusal) = started.refused {
+        return Err(refusal);
     }
+    Ok(play_run(started.run, book))
 }

@@ -13,8 +13,8 @@ returns-in-Err c =
     let d : Decoded = record { refusal = number c.in-Err.refusal; run = no_run } in
     (rw c.no_run.ensures (start_refused a.bytes.now d c.in-Err.ensures a.room (number_nonzero c.in-Err.refusal)), λ z. absurd (none-some _ (sym z)))
 
-pub returns-in-Ok : goal.returns-in-Ok
-returns-in-Ok c =
+pub returns-then-room-book_room : goal.returns-then-room-book_room
+returns-then-room-book_room c =
     let a = c.args in
     let b = a.bytes.now in
     let d : Decoded = record { refusal = 0; run = c.in-Ok.run' } in
@@ -22,8 +22,8 @@ returns-in-Ok c =
     let w = read_room b d c.in-Ok.ensures refl byte c.book_room.ensures in
     (start_short b d c.in-Ok.ensures a.room refl (omega (arith, w, c.if-room-book_room.true)), λ z. absurd (none-some _ (sym z)))
 
-pub returns-in-Ok-2 : goal.returns-in-Ok-2
-returns-in-Ok-2 c =
+pub returns : goal.returns
+returns c =
     let a = c.args in
     let b = a.bytes.now in
     let d : Decoded = record { refusal = 0; run = c.in-Ok.run' } in
