@@ -62,7 +62,7 @@ extern "C" {
 
 /*
  * The stack that a call takes, in bytes, from its return address down: the most that was measured on x86-64 (166, 214,
- * 294, 294 and 66,382 bytes, over the corpus and archives cut and damaged from it, 64 sites among them), rounded up. It is
+ * 294, 294 and 66,174 bytes, over the corpus and archives cut and damaged from it, 64 sites among them), rounded up. It is
  * measured, not proved; memcpy and memset are the caller's own, and those of glibc are counted in.
  */
 #define FENNQUALO_CHECK_STACK 320

@@ -41,6 +41,14 @@ can_run() {
 # The library, under the name that it is installed by.
 sh "$root/scripts/library.sh" "$built" || end 1 "libfennqualo.a is not built"
 
+# What it asks of those who link it: the header says memcpy and memset and nothing else.
+if command -v nm >/dev/null 2>&1; then
+    needs=$(nm -u "$built/libfennqualo.a" | awk '$1 == "U" { print $2 }' | sort -u | tr '\n' ' ')
+    [ "$needs" = 'memcpy memset ' ] || end 1 "the library needs ${needs:-nothing}, not memcpy and memset alone"
+else
+    echo "library: what it needs of those who link it is left out, since nm is not there"
+fi
+
 # How to compile for x86-64.
 set --
 if [ "$(uname -m)" = x86_64 ]; then

@@ -69,12 +69,15 @@ pub fn fennqualo_play(bytes: &[u8], book: &mut [u8], counts: &mut [u64]) -> u8
     told(play(bytes, book, counts))
 }
 
-// The bytes at the front of a lent slice.
+// The bytes at the front of a lent slice. (By `for`: `copy_from_slice` asks memmove of those who link the library, and
+// include/fennqualo.h says that memcpy and memset are enough.)
 fn put_bytes(bytes: &[u8], out: &mut [u8])
     requires { length bytes.now ≤ length out.old }
     ensures { out.new ≡ at_front bytes.now out.old }
 {
-    out[..bytes.len()].copy_from_slice(bytes);
+    for i in 0..bytes.len() {
+        out[i] = bytes[i];
+    }
 }
 
 fn copy(bytes: &[u8], out: &mut [u8]) -> Result<(), Refusal>

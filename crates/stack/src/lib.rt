@@ -3,7 +3,9 @@
 // the run, so that no array of the run can be left out.
 #![tactic(auto)]
 
-ghost use Rattle.std.specs.Prelude.{◌<◌};
+ghost use Rattle.std.specs.Prelude.{◌<◌, IfOk};
+
+use base::Refusal;
 
 // What k picks of the run, a channel, a route and a send, as the digits of one number below 2^62.
 fn told(run: types::Run, k: usize) -> usize
@@ -22,12 +24,19 @@ fn told(run: types::Run, k: usize) -> usize
     base::wider(channel) + 65536 * routed
 }
 
-// Reads the archive: its refusal, 1 to 17, or 32 and what k picks of its run. It asks for the refusal first, so that what is
-// read is a run and the way to the picks is straight: behind a match the compiler keeps an array more, which is not the reader's.
+// What k picks of the run that is read, or why none is. (By `?`: where the answer is matched, the compiler keeps an array more,
+// which is not the reader's.)
+fn picked(bytes: &[u8], k: usize) -> Result<usize, Refusal>
+    ensures { IfOk result (λ n. n < 4611686018427387904) }
+{
+    Ok(told(archive::read(bytes)?, k))
+}
+
+// Reads the archive: its refusal, 1 to 17, or 32 and what k picks of its run.
 #[unsafe(no_mangle)]
 pub extern "C" fn stack_read(bytes: &[u8], k: usize) -> usize {
-    if let Err(refusal) = archive::check(bytes) {
-        return base::wide(u8::from(refusal));
+    match picked(bytes, k) {
+        Ok(picked) => 32 + picked,
+        Err(refusal) => base::wide(u8::from(refusal)),
     }
-    32 + told(archive::read(bytes).unwrap(), k)
 }
