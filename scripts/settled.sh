@@ -21,10 +21,10 @@ bare="model theorems layout format lines calls"
 # `front` that is all of them: the program's arguments, messages, files and the line of numbers; and the lines that
 # `inspect`, `trace` and `batch` compose, whose words are tested, not proved.
 exceptions="report::read_seen report::print_services report::print_line report::print_refusal"
-exceptions="$exceptions front::run front::is_fronted front::is_command front::fold_words front::arg_count front::of front::none front::with"
+exceptions="$exceptions front::called front::tell front::words front::word_at front::is_fronted front::is_command front::arg_count front::of front::none front::with"
 exceptions="$exceptions front::say front::say_word front::misused front::too_long front::print front::no_output front::show_usage"
 exceptions="$exceptions front::read_file front::read_argument front::read front::read_input front::no_input"
-exceptions="$exceptions front::new front::as_bytes front::add_bytes front::add_name front::add_answer"
+exceptions="$exceptions front::new front::as_bytes front::add_bytes front::add_name front::add_answer front::clear"
 
 fail() {
     echo "settled: $1" >&2

@@ -12,7 +12,8 @@ mod rings;
 mod wide;
 
 use base::Refusal;
-use std::fmt::Display;
+use std::fmt;
+use std::fmt::{Display, Write as _};
 use std::io::{Print, Read};
 use types::Run;
 
@@ -27,18 +28,32 @@ const NINE: u8 = 9;
 
 // ---- what is shown, a line each
 
-// What cannot be printed is lost.
-pub(crate) fn print_line(out: &impl Print, line: impl Display + Drop) {
-    let _ = out.println(line);
+// Where a text goes out piece by piece. A piece that cannot be written is lost, and those behind it are tried.
+#[derive(Drop)]
+struct Pieces<'a, P>(&'a P);
+
+impl<P: Print> fmt::Write for Pieces<'_, P> {
+    fn write_str(&mut self, text: &str) -> fmt::Result {
+        let _ = self.0.write_all(text.as_bytes());
+        Ok(())
+    }
+}
+
+fn print_line(out: &impl Print, line: impl Display + Drop) {
+    let _ = writeln!(Pieces(out), "{line}");
 }
 
 pub(crate) fn show_same(out: &impl Print, label: &str, is_same: bool) {
-    let answer = if is_same { "yes" } else { "no" };
-    print_line(out, format_args!("{label} {answer}"));
+    let answer = if is_same { " yes\n" } else { " no\n" };
+    let _ = write!(Pieces(out), "{label}{answer}");
+}
+
+fn show_number(out: &impl Print, label: &str, number: usize) {
+    print_line(out, format_args!("{label} {number}"));
 }
 
 // The number of a refusal, 0 for none.
-pub(crate) fn number<T: Copy>(answer: Result<T, Refusal>) -> u8 {
+fn number<T: Copy>(answer: Result<T, Refusal>) -> u8 {
     match answer {
         Ok(_) => 0,
         Err(refusal) => u8::from(refusal),
@@ -53,14 +68,14 @@ pub(crate) fn show_check(out: &impl Print, label: &str, file: &[u8]) {
     );
 }
 
-// The run that the reader hands over, all zero for a file that is refused.
+// The run that the reader hands over; for a file that it refuses the all-zero one, which a player starts from then.
 pub(crate) fn run_of(file: &[u8]) -> Run {
-    machine::start(file, 0).run
+    archive::read(file).unwrap_or(machine::start(&[], 0).run)
 }
 
 // Reads a file, and answers the run.
 pub(crate) fn show_read(out: &impl Print, label: &str, file: &[u8]) -> Run {
-    show_check(out, label, file);
+    print_line(out, format_args!("{label} {}", number(archive::read(file))));
     run_of(file)
 }
 
@@ -195,24 +210,25 @@ fn writers(out: &impl Print) {
 // The writer's own limits, each alone: run R with a depth and a number of sites.
 fn limits(out: &impl Print) {
     let mut run = run_of(&R);
-    for (label, depth, sites) in [("D 8", 8, 1), ("D 9", 9, 1), ("S 17", 1, 17)] {
+    let cases = [
+        ("written with D 8", 8, 1),
+        ("written with D 9", 9, 1),
+        ("written with S 17", 1, 17),
+    ];
+    for (label, depth, sites) in cases {
         run.network.depth = depth;
         run.network.sites = sites;
         let mut room = [NINE; 24];
-        show_written(
-            out,
-            format_args!("written with {label}"),
-            archive::write(run, &mut room),
-        );
+        show_written(out, label, archive::write(run, &mut room));
     }
 }
 
 // The largest archive, read, written again, and one byte short of room; and with 17 for its 16 sites.
 fn largest(out: &impl Print, file: &[u8]) {
-    print_line(out, format_args!("bytes {}", file.len()));
+    show_number(out, "bytes", file.len());
     let run = show_read(out, "16 sites, 255 sends", file);
-    print_line(out, format_args!("sites {}", run.network.sites));
-    print_line(out, format_args!("sends {}", run.count));
+    show_number(out, "sites", run.network.sites);
+    show_number(out, "sends", run.count);
     let short: [u8; 1863] = lend(out, "room 1863", |room| archive::write(run, room));
     show_untouched(out, &short);
     let mut room: [u8; 1864] = lend(out, "room 1864", |room| archive::write(run, room));
@@ -227,7 +243,8 @@ fn read_full(input: &mut impl Read, room: &mut [u8]) -> usize
 {
     let size = room.len();
     let mut rest = &mut room[..];
-    let _ = std::io::copy(input, &mut rest);
+    let mut first = input.by_ref().take(size as u64);
+    let _ = std::io::copy(&mut first, &mut rest);
     size.saturating_sub(rest.len())
 }
 

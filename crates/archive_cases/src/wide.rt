@@ -1,8 +1,5 @@
 // Reader and writer on the bounds of version 2, and version and edition in memory. Run R in version 2 stands here.
-use crate::{
-    R, lend, number, print_line, run_of, show_changes, show_check, show_read, show_same,
-    show_untouched,
-};
+use crate::{R, lend, run_of, show_changes, show_check, show_read, show_same, show_untouched};
 use std::io::Print;
 
 // Run R: after the version byte an edition byte, four channels of two bytes, a set of eight.
@@ -50,13 +47,17 @@ fn heads(out: &impl Print) {
 }
 
 fn bodies(out: &impl Print) {
-    for channel in [3u16, 4, 255, 256, 65535] {
+    let channels = [
+        ("channel 3", 3u16),
+        ("channel 4", 4),
+        ("channel 255", 255),
+        ("channel 256", 256),
+        ("channel 65535", 65535),
+    ];
+    for (label, channel) in channels {
         let mut file = WIDE;
         file[14..16].copy_from_slice(&channel.to_be_bytes());
-        print_line(
-            out,
-            format_args!("channel {channel} {}", number(archive::check(&file))),
-        );
+        show_check(out, label, &file);
     }
     let changes = [
         ("route 1000", 22, 0x10),

@@ -81,7 +81,7 @@ pub struct Asked {
 impl Asked {
     // What the words ask for.
     pub fn of(program: &Program<impl Desk>) -> Result<Asked, NoWork> {
-        let nothing = Asked {
+        let mut asked = Asked {
             services: false,
             unplayed: false,
             end: End::Line,
@@ -90,11 +90,10 @@ impl Asked {
             next: Next::Word,
         };
         let mut room = io::buffer();
-        let asked = program.fold_words(
-            &mut room,
-            Ok(nothing),
-            |asked, i, word| asked?.with(program, i, word),
-        )?;
+        for i in program.words() {
+            let n = program.word_at(i, &mut room);
+            asked = asked.with(program, i, &room[..n])?;
+        }
         asked.whole(program)
     }
 

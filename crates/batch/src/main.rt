@@ -17,11 +17,15 @@ use std::fmt::Write as _;
 
 const USAGE: Usage = Usage {
     words: "[--services] [-0] [--slice A B] [--unplayed] [--] [NAME..]",
-    meaning: "Plays the archives of these names, or of those on standard input, one to a line.\n  \
-        --services   prints the services of each too, before its line\n  \
-        -0           a name on standard input ends with a 0, not with its line\n  \
-        --slice A B  leaves out A names of standard input and plays the next B; no totals\n  \
-        --unplayed   opens nothing, and says `not played` of each name\n",
+    meaning: &[
+        "Plays the archives of these names, or of those on standard input, one to a line.\n",
+    ],
+    details: &[
+        "  --services   prints the services of each too, before its line\n",
+        "  -0           a name on standard input ends with a 0, not with its line\n",
+        "  --slice A B  leaves out A names of standard input and plays the next B; no totals\n",
+        "  --unplayed   opens nothing, and says `not played` of each name\n",
+    ],
 };
 
 // What came of it: the status, and what was played.
@@ -44,7 +48,9 @@ impl fmt::Display for Outcome {
 }
 
 fn main(rt: HostRuntime) {
-    front::run(rt, "batch", |program| answer(program));
+    let program = Program::called(rt, "batch");
+    let outcome = answer(&program);
+    program.tell(outcome);
 }
 
 // Does what the words ask for.

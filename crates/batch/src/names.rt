@@ -3,7 +3,6 @@ use crate::asked::{Asked, Choice, End, Slice};
 use crate::one::{Stop, Totals, print_part};
 use front::{Desk, Line, Program, Words};
 use std::io::Read;
-use std::mem;
 
 // The longest argument that Linux passes, with the 0 that ends it.
 const ARGUMENT: usize = 131072;
@@ -29,6 +28,18 @@ impl Name {
             part: Line::new(),
             is_long: false,
         }
+    }
+
+    // No byte of the next name has come.
+    fn clear(&mut self) {
+        self.part.clear();
+        self.is_long = false;
+    }
+
+    // The next part of a long name is to come.
+    fn go_on(&mut self) {
+        self.part.clear();
+        self.is_long = true;
     }
 
     fn is_empty(&self) -> bool {
@@ -61,19 +72,20 @@ impl Names {
 
     // ---- from the arguments
 
-    // Plays the files that the words name, which are sorted again. An argument has no 0, and is taken as it is.
+    // Plays the files that the words name, which are sorted again. An argument has no 0, and is taken as it is. (Called, and not
+    // put into its caller: its room is no part of the stack where the names come from standard input.)
+    #[inline(never)]
     pub fn take_arguments(&mut self, program: &Program<impl Desk>) -> Result<(), Stop> {
         self.asked.end = End::Zero;
-        let Ok(words) = Words::none(program) else {
+        let Ok(mut words) = Words::none(program) else {
             return Ok(());
         };
         let mut argument = [0u8; ARGUMENT];
-        let words = program.fold_words(
-            &mut argument,
-            Ok(words),
-            |words, i, word| self.take_argument(program, i, word, words?),
-        );
-        words.map(|_| ())
+        for i in program.words() {
+            let n = program.word_at(i, &mut argument);
+            words = self.take_argument(program, i, &argument[..n], words)?;
+        }
+        Ok(())
     }
 
     // Argument i; of one longer than the room only its first bytes are known.
@@ -149,37 +161,35 @@ impl Names {
 
     // A full room is printed, to be filled anew: so long a name cannot be read.
     fn spill(&mut self, program: &Program<impl Desk>) -> Result<(), Stop> {
-        let rest = Name {
-            part: Line::new(),
-            is_long: true,
-        };
-        let name = mem::replace(&mut self.name, rest);
-        if self.slice.skip > 0 {
-            return Ok(());
+        if self.slice.skip == 0 {
+            print_part(program, self.name.part.as_bytes())?;
         }
-        print_part(program, name.part.as_bytes())
+        self.name.go_on();
+        Ok(())
     }
 
     // The present name is complete.
     fn end_name(&mut self, program: &Program<impl Desk>) -> Result<(), Stop> {
-        let name = mem::replace(&mut self.name, Name::new());
         if self.slice.skip > 0 {
             self.slice.skip -= 1;
+            self.name.clear();
             return Ok(());
         }
         self.slice.left = self.slice.left.saturating_sub(1);
-        self.play(program, &name)?;
+        self.play(program)?;
+        self.name.clear();
         match self.slice.left {
             0 => Err(Stop::Enough),
             _ => Ok(()),
         }
     }
 
-    fn play(&mut self, program: &Program<impl Desk>, name: &Name) -> Result<(), Stop> {
-        let bytes = self.asked.end.name_in(name.part.as_bytes());
+    // Plays the file that the present name names, or says why not.
+    fn play(&mut self, program: &Program<impl Desk>) -> Result<(), Stop> {
+        let bytes = self.asked.end.name_in(self.name.part.as_bytes());
         if self.asked.unplayed {
             self.totals.tell(program, bytes, "not played")
-        } else if name.is_long {
+        } else if self.name.is_long {
             self.totals.tell_long(program, bytes)
         } else {
             self.totals.play(program, bytes, self.asked.services)

@@ -1,6 +1,7 @@
 // One file of a batch: read, played, counted, and told in one line, which goes out by one write.
 use base::Refusal;
 use front::{Desk, Line, Program};
+use machine::PlayAnswer;
 use std::fmt;
 use std::fmt::Write as _;
 use types::Counts;
@@ -67,7 +68,8 @@ impl Totals {
         let mut line = Line::<LINE>::new();
         line.add_name(name);
         line.add_bytes(b": ");
-        line.add_answer(played);
+        let answer = PlayAnswer::from(played);
+        line.add_answer(answer.refusal, answer.counts);
         print(program, line.as_bytes())
     }
 

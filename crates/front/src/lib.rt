@@ -15,6 +15,6 @@ mod words;
 pub use desk::Desk;
 pub use line::Line;
 pub use message::Usage;
-pub use program::{Program, arg_count, run};
+pub use program::{Program, arg_count};
 pub use status::Status;
 pub use words::{NoWork, Words};

@@ -1,19 +1,10 @@
 // A line that grows in a fixed room: each method adds as much as there is room for, so a line is composed first and
 // goes out by one write. `write!` adds text and numbers, and never fails; a name has a method of its own, since its
 // bytes may be no text.
-ghost use Rattle.std.specs.Prelude.{◌≤◌};
+ghost use Rattle.std.specs.Prelude.{◌≡◌, ◌≤◌};
 
-use base::Refusal;
 use std::fmt;
 use types::Counts;
-
-// The line of a refusal shows no counts.
-const NO_COUNTS: Counts = Counts {
-    accepted: 0,
-    pairs: 0,
-    serviced: 0,
-    owed: 0,
-};
 
 // The first `length` bytes of the room.
 #[derive(Clone, Copy)]
@@ -32,6 +23,13 @@ impl<const N: usize> Line<N> {
         }
     }
 
+    // Makes the line empty again. Its room stays as it is.
+    pub fn clear(&mut self)
+        ensures { (self.new.length ≡ 0) × (self.new.room ≡ self.old.room) }
+    {
+        self.length = 0;
+    }
+
     // The bytes so far.
     pub fn as_bytes(&self) -> &[u8] {
         &self.room[..self.length]
@@ -48,11 +46,7 @@ impl<const N: usize> Line<N> {
     }
 
     // Adds the line of an answer, with its newline.
-    pub fn add_answer(&mut self, played: Result<Counts, Refusal>) {
-        let (refusal, counts) = match played {
-            Ok(counts) => (0, counts),
-            Err(refusal) => (u8::from(refusal), NO_COUNTS),
-        };
+    pub fn add_answer(&mut self, refusal: u8, counts: Counts) {
         self.length = report::add_answer(&mut self.room, self.length, refusal, counts);
     }
 }

@@ -21,24 +21,28 @@ const USAGE: usize = 256;
 // Linux's number of an error that has the same kind as a lack of permission.
 const NOT_PERMITTED: i32 = 1;
 
-// The usage of a program: the words that it takes, and lines on what it does.
+// The usage of a program: the words that it takes, lines on what it does, and lines behind them on its words. Each line
+// goes out by one write; one of `details` is tried also where one before it could not be written.
 #[derive(Clone, Copy)]
 pub struct Usage {
     pub words: &'static str,
-    pub meaning: &'static str,
+    pub meaning: &'static [&'static str],
+    pub details: &'static [&'static str],
 }
 
 impl<R: Desk> Program<R> {
     // `NAME: TEXT`.
     pub fn say<D: Display + Drop>(&self, text: D) {
-        let mut line = self.message();
+        let mut line = Line::<MESSAGE>::new();
+        self.begin(&mut line);
         let _ = writeln!(line, "{text}");
         self.put(line.as_bytes());
     }
 
     // The same, with a word behind the text.
     pub fn say_word(&self, text: &str, word: &[u8]) {
-        let mut line = self.message();
+        let mut line = Line::<MESSAGE>::new();
+        self.begin(&mut line);
         let _ = line.write_str(text);
         line.add_name(word);
         let _ = line.write_str("\n");
@@ -51,12 +55,10 @@ impl<R: Desk> Program<R> {
         NoWork::Misuse
     }
 
-    // The front of a message: the name of the program.
-    fn message(&self) -> Line<MESSAGE> {
-        let mut line = Line::new();
+    // The front of a message: the name of the program. (The line is filled where it lies: its room is large.)
+    fn begin(&self, line: &mut Line<MESSAGE>) {
         line.add_bytes(self.name.as_bytes());
         line.add_bytes(b": ");
-        line
     }
 
     // Writes a message. One that cannot be written is lost.
@@ -87,7 +89,8 @@ impl<R: Desk> Program<R> {
     }
 
     fn say_unread(&self, file: &[u8], why: &str) {
-        let mut line = self.message();
+        let mut line = Line::<MESSAGE>::new();
+        self.begin(&mut line);
         line.add_name(file);
         let _ = writeln!(line, " cannot be read: {why}");
         self.put(line.as_bytes());
@@ -96,7 +99,8 @@ impl<R: Desk> Program<R> {
     // `NAME: FILE what: why` with the system's words for the error, also where the file's name fills the room of a
     // message.
     fn say_system(&self, file: &[u8], what: &str, error: Error) {
-        let mut told = self.message();
+        let mut told = Line::<MESSAGE>::new();
+        self.begin(&mut told);
         told.add_name(file);
         let _ = write!(told, " {what}");
         let mut line = Line::<WHOLE>::new();
@@ -142,7 +146,16 @@ impl<R: Desk> Program<R> {
         line.add_bytes(self.name.as_bytes());
         let _ = writeln!(line, " {}", usage.words);
         to.write_all(line.as_bytes())?;
-        to.write_all(usage.meaning.as_bytes())
+        for text in usage.meaning {
+            to.write_all(text.as_bytes())?;
+        }
+        let mut told = Ok(());
+        for text in usage.details {
+            if let Err(error) = to.write_all(text.as_bytes()) {
+                told = Err(error);
+            }
+        }
+        told
     }
 
     // Prints the usage in place of work: for help on standard output; behind the message of wrong use on standard
@@ -185,5 +198,5 @@ fn number_of(words: &[u8]) -> Option<usize>
     ensures { IfSome result (λ end. end ≤ length words.now) }
 {
     let bracket = words.iter().rposition(|byte| *byte == b'(')?;
-    Some(bracket.saturating_sub(1))
+    Some(base::one_less(bracket))
 }

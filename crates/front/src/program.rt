@@ -1,11 +1,13 @@
 // A program as it was called: `PROGRAM [--front NAME] WORDS..`. Behind `--front` messages begin with NAME, and at its
 // end the program writes a line of numbers to descriptor 3, the first of them its status.
+ghost use Rattle.std.specs.Prelude.{◌≡◌, cond};
 ghost use Rattle.io.specs.Counts.{IsPrefixLen as Front};
 
 use crate::desk::Desk;
 use crate::line::Line;
 use std::env::FillError;
 use std::fmt::{Display, Write};
+use std::ops::Range;
 use std::rt::Env;
 
 // Room for the name that messages begin with.
@@ -25,24 +27,12 @@ pub struct Program<R> {
     pub(crate) first: usize,
 }
 
-// Runs a program of this name: it does its work, and the front, if it called, is told the answer. (What may be called is a
-// `requires` here and in `fold_words`, as the kit has it of a closure that is passed in.)
-pub fn run<R: Desk + Drop, A: Display + Drop, F: FnOnce(&Program<R>) -> A>(
-    rt: R,
-    name: &str,
-    work: F,
-)
-    requires { F.IsAlwaysCallable work }
-{
-    let program = Program::called(rt, name);
-    let answer = work(&program);
-    program.tell(answer);
-}
-
 impl<R: Desk> Program<R> {
     // The program of this name, as it was called. Its messages begin with NAME, or with its own name where NAME is
     // empty or does not fit.
-    fn called(rt: R, own: &str) -> Self {
+    pub fn called(rt: R, own: &str) -> Self
+        ensures { result.first ≡ cond result.is_fronted 3 1 }
+    {
         let is_fronted = is_word(&rt, 1, "--front");
         let given = if is_fronted { name_at(&rt, 2) } else { None };
         let name = match given {
@@ -72,8 +62,8 @@ impl<R: Desk> Program<R> {
         self.name.as_bytes().ends_with(command.as_bytes())
     }
 
-    // Writes the line of numbers, if the front asked for it.
-    fn tell<A: Display + Drop>(&self, answer: A) {
+    // Writes the answer as the line of numbers, if the front asked for it.
+    pub fn tell<A: Display + Drop>(&self, answer: A) {
         if self.is_fronted {
             let mut line = Line::<NUMBERS_ROOM>::new();
             let _ = writeln!(line, "{answer}");
@@ -81,22 +71,23 @@ impl<R: Desk> Program<R> {
         }
     }
 
-    // Takes the words of the program's own one after the other into what they ask for, as `take` says of a word, its
-    // number and what was asked for before it. Of a word that is longer than the room only its first bytes are seen.
-    pub fn fold_words<T, F: FnMut(T, usize, &[u8]) -> T>(
-        &self,
-        room: &mut [u8],
-        nothing: T,
-        mut take: F,
-    ) -> T
-        requires { F.IsAlwaysCallable take }
+    // The numbers of the words of the program's own.
+    pub fn words(&self) -> Range<usize>
+        ensures { result.start ≡ self.now.first }
     {
-        let mut asked = nothing;
-        for i in self.first..arg_count(&self.rt) {
-            let n = word_at(&self.rt, i, room);
-            asked = take(asked, i, &room[..n]);
+        self.first..arg_count(&self.rt)
+    }
+
+    // Puts word i at the front of the room, or of one that is too long its first bytes. Answers how many they are. (The
+    // programs go through their words by `for`: a function that takes a closure for each would have a `requires`.)
+    pub fn word_at(&self, i: usize, room: &mut [u8]) -> usize
+        ensures { Front result room.new }
+    {
+        match self.rt.arg(i, room) {
+            Ok(n) => n,
+            Err(FillError::TooLong) => room.len(),
+            Err(FillError::NotPresent) => 0,
         }
-        asked
     }
 }
 
@@ -135,15 +126,4 @@ pub fn arg_count(rt: &impl Env) -> usize {
 fn has_argument(rt: &impl Env, i: usize) -> bool {
     let mut room = [0u8; 1];
     !matches!(rt.arg(i, &mut room), Err(FillError::NotPresent))
-}
-
-// Puts argument i at the front of the room, or of one that is too long its first bytes. Answers how many they are.
-fn word_at(rt: &impl Env, i: usize, room: &mut [u8]) -> usize
-    ensures { Front result room.new }
-{
-    match rt.arg(i, room) {
-        Ok(n) => n,
-        Err(FillError::TooLong) => room.len(),
-        Err(FillError::NotPresent) => 0,
-    }
 }

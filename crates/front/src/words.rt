@@ -22,12 +22,13 @@ impl Words {
     // The words of a program that has no options of its own. What comes behind a call for help or a wrong word is not
     // looked at.
     pub fn of(program: &Program<impl Desk>) -> Result<Words, NoWork> {
+        let mut words = Words::none(program)?;
         let mut room = io::buffer();
-        program.fold_words(
-            &mut room,
-            Words::none(program),
-            |words, i, word| words?.with(program, i, word),
-        )
+        for i in program.words() {
+            let n = program.word_at(i, &mut room);
+            words = words.with(program, i, &room[..n])?;
+        }
+        Ok(words)
     }
 
     // No word yet. `--front` without a name is wrong.

@@ -164,7 +164,7 @@ fn write_draw<W: Write>(f: &mut Formatter<W>, held: Held<'_>, m: usize) -> Resul
         place + 1
     )?;
     if draw <= draws {
-        let last = held.word_at(held.send_place(m.saturating_sub(1)));
+        let last = held.word_at(held.send_place(base::one_less(m)));
         write!(f, "below the {last} of the send before it")
     } else if draws == 1 {
         f.write_str("and there is 1 draw")

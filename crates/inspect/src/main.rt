@@ -20,7 +20,10 @@ const LINE: usize = 4 * ARGUMENT + 1024;
 
 const USAGE: Usage = Usage {
     words: "[--] FILE..",
-    meaning: "Says of each FILE whether it is an archive; if it is not, what is wrong and where.\n",
+    meaning: &[
+        "Says of each FILE whether it is an archive; if it is not, what is wrong and where.\n",
+    ],
+    details: &[],
 };
 
 // The files so far: whether each was an archive whose line could be written, and whether `--` has come.
@@ -35,7 +38,9 @@ struct Files {
 struct Gone;
 
 fn main(rt: HostRuntime) {
-    front::run(rt, "inspect", |program| answer(program));
+    let program = Program::called(rt, "inspect");
+    let status = answer(&program);
+    program.tell(status);
 }
 
 // Does what the words ask for.
@@ -57,38 +62,47 @@ fn words_of(program: &Program<impl Desk>) -> Result<Words, NoWork> {
 // The files that the words name.
 fn inspect_words(program: &Program<impl Desk>) -> Status {
     let mut room = [0u8; ARGUMENT];
-    let nothing = Files {
+    let mut line = Line::new();
+    let mut files = Files {
         status: Status::Done,
         is_ended: false,
     };
-    let files = program.fold_words(
-        &mut room,
-        Ok(nothing),
-        |files, _, word| take_word(program, word, files?),
-    );
-    match files {
-        Ok(files) => files.status,
-        Err(Gone) => Status::Failed,
+    for i in program.words() {
+        let n = program.word_at(i, &mut room);
+        match take_word(program, &room[..n], &mut line, files) {
+            Ok(more) => files = more,
+            Err(Gone) => return Status::Failed,
+        }
     }
+    files.status
 }
 
 // One more word. The only option among them is the first `--`.
-fn take_word(program: &Program<impl Desk>, word: &[u8], files: Files) -> Result<Files, Gone> {
+fn take_word(
+    program: &Program<impl Desk>,
+    word: &[u8],
+    line: &mut Line<LINE>,
+    files: Files,
+) -> Result<Files, Gone> {
     if !files.is_ended && matches!(word, b"--") {
         return Ok(Files {
             is_ended: true,
             ..files
         });
     }
-    match inspect(program, word)? {
+    match inspect(program, word, line)? {
         Status::Done => Ok(files),
         status => Ok(Files { status, ..files }),
     }
 }
 
-// Prints the line of the file of this name, and answers its status.
-fn inspect(program: &Program<impl Desk>, name: &[u8]) -> Result<Status, Gone> {
-    let mut line = Line::<LINE>::new();
+// Prints the line of the file of this name, and answers its status. The line is one for all files, since its room is large.
+fn inspect(
+    program: &Program<impl Desk>,
+    name: &[u8],
+    line: &mut Line<LINE>,
+) -> Result<Status, Gone> {
+    line.clear();
     line.add_name(name);
     let mut room = io::large_buffer();
     let Some(count) = program.read_file(name, &mut room) else {

@@ -17,16 +17,15 @@ pub struct Asked {
 
 impl Asked {
     pub fn of(program: &Program<impl Desk>) -> Result<Asked, NoWork> {
-        let nothing = Sorted {
+        let mut sorted = Sorted {
             way: None,
             words: Words::none(program)?,
         };
         let mut room = io::buffer();
-        let sorted = program.fold_words(
-            &mut room,
-            Ok(nothing),
-            |sorted, i, word| sorted?.with(program, i, word),
-        )?;
+        for i in program.words() {
+            let n = program.word_at(i, &mut room);
+            sorted = sorted.with(program, i, &room[..n])?;
+        }
         let Some(way) = sorted.way else {
             return Err(program.misused("the first word is over or back"));
         };

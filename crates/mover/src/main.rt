@@ -13,8 +13,11 @@ use std::fmt;
 
 const USAGE: Usage = Usage {
     words: "[--] over|back [FILE]",
-    meaning: "Moves the archive in FILE, or on standard input, over to version 2 or back to version 1,\n\
-        and writes the moved bytes to standard output.\n",
+    meaning: &[
+        "Moves the archive in FILE, or on standard input, over to version 2 or back to version 1,\n",
+        "and writes the moved bytes to standard output.\n",
+    ],
+    details: &[],
 };
 
 // How a move ended: the status, or a refusal.
@@ -35,7 +38,9 @@ impl fmt::Display for Ended {
 }
 
 fn main(rt: HostRuntime) {
-    front::run(rt, "mover", |program| answer(program));
+    let program = Program::called(rt, "mover");
+    let ended = answer(&program);
+    program.tell(ended);
 }
 
 // Does what the words ask for. A refusal is said, unless the front is told it.

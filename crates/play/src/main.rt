@@ -3,19 +3,23 @@
 // cannot be read or written is told on standard error. Assumes nothing of the file.
 #![tactic(auto)]
 
-use base::Refusal;
 use front::{Desk, NoWork, Program, Status, Usage, Words};
+use machine::PlayAnswer;
 use std::io::Print;
-use types::Counts;
 
 const USAGE: Usage = Usage {
     words: "[--] [FILE]",
-    meaning: "Plays the archive in FILE, or on standard input: a line `draw packet site` for each\n\
-        service, then `accepted A pairs P serviced V owed O`; or only `refused N`.\n",
+    meaning: &[
+        "Plays the archive in FILE, or on standard input: a line `draw packet site` for each\n",
+        "service, then `accepted A pairs P serviced V owed O`; or only `refused N`.\n",
+    ],
+    details: &[],
 };
 
 fn main(rt: HostRuntime) {
-    front::run(rt, "play", |program| answer(program));
+    let program = Program::called(rt, "play");
+    let status = answer(&program);
+    program.tell(status);
 }
 
 // Does what the words ask for.
@@ -43,7 +47,7 @@ fn play(program: &Program<impl Desk>, file: Option<usize>) -> Status {
     };
     let mut book = [0u8; report::BOOK];
     let played = machine::play(&bytes[..n], &mut book);
-    if let Err(error) = print_played(&program.rt, &book, played) {
+    if let Err(error) = print_answer(&program.rt, &book, PlayAnswer::from(played)) {
         program.no_output(error);
         return Status::Failed;
     }
@@ -53,17 +57,8 @@ fn play(program: &Program<impl Desk>, file: Option<usize>) -> Status {
     }
 }
 
-// The services of the book, then the line of the answer.
-fn print_played(
-    out: &impl Print,
-    book: &[u8],
-    played: Result<Counts, Refusal>,
-) -> std::io::Result<()> {
-    match played {
-        Ok(counts) => {
-            report::print_services(out, book, counts.serviced)?;
-            report::print_line(out, 0, counts)
-        }
-        Err(refusal) => report::print_refusal(out, u8::from(refusal)),
-    }
+// The services of the book, of which a refused run has none, then the line of the answer.
+fn print_answer(out: &impl Print, book: &[u8], answer: PlayAnswer) -> std::io::Result<()> {
+    report::print_services(out, book, answer.counts.serviced)?;
+    report::print_line(out, answer.refusal, answer.counts)
 }

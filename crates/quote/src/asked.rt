@@ -16,17 +16,16 @@ pub struct Asked {
 
 impl Asked {
     pub fn of(program: &Program<impl Desk>) -> Result<Asked, NoWork> {
-        let nothing = Asked {
+        let mut asked = Asked {
             doubled: false,
             numbers: [0; NUMBERS],
             words: Words::none(program)?,
         };
         let mut room = [0u8; ARGUMENT];
-        let asked = program.fold_words(
-            &mut room,
-            Ok(nothing),
-            |asked, i, word| asked?.with(program, i, whole(word)),
-        )?;
+        for i in program.words() {
+            let n = program.word_at(i, &mut room);
+            asked = asked.with(program, i, whole(&room[..n]))?;
+        }
         if asked.words.names != NUMBERS {
             return Err(program.misused("latency takes five numbers: t L D n W"));
         }

@@ -14,13 +14,19 @@ use front::{Desk, Program, Status, Usage};
 
 const USAGE: Usage = Usage {
     words: "[--doubled] [--] t L D n W",
-    meaning: "Prints the latency of a packet that meets no other, in cycles, four lines: unicast, and the averages\n\
-        of multi-unicast, resumable and restricted branch multicast; with --doubled twice each. t: bits of\n\
-        a target; L: bits of the data; D: channels to go; n: targets; W: bits of a channel; 1 to 65535 each.\n",
+    meaning: &[
+        "Prints the latency of a packet that meets no other, in cycles, four lines: unicast, and the averages\n",
+    ],
+    details: &[
+        "of multi-unicast, resumable and restricted branch multicast; with --doubled twice each. t: bits of\n",
+        "a target; L: bits of the data; D: channels to go; n: targets; W: bits of a channel; 1 to 65535 each.\n",
+    ],
 };
 
 fn main(rt: HostRuntime) {
-    front::run(rt, "quote", |program| answer(program));
+    let program = Program::called(rt, "quote");
+    let status = answer(&program);
+    program.tell(status);
 }
 
 // Does what the words ask for.

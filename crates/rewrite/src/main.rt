@@ -6,9 +6,8 @@
 mod one;
 
 use front::Desk;
-use one::Outcome;
-use std::fmt;
-use std::io::{Print, Result};
+use one::{Outcome, put};
+use std::io::Print;
 
 // Files so far.
 #[derive(Clone, Copy, Default)]
@@ -32,50 +31,42 @@ impl Totals {
         *kind = kind.saturating_add(1);
         self.files = self.files.saturating_add(1);
     }
-}
 
-impl fmt::Display for Totals {
-    fn fmt<W: fmt::Write>(&self, f: &mut fmt::Formatter<W>) -> fmt::Result {
-        let Totals {
-            files,
-            same,
-            refused,
-            differ,
-            unreadable,
-        } = *self;
-        write!(
-            f,
-            "files {files} same {same} refused {refused} differ {differ} unreadable {unreadable}"
-        )
+    // Prints the last line, piece by piece. Answers whether all was written.
+    fn print(&self, out: &impl Print) -> bool {
+        put(out, "files ")
+            & put(out, self.files)
+            & put(out, " same ")
+            & put(out, self.same)
+            & put(out, " refused ")
+            & put(out, self.refused)
+            & put(out, " differ ")
+            & put(out, self.differ)
+            & put(out, " unreadable ")
+            & put(out, self.unreadable)
+            & put(out, "\n")
     }
-}
-
-// The line of a file; what is behind a name that could not be written is written all the same.
-fn print_line(out: &impl Print, name: &[u8], outcome: Outcome) -> Result<()> {
-    let named = out.write_all(name);
-    println!(out; ": {outcome}")?;
-    named
 }
 
 // The file that argument i names, and whether its line could be written. A longer argument than a path can be leads to
 // no file; its first bytes are told.
-fn rewrite_argument(rt: &impl Desk, i: usize, totals: &mut Totals) -> Result<()> {
+fn rewrite_argument(rt: &impl Desk, i: usize, totals: &mut Totals) -> bool {
     let mut name = io::buffer();
     let (count, outcome) = match rt.arg(i, &mut name) {
         Ok(count) => (count, one::outcome_of(rt, &name[..count])),
         Err(_) => (name.len(), Outcome::Unreadable),
     };
     totals.count(outcome);
-    print_line(rt, &name[..count], outcome)
+    rt.write_all(&name[..count]).is_ok() & outcome.print(rt)
 }
 
 fn main(rt: HostRuntime) {
     let mut totals = Totals::default();
     let mut is_whole = true;
     for i in 1..front::arg_count(&rt) {
-        is_whole &= rewrite_argument(&rt, i, &mut totals).is_ok();
+        is_whole &= rewrite_argument(&rt, i, &mut totals);
     }
-    is_whole &= rt.println(totals).is_ok();
+    is_whole &= totals.print(&rt);
     if !is_whole {
         let _ = rt
             .messages()

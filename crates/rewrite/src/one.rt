@@ -3,8 +3,9 @@ ghost use Rattle.std.specs.Prelude.{IfSome};
 ghost use Rattle.io.specs.Counts.{IsPrefixLen as Front};
 
 use base::Refusal;
-use std::fmt;
+use std::fmt::Display;
 use std::fs::File;
+use std::io::Print;
 use std::rt::Files;
 use types::Run;
 
@@ -21,15 +22,24 @@ pub enum Outcome {
     Unreadable,
 }
 
-impl fmt::Display for Outcome {
-    fn fmt<W: fmt::Write>(&self, f: &mut fmt::Formatter<W>) -> fmt::Result {
+impl Outcome {
+    // Prints what stands behind a name, piece by piece. Answers whether all was written.
+    pub fn print(self, out: &impl Print) -> bool {
         match self {
-            Outcome::Same(length) => write!(f, "same {length} bytes"),
-            Outcome::Refused(refusal) => write!(f, "refused {refusal}"),
-            Outcome::Differs => f.write_str("DIFFERS"),
-            Outcome::Unreadable => f.write_str("cannot be read"),
+            Outcome::Same(length) => put(out, ": same ") & put(out, length) & put(out, " bytes\n"),
+            Outcome::Refused(refusal) => {
+                put(out, ": ") & report::print_refusal(out, u8::from(refusal)).is_ok()
+            }
+            Outcome::Differs => put(out, ": DIFFERS\n"),
+            Outcome::Unreadable => put(out, ": cannot be read\n"),
         }
     }
+}
+
+// Prints a piece of a line, by one write. Answers whether that was done. (A piece is tried also behind one that could not be
+// written, so that as much goes out as can.)
+pub fn put(out: &impl Print, piece: impl Display + Drop) -> bool {
+    out.print(piece).is_ok()
 }
 
 // Reads the file of this name and judges its bytes.

@@ -4,6 +4,8 @@
 // one says version and edition and has 64. `stdin` and `stdout` are the second model's, by its program `cases`.
 #![tactic(auto)]
 
+ghost use Rattle.std.specs.Prelude.{◌≤◌, length};
+
 mod answer;
 mod form;
 mod numbers;
@@ -14,12 +16,14 @@ use answer::{Answer, Behind};
 use form::{Call, Extent, Form, NUMBERS};
 use std::array;
 use std::fmt::Display;
-use std::io::{Print, Read};
+use std::io::{Print, Read, Write};
 use text::Text;
 use types::{Network, Site, State};
 
 // As many numbers as the longest list has, that of the routes.
 const LONGEST: usize = base::SITES * base::SITES;
+// Room for a line: the longest has a mark and the numbers of a site, of at most twenty digits each.
+const ROOM: usize = 4096;
 
 fn read_network(text: &mut Text<impl Read>, form: Form) -> Network {
     let (version, edition) = match form {
@@ -59,9 +63,22 @@ fn read_state(text: &mut Text<impl Read>, form: Form) -> State {
     state
 }
 
-// What cannot be printed is lost.
+// Puts a line at the front of the room, as far as the room goes. Answers how many bytes it has.
+fn put_line(room: &mut [u8], line: impl Display + Drop) -> usize
+    ensures { result ≤ length room.new }
+{
+    let size = room.len();
+    let mut rest = &mut room[..];
+    let _ = write!(rest, "{line}");
+    size.saturating_sub(rest.len())
+}
+
+// Prints a line by one write, and then its end. What cannot be printed is lost.
 fn print_line(out: &impl Print, line: impl Display + Drop) {
-    let _ = out.println(line);
+    let mut room = [0u8; ROOM];
+    let end = put_line(&mut room, line);
+    let _ = out.write_all(&room[..end]);
+    let _ = out.write_all(b"\n");
 }
 
 fn print_site(out: &impl Print, site: &Site) {
@@ -86,27 +103,45 @@ fn replay(out: &impl Print, text: &mut Text<impl Read>, form: Form) {
     let call = Call::from(text.number());
     let site = text.number() as usize;
     let last = text.number();
-    let after = match call {
-        Call::Send => {
-            let sent = machine::send(network, state, site, last);
-            print_line(out, Answer::from(sent.answer));
-            sent.state
-        }
-        Call::Run => {
-            let ran = machine::run(network, state, site, last as usize);
-            print_line(out, Answer::from(ran.answer));
-            ran.state
-        }
-        Call::RunAsked => {
-            let ran = machine::run(network, state, site, last as usize);
-            print_line(
-                out,
-                format_args!("{} {}", Answer::from(ran.answer), ran.blocking),
-            );
-            ran.state
-        }
-    };
-    print_state(out, &after, form);
+    match call {
+        Call::Send => replay_send(out, network, state, site, last, form),
+        Call::Run => replay_run(out, network, state, site, last as usize, form, false),
+        Call::RunAsked => replay_run(out, network, state, site, last as usize, form, true),
+    }
+}
+
+// RUN, and where it is asked for the outputs in the way. (The state that it leaves is printed where it lies: of one that is the
+// value of a `match` the compiler keeps another copy.)
+fn replay_run(
+    out: &impl Print,
+    network: Network,
+    state: State,
+    site: usize,
+    code: usize,
+    form: Form,
+    is_asked: bool,
+) {
+    let ran = machine::run(network, state, site, code);
+    let answer = Answer::from(ran.answer);
+    if is_asked {
+        print_line(out, format_args!("{answer} {}", ran.blocking));
+    } else {
+        print_line(out, answer);
+    }
+    print_state(out, &ran.state, form);
+}
+
+fn replay_send(
+    out: &impl Print,
+    network: Network,
+    state: State,
+    site: usize,
+    set: u64,
+    form: Form,
+) {
+    let sent = machine::send(network, state, site, set);
+    print_line(out, Answer::from(sent.answer));
+    print_state(out, &sent.state, form);
 }
 
 // So many cases, up to the end of the text.

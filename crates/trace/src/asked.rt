@@ -7,24 +7,33 @@ const FILE: &str = "[--] FILE";
 
 const TRACE: Usage = Usage {
     words: "[--all | --why | --apart] [--] FILE",
-    meaning: "Tells what happened in the stored run FILE: a line for each send and for each draw\n\
-        that changed something, with --all for every draw; the last line has the counts.\n\
-        With --why instead where the router failed, and which outputs stood in the way; with\n\
-        --apart which sites of its network are far apart.\n",
+    meaning: &[
+        "Tells what happened in the stored run FILE: a line for each send and for each draw\n",
+        "that changed something, with --all for every draw; the last line has the counts.\n",
+        "With --why instead where the router failed, and which outputs stood in the way; with\n",
+        "--apart which sites of its network are far apart.\n",
+    ],
+    details: &[],
 };
 
 const WHY: Usage = Usage {
     words: "--why [--] FILE",
-    meaning: "Tells where the router failed in the stored run FILE: for each failed ask its draw, site,\n\
-        net-input, packet and the outputs in the way, each of which would have done if it alone had\n\
-        been empty; behind them how often each output stood in the way, the most often first.\n",
+    meaning: &[
+        "Tells where the router failed in the stored run FILE: for each failed ask its draw, site,\n",
+        "net-input, packet and the outputs in the way, each of which would have done if it alone had\n",
+        "been empty; behind them how often each output stood in the way, the most often first.\n",
+    ],
+    details: &[],
 };
 
 const APART: Usage = Usage {
     words: "--apart [--] FILE",
-    meaning: "Tells which sites of the network in FILE are far apart, with no channel between them in either\n\
-        direction: for each site a line with its number and the sites far apart from it. Two RUNs at\n\
-        such sites give the same final state and the same answers in either order.\n",
+    meaning: &[
+        "Tells which sites of the network in FILE are far apart, with no channel between them in either\n",
+        "direction: for each site a line with its number and the sites far apart from it. Two RUNs at\n",
+        "such sites give the same final state and the same answers in either order.\n",
+    ],
+    details: &[],
 };
 
 // What is told: what happened in the run, or which sites of its network are far apart.
@@ -52,18 +61,18 @@ pub struct Asked {
 
 impl Asked {
     pub fn of(program: &Program<impl Desk>) -> Asked {
-        let nothing = Asked {
+        let mut asked = Asked {
             all: false,
             why: false,
             apart: false,
             words: Words::none(program),
         };
         let mut room = io::buffer();
-        program.fold_words(
-            &mut room,
-            nothing,
-            |asked, i, word| asked.with(program, i, word),
-        )
+        for i in program.words() {
+            let n = program.word_at(i, &mut room);
+            asked = asked.with(program, i, &room[..n]);
+        }
+        asked
     }
 
     // With one more word, argument i: an option, or what the programs share.

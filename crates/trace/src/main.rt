@@ -16,7 +16,9 @@ use front::{Desk, Program, Status};
 use run::{Mode, Stop};
 
 fn main(rt: HostRuntime) {
-    front::run(rt, "trace", |program| answer(program));
+    let program = Program::called(rt, "trace");
+    let status = answer(&program);
+    program.tell(status);
 }
 
 // Does what the words ask for.

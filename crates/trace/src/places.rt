@@ -182,7 +182,7 @@ impl Places<'_> {
     pub fn leaving(self, s: usize) -> Leaving {
         let count = self.set(s, COUNTS_FROM);
         let fields = self.fields(s, LEAVING_FROM);
-        let last = (count as usize).saturating_sub(1) % base::QUEUE;
+        let last = base::one_less(count as usize) % base::QUEUE;
         Leaving {
             count,
             has_started: fields % 2 == 1,

@@ -55,7 +55,9 @@ struct Tracer<'a, P> {
 }
 
 // Traces a run from the empty state, the pairs that are owed at its end counted. Behind failed asks it prints how often
-// each output stood in the way.
+// each output stood in the way. (Called, and not put into its caller: its words are no part of the stack where nothing is
+// played.)
+#[inline(never)]
 pub fn trace(out: &impl Print, run: &Run, mode: Mode) -> Result<Counts, Stop> {
     let mut state = [0u64; WORDS];
     words::write_empty(&mut state);
