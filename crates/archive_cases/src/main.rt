@@ -70,7 +70,10 @@ pub(crate) fn show_check(out: &impl Print, label: &str, file: &[u8]) {
 
 // The run that the reader hands over; for a file that it refuses the all-zero one, which a player starts from then.
 pub(crate) fn run_of(file: &[u8]) -> Run {
-    archive::read(file).unwrap_or(machine::start(&[], 0).run)
+    match archive::read(file) {
+        Ok(run) => run,
+        Err(_) => machine::start(&[], 0).run,
+    }
 }
 
 // Reads a file, and answers the run.

@@ -1,6 +1,6 @@
 // The names of a batch, from the arguments or from standard input, each played as it comes.
 use crate::asked::{Asked, Choice, End, Slice};
-use crate::one::{Stop, Totals, print_part};
+use crate::one::{LINE, Stop, Totals, print_part};
 use front::{Desk, Line, Program, Words};
 use std::io::Read;
 
@@ -51,12 +51,14 @@ impl Name {
     }
 }
 
-// Names met so far: what is asked for, the present one, which are left out yet and may be played, and what was played.
+// Names met so far: what is asked for, the present one, which are left out yet and may be played, the line that is told of one,
+// and what was played.
 #[derive(Drop)]
 pub struct Names {
     asked: Asked,
     name: Name,
     slice: Slice,
+    line: Line<LINE>,
     pub totals: Totals,
 }
 
@@ -66,6 +68,7 @@ impl Names {
             asked,
             name: Name::new(),
             slice: asked.slice.unwrap_or(ALL),
+            line: Line::new(),
             totals: Totals::default(),
         }
     }
@@ -162,7 +165,7 @@ impl Names {
     // A full room is printed, to be filled anew: so long a name cannot be read.
     fn spill(&mut self, program: &Program<impl Desk>) -> Result<(), Stop> {
         if self.slice.skip == 0 {
-            print_part(program, self.name.part.as_bytes())?;
+            print_part(program, &mut self.line, self.name.part.as_bytes())?;
         }
         self.name.go_on();
         Ok(())
@@ -188,11 +191,13 @@ impl Names {
     fn play(&mut self, program: &Program<impl Desk>) -> Result<(), Stop> {
         let bytes = self.asked.end.name_in(self.name.part.as_bytes());
         if self.asked.unplayed {
-            self.totals.tell(program, bytes, "not played")
+            self.totals
+                .tell(program, &mut self.line, bytes, "not played")
         } else if self.name.is_long {
-            self.totals.tell_long(program, bytes)
+            self.totals.tell_long(program, &mut self.line, bytes)
         } else {
-            self.totals.play(program, bytes, self.asked.services)
+            self.totals
+                .play(program, &mut self.line, bytes, self.asked.services)
         }
     }
 }

@@ -7,7 +7,7 @@ use std::fmt::Write as _;
 use types::Counts;
 
 // Room for a line: a name of 4,096 bytes at its longest, and an answer.
-const LINE: usize = 16512;
+pub const LINE: usize = 16512;
 
 // Why no more names are played: all that are asked for are, something could not be printed, or standard input could not
 // be read.
@@ -43,16 +43,17 @@ impl fmt::Display for Totals {
 }
 
 impl Totals {
-    // Plays the file of this name.
+    // Plays the file of this name. (The line is one for all names, here and below: its room is large.)
     pub fn play(
         &mut self,
         program: &Program<impl Desk>,
+        line: &mut Line<LINE>,
         name: &[u8],
         services: bool,
     ) -> Result<(), Stop> {
         let mut bytes = io::large_buffer();
         let Some(count) = program.read_file(name, &mut bytes) else {
-            return self.tell(program, name, "cannot be read");
+            return self.tell(program, line, name, "cannot be read");
         };
         let mut book = [0u8; report::BOOK];
         let played = words::play(&bytes[..count], &mut book);
@@ -65,7 +66,7 @@ impl Totals {
             program.no_output(error);
             return Err(Stop::Lost);
         }
-        let mut line = Line::<LINE>::new();
+        line.clear();
         line.add_name(name);
         line.add_bytes(b": ");
         let answer = PlayAnswer::from(played);
@@ -74,21 +75,27 @@ impl Totals {
     }
 
     // The last part of a name that is longer than a path can be.
-    pub fn tell_long(&mut self, program: &Program<impl Desk>, name: &[u8]) -> Result<(), Stop> {
+    pub fn tell_long(
+        &mut self,
+        program: &Program<impl Desk>,
+        line: &mut Line<LINE>,
+        name: &[u8],
+    ) -> Result<(), Stop> {
         program.too_long();
-        self.tell(program, name, "cannot be read")
+        self.tell(program, line, name, "cannot be read")
     }
 
     // The line of a name of which nothing was played.
     pub fn tell(
         &mut self,
         program: &Program<impl Desk>,
+        line: &mut Line<LINE>,
         name: &[u8],
         words: &str,
     ) -> Result<(), Stop> {
         self.files = self.files.saturating_add(1);
         self.unreadable = self.unreadable.saturating_add(1);
-        let mut line = Line::<LINE>::new();
+        line.clear();
         line.add_name(name);
         let _ = writeln!(line, ": {words}");
         print(program, line.as_bytes())
@@ -105,8 +112,12 @@ impl Totals {
 }
 
 // Prints a part of a long name.
-pub fn print_part(program: &Program<impl Desk>, name: &[u8]) -> Result<(), Stop> {
-    let mut line = Line::<LINE>::new();
+pub fn print_part(
+    program: &Program<impl Desk>,
+    line: &mut Line<LINE>,
+    name: &[u8],
+) -> Result<(), Stop> {
+    line.clear();
     line.add_name(name);
     print(program, line.as_bytes())
 }

@@ -50,9 +50,9 @@ pub fn is_input(channel: u16, sites: usize) -> bool
 }
 
 // No channel but none and the inputs of the network, and no input fed twice.
-fn channels_ok(network: Network) -> bool
-    requires { network.sites ≤ sites_most }
-    ensures { result ≡ channels_ok network }
+fn channels_ok(network: &Network) -> bool
+    requires { network.now.sites ≤ sites_most }
+    ensures { result ≡ channels_ok network.now }
 {
     let mut fed = [false; base::PORTS * base::SITES];
     for &channel in &network.channels[..base::PORTS * network.sites] {
@@ -130,8 +130,8 @@ fn routes_ok(network: &Network) -> bool
 }
 
 // 3 for S, T or D outside its limits, 6 for the channels, 7 for the routes, else none.
-fn parts_refusal(network: Network) -> Result<(), Refusal>
-    ensures { refusal_of result ≡ parts_refusal network }
+fn parts_refusal(network: &Network) -> Result<(), Refusal>
+    ensures { refusal_of result ≡ parts_refusal network.now }
 {
     if !sizes_ok(network.version, network.sites, network.tries, network.depth) {
         return Err(Refusal::Sizes);
@@ -139,7 +139,7 @@ fn parts_refusal(network: Network) -> Result<(), Refusal>
     if !channels_ok(network) {
         return Err(Refusal::Channels);
     }
-    if !routes_ok(&network) {
+    if !routes_ok(network) {
         return Err(Refusal::Routes);
     }
     Ok(())
@@ -150,5 +150,5 @@ pub fn network_refusal(network: Network) -> Result<(), Refusal>
     ensures { refusal_of result ≡ network_refusal network }
 {
     kind_refusal(network.version, network.edition)?;
-    parts_refusal(network)
+    parts_refusal(&network)
 }

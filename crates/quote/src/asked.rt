@@ -16,18 +16,25 @@ pub struct Asked {
 
 impl Asked {
     pub fn of(program: &Program<impl Desk>) -> Result<Asked, NoWork> {
-        let mut asked = Asked {
+        let nothing = Asked {
             doubled: false,
             numbers: [0; NUMBERS],
             words: Words::none(program)?,
         };
+        let asked = nothing.with_all(program)?;
+        if asked.words.names != NUMBERS {
+            return Err(program.misused("latency takes five numbers: t L D n W"));
+        }
+        Ok(asked)
+    }
+
+    // With all words.
+    fn with_all(self, program: &Program<impl Desk>) -> Result<Asked, NoWork> {
         let mut room = [0u8; ARGUMENT];
+        let mut asked = self;
         for i in program.words() {
             let n = program.word_at(i, &mut room);
             asked = asked.with(program, i, whole(&room[..n]))?;
-        }
-        if asked.words.names != NUMBERS {
-            return Err(program.misused("latency takes five numbers: t L D n W"));
         }
         Ok(asked)
     }

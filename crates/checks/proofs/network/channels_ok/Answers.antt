@@ -18,13 +18,13 @@ module _ (cs : List ℕ) (n i : ℕ) (long : n ≤ length cs) (below : i < lengt
   place_same = get_or-take n cs i 0 place_below
 
 pub loop-channel-init : goal.loop-channel-init
-loop-channel-init c = (all_none _, fed_none c.args.network.channels, refl)
+loop-channel-init c = (all_none _, fed_none c.args.network.now.channels, refl)
 
 pub loop-channel-preserved-then-channel : goal.loop-channel-preserved-then-channel
 loop-channel-preserved-then-channel c =
     let l = c.loop-channel in
-    let cs = c.args.network.channels in
-    let none = sym (place_same cs (port_count * c.args.network.sites) l.channel-index (search rules) c.loop-channel-test.true)
+    let cs = c.args.network.now.channels in
+    let none = sym (place_same cs (port_count * c.args.network.now.sites) l.channel-index (search rules) c.loop-channel-test.true)
     ∙ c.if-channel.true in (
       no_channel_lem cs l.fed _ l.channel-index _ refl l.invariant.0 none,
       fed_skip cs l.fed l.channel-index l.invariant.1 none,
@@ -34,7 +34,7 @@ loop-channel-preserved-then-channel c =
 pub returns-then-not-is_input : goal.returns-then-not-is_input
 returns-then-not-is_input c =
     let l = c.loop-channel in
-    let n = c.args.network in
+    let n = c.args.network.now in
     let end = port_count * n.sites in
     let long : end ≤ length n.channels = search rules in
     let same = place_same n.channels end l.channel-index long c.loop-channel-test.true in
@@ -44,7 +44,7 @@ returns-then-not-is_input c =
 pub returns-then-fed-input : goal.returns-then-fed-input
 returns-then-fed-input c =
     let l = c.loop-channel in
-    let n = c.args.network in
+    let n = c.args.network.now in
     let end = port_count * n.sites in
     let long : end ≤ length n.channels = search rules in
     let same = place_same n.channels end l.channel-index long c.loop-channel-test.true in
@@ -56,7 +56,7 @@ returns-then-fed-input c =
 pub loop-channel-preserved : goal.loop-channel-preserved
 loop-channel-preserved c =
     let l = c.loop-channel in
-    let n = c.args.network in
+    let n = c.args.network.now in
     let end = port_count * n.sites in
     let long : end ≤ length n.channels = search rules in
     let same = place_same n.channels end l.channel-index long c.loop-channel-test.true in
