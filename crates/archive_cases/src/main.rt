@@ -69,17 +69,22 @@ pub(crate) fn show_check(out: &impl Print, label: &str, file: &[u8]) {
 }
 
 // The run that the reader hands over; for a file that it refuses the all-zero one, which a player starts from then.
-pub(crate) fn run_of(file: &[u8]) -> Run {
-    match archive::read(file) {
+fn run_in(read: Result<Run, Refusal>) -> Run {
+    match read {
         Ok(run) => run,
         Err(_) => machine::start(&[], 0).run,
     }
 }
 
+pub(crate) fn run_of(file: &[u8]) -> Run {
+    run_in(archive::read(file))
+}
+
 // Reads a file, and answers the run.
 pub(crate) fn show_read(out: &impl Print, label: &str, file: &[u8]) -> Run {
-    print_line(out, format_args!("{label} {}", number(archive::read(file))));
-    run_of(file)
+    let read = archive::read(file);
+    print_line(out, format_args!("{label} {}", number(read)));
+    run_in(read)
 }
 
 // What the writer or a move answered.

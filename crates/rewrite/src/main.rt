@@ -34,17 +34,18 @@ impl Totals {
 
     // Prints the last line, piece by piece. Answers whether all was written.
     fn print(&self, out: &impl Print) -> bool {
-        put(out, "files ")
-            & put(out, self.files)
-            & put(out, " same ")
-            & put(out, self.same)
-            & put(out, " refused ")
-            & put(out, self.refused)
-            & put(out, " differ ")
-            & put(out, self.differ)
-            & put(out, " unreadable ")
-            & put(out, self.unreadable)
-            & put(out, "\n")
+        let counts = [
+            ("files ", self.files),
+            (" same ", self.same),
+            (" refused ", self.refused),
+            (" differ ", self.differ),
+            (" unreadable ", self.unreadable),
+        ];
+        let mut is_whole = true;
+        for (label, count) in counts {
+            is_whole &= put(out, label) & put(out, count);
+        }
+        is_whole & put(out, "\n")
     }
 }
 
