@@ -1,6 +1,8 @@
 // Messages on standard error: each begins with the name of the program, and a name in it is shown as on standard
 // output, on one line. The usage.
-ghost use Rattle.std.specs.Prelude.{◌≤◌, length, IfSome};
+ghost use Rattle.std.specs.Prelude.{◌≡◌, ◌≤◌, length, IfSome};
+ghost use Rattle.front.specs.declared.status.Status.TheVariants.{Wrong};
+ghost use Rattle.front.specs.declared.words.NoWork.TheVariants.{Misuse};
 
 use crate::desk::Desk;
 use crate::line::Line;
@@ -22,12 +24,13 @@ const USAGE: usize = 256;
 const NOT_PERMITTED: i32 = 1;
 
 // The usage of a program: the words that it takes, lines on what it does, and lines behind them on its words. Each line
-// goes out by one write; one of `details` is tried also where one before it could not be written.
+// goes out by one write; one of `details` is tried also where one before it could not be written. The texts are lent, so
+// that a caller may choose or compose them as it runs.
 #[derive(Clone, Copy)]
-pub struct Usage {
-    pub words: &'static str,
-    pub meaning: &'static [&'static str],
-    pub details: &'static [&'static str],
+pub struct Usage<'a> {
+    pub words: &'a str,
+    pub meaning: &'a [&'a str],
+    pub details: &'a [&'a str],
 }
 
 impl<R: Desk> Program<R> {
@@ -140,7 +143,7 @@ impl<R: Desk> Program<R> {
     }
 
     // Prints the usage: `usage: NAME`, the words that the program takes, and behind them what it does.
-    fn print_usage(&self, to: &impl Print, usage: Usage) -> Result<()> {
+    fn print_usage(&self, to: &impl Print, usage: Usage<'_>) -> Result<()> {
         let mut line = Line::<USAGE>::new();
         line.add_bytes(b"usage: ");
         line.add_bytes(self.name.as_bytes());
@@ -160,7 +163,9 @@ impl<R: Desk> Program<R> {
 
     // Prints the usage in place of work: for help on standard output; behind the message of wrong use on standard
     // error, or not at all where it cannot be written.
-    pub fn show_usage(&self, why: NoWork, usage: Usage) -> Status {
+    pub fn show_usage(&self, why: NoWork, usage: Usage<'_>) -> Status
+        ensures { why ≡ Misuse → result ≡ Wrong }
+    {
         match why {
             NoWork::Help => match self.print_usage(&self.rt, usage) {
                 Ok(()) => Status::Done,
@@ -199,4 +204,32 @@ fn number_of(words: &[u8]) -> Option<usize>
 {
     let bracket = words.iter().rposition(|byte| *byte == b'(')?;
     Some(base::one_less(bracket))
+}
+
+#[cfg(test)]
+mod tests {
+    use super::*;
+    use std::test::Fail;
+
+    // Wrong use, with a usage whose texts live no longer than this call.
+    fn misuse(program: &Program<impl Desk>, words: &str, meaning: &str) -> Status {
+        let usage = Usage {
+            words,
+            meaning: &[meaning],
+            details: &[],
+        };
+        program.show_usage(NoWork::Misuse, usage)
+    }
+
+    #[test]
+    fn any_text(rt: HostRuntime) -> std::result::Result<(), Fail> {
+        let program = Program::called(rt, "front");
+        let mut text = Line::<8>::new();
+        text.add_bytes(b"text\n");
+        let meaning = str::from_utf8(text.as_bytes())?;
+        match u64::from(misuse(&program, "WORD", meaning)) {
+            2 => Ok(()),
+            _ => Err("wrong use is not told as wrong")?,
+        }
+    }
 }
