@@ -164,7 +164,7 @@ impl<R: Desk> Program<R> {
     // Prints the usage in place of work: for help on standard output; behind the message of wrong use on standard
     // error, or not at all where it cannot be written.
     pub fn show_usage(&self, why: NoWork, usage: Usage<'_>) -> Status
-        ensures { why ≡ Misuse → result ≡ Wrong }
+        ensures { (why ≡ Misuse → result ≡ Wrong) × (result ≡ Wrong → why ≡ Misuse) }
     {
         match why {
             NoWork::Help => match self.print_usage(&self.rt, usage) {
@@ -211,7 +211,7 @@ mod tests {
     use super::*;
     use std::test::Fail;
 
-    // Wrong use, with a usage whose texts live no longer than this call.
+    // Wrong use, with a usage whose texts are lent and whose list of lines lives no longer than this call.
     fn misuse(program: &Program<impl Desk>, words: &str, meaning: &str) -> Status {
         let usage = Usage {
             words,
